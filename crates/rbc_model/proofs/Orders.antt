@@ -1,9 +1,9 @@
 -- Comparing numbers in code answers what the levels' orders say.
-use Rattle.std.proofs.Common.{◌≡◌, ℕ, suc, ◌<◌, Bool, true, false, ℤ, pos, negsuc, refl, arith, nat_le, int_le, cond, ltb}
+use Rattle.std.proofs.Common.{◌≡◌, ℕ, ℤ, pos, negsuc, refl, arith, nat_le, int_le, cond, ltb}
 use Rattle.std.specs.Ordering.{is_le, nat_cmp, int_cmp}
 use Rattle.std.specs.declared.cmp.Ordering.TheVariants.{Less, Equal, Greater}
 use Rattle.std.proofs.lemmas.Bool.Decides.{nat_tests}
-use Rattle.rbc_model.specs.Levels.{Levels, speed_levels, grade_levels, IsInRange}
+use Rattle.rbc_model.specs.Levels.{speed_levels, grade_levels, IsInRange}
 
 nat_in_order : (a b : ℕ) → is_le (nat_cmp a b) ≡ nat_le a b
 nat_in_order a b = grind (arith, nat_tests)

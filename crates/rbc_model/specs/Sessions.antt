@@ -1,5 +1,5 @@
 -- Sessions over lines of text: the lines of an input, how far a session goes over them, and what it writes.
-use Rattle.std.specs.Prelude.{◌≡◌, ℕ, suc, ◌<◌, List, [], ◌∷◌, ◌++◌, length, Option, Result, Ok, Err, nat_lt, ◌==◌, if◌then◌else◌, MatchBool}
+use Rattle.std.specs.Prelude.{◌≡◌, ℕ, suc, List, [], ◌∷◌, ◌++◌, length, Option, Result, Ok, Err, nat_lt, ◌==◌, if◌then◌else◌, MatchBool}
 use Rattle.std.specs.Io.KnownBytes.{Appends}
 use Rattle.rbc_model.specs.declared.sessions.SessionFault.{SessionFault}
 use Rattle.rbc_model.specs.declared.sessions.SessionFault.TheVariants.{Read, Write, Lines, Overlong, Memory}
@@ -29,11 +29,11 @@ abbrev pub IsTranscript : (List ℕ → List ℕ → Type 0) → ℕ → List (L
 IsTranscript Answers treated [] text end = (text ≡ []) × (end ≡ Ok tt)
 IsTranscript Answers treated (line ∷ lines) text end =
     MatchBool (nat_lt treated most_lines)
-        ((reply : List ℕ) × (rest : List ℕ) × Answers line reply × (text ≡ reply ++ rest)
-            × MatchBool (nat_lt longest_line (length line))
-                ((rest ≡ []) × (end ≡ Err Overlong))
-                (IsTranscript Answers (suc treated) lines rest end))
-        ((text ≡ []) × (end ≡ Err Lines))
+    ((reply : List ℕ) × (rest : List ℕ) × Answers line reply × (text ≡ reply ++ rest)
+    × MatchBool (nat_lt longest_line (length line))
+    ((rest ≡ []) × (end ≡ Err Overlong))
+    (IsTranscript Answers (suc treated) lines rest end))
+    ((text ≡ []) × (end ≡ Err Lines))
 
 -- A part of the text, from its start, is what was written.
 abbrev pub WritesPart : Option (List ℕ) → Option (List ℕ) → List ℕ → Type 0

@@ -1,3 +1,7 @@
+ghost use Rattle.std.specs.Prelude.{◌≡◌};
+ghost use Rattle.rbc_model.specs.declared.sessions.SessionFault.TheVariants.{Memory as NoMemory};
+
+use crate::Memory;
 use thiserror::Error;
 
 /// Why a session over lines of text ends before the end of its input.
@@ -18,4 +22,12 @@ pub enum SessionFault {
     /// There is no memory to keep a line in.
     #[error("out of memory")]
     Memory,
+}
+
+impl From<Memory> for SessionFault {
+    ghost from_gives = { λ _ fault. fault ≡ NoMemory };
+
+    fn from(_refused: Memory) -> SessionFault {
+        SessionFault::Memory
+    }
 }

@@ -30,3 +30,14 @@ pub enum ProfileFault {
     #[error("a value that the radio message does not have")]
     NotExpressible,
 }
+
+/// Why a track is not put behind another.
+#[derive(Clone, Copy, Debug, PartialEq, Eq, Error)]
+pub enum AppendFault {
+    /// The two together are longer than 100,000 m.
+    #[error("the two together are longer than 100000 m")]
+    OutOfRange,
+    /// The allocator refused memory.
+    #[error("out of memory")]
+    Memory,
+}

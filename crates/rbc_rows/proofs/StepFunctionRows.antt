@@ -1,5 +1,5 @@
 -- Rows that make tracks and profiles, and rows that make none.
-use Rattle.std.proofs.Common.{◌≡◌, ℕ, zero, suc, ◌+◌, ◌*◌, List, [], ◌∷◌, ◌++◌, refl, Ok, Err, Some, None, length, pos}
+use Rattle.std.proofs.Common.{◌≡◌, ℕ, zero, suc, List, [], ◌∷◌, ◌++◌, refl, Ok, Err, Some, None, pos}
 use Rattle.rbc_model.specs.declared.steps.RunsFault.TheVariants.{Empty as NoRun, NotRising as RunsNotRising, OutOfRange as RunsOutOfRange}
 use Rattle.rbc_model.specs.declared.steps.ProfileFault.TheVariants.{Empty as NoStep, NotRising, OutOfRange, NotExpressible}
 use Rattle.rbc_model.specs.Levels.{speed_levels, grade_levels}
