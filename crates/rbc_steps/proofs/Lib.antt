@@ -1,0 +1,9 @@
+pub mod Behind
+pub mod Joined
+pub mod Joins
+pub mod Made
+pub mod Negated
+pub mod Orders
+pub mod Places
+pub mod Stretches
+pub mod Turned

@@ -1,0 +1,89 @@
+ghost use Rattle.std.specs.Prelude.{ℕ, ◌≡◌, ◌<◌, ◌≤◌, Some, IsTrue};
+ghost use Rattle.rbc_model.specs.Profiles.{value_at, profile_of, is_within, loss, IsProfile, longest, most_steps};
+
+use crate::{Level, Runs, rows};
+use rbc_model::ProfileFault;
+use std::marker::Model;
+
+/// How many steps a packet may have.
+pub const MOST_STEPS: usize = 31;
+
+/// A step profile: 1 to 31 steps (start, value) that the radio message can express, each up to the next one's start, the last one up to the
+/// end. Starts are in metres. It is kept in place and takes no memory.
+#[derive(Drop)]
+pub struct Profile<V: Level> {
+    steps: [(u32, V); MOST_STEPS],
+    count: usize,
+    end: u32,
+}
+
+impl<V: Level> Model for Profile<V> {
+    ghost use Rattle.std.specs.Prelude.{◌≤◌, take};
+    ghost use Rattle.rbc_model.specs.Profiles.{StepFunction, IsProfile, longest, most_steps};
+
+    ghost Value = { StepFunction V };
+
+    ghost view = { λ p. record { steps = take p.count p.steps; end = p.end } };
+
+    ghost invariant = { λ p. IsProfile V.levels 1 most_steps p.end (take p.count p.steps) × (p.count ≤ most_steps) × (p.end ≤ longest) };
+}
+
+impl<V: Level> Profile<V> {
+    /// The profile that the rows (start, value) make up to the end, in metres.
+    pub fn new(rows: &[(u32, V)], end: u32) -> Result<Profile<V>, ProfileFault>
+        ensures { result ≡ profile_of V.levels end rows.now }
+    {
+        let Some(first) = rows.first() else {
+            return Err(ProfileFault::Empty);
+        };
+        if !rows::rise_from_zero(rows) {
+            return Err(ProfileFault::NotRising);
+        }
+        if !rows::lie_below(rows, end) || rows.len() > MOST_STEPS {
+            return Err(ProfileFault::OutOfRange);
+        }
+        if !rows::expressible(rows) {
+            return Err(ProfileFault::NotExpressible);
+        }
+        let mut steps = [*first; MOST_STEPS];
+        steps[..rows.len()].copy_from_slice(rows);
+        Ok(Profile {
+            steps,
+            count: rows.len(),
+            end,
+        })
+    }
+
+    /// Where the profile ends, in metres.
+    pub fn end(&self) -> u32
+        ensures end { result ≡ self.now.end }
+    {
+        self.end
+    }
+
+    /// The steps as (start, value).
+    pub fn steps(&self) -> &[(u32, V)]
+        ensures steps { result.now ≡ self.now.steps }
+        ensures profile { IsProfile V.levels 1 most_steps self.now.end self.now.steps }
+        ensures near { self.now.end ≤ longest }
+    {
+        &self.steps[..self.count]
+    }
+
+    /// The level at a metre of the profile.
+    pub fn at(&self, x: u32) -> V
+        requires { x < self.now.end }
+        ensures { value_at self.now.steps x ≡ Some result }
+    {
+        rows::at(self.steps(), x)
+    }
+
+    /// What a train loses on the track where this profile, which is nowhere above it, is given: the sum of the prices of the single metres.
+    pub fn loss(&self, track: &Runs<V>) -> u64
+        requires ends { track.now.end ≡ self.now.end }
+        requires below { (x : ℕ) → x < self.now.end → IsTrue (is_within V.levels (value_at track.now.steps x) (value_at self.now.steps x)) }
+        ensures { result ≡ loss V.levels self.now.end (value_at track.now.steps) self.now.steps }
+    {
+        rows::loss(track.runs(), self.steps(), self.end)
+    }
+}
