@@ -1,0 +1,4 @@
+pub mod Stretches
+pub mod Rows
+pub mod Covers
+pub mod Metres

@@ -1,0 +1,11 @@
+use Rattle.std.proofs.Common.{◌≡◌, ◌≤◌, ◌<◌, ◌+◌, ℕ, length, min}
+use Rattle.rbc_reduce.specs.Rows.{IsLinked, price_at}
+use Rattle.rbc_reduce.specs.declared.table.TheConstants.{UNREACHED}
+use Rattle.rbc_reduce.proofs.table.fill.Given as goal
+
+abbrev pub invariant-loop-from : goal.invariant-loop-from
+invariant-loop-from g l =
+    (length l.rows.items ≡ min l.limit l.metres)
+    × (length l.costs.items ≡ l.metres + 1)
+    × IsLinked l.metres l.rows.items
+    × ((to : ℕ) → 0 < l.from → 1 ≤ to → to ≤ l.metres → price_at l.rows.items 1 to < UNREACHED)

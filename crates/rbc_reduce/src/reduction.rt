@@ -1,0 +1,41 @@
+ghost use Rattle.std.specs.Prelude.{◌≡◌, ◌≤◌, IfOk};
+ghost use Rattle.rbc_model.specs.Profiles.{Fits, loss, most_steps, value_at};
+
+use crate::steps::steps_of;
+use crate::table;
+use crate::values::values_of;
+use rbc_model::Memory;
+use rbc_steps::{Level, Profile, Runs};
+use std::alloc::Global;
+
+/// The profile that was chosen for a track, and what it loses.
+#[derive(Drop)]
+pub struct Reduced<V: Level> {
+    /// The profile.
+    pub profile: Profile<V>,
+    /// The sum over the metres of what the profile loses there.
+    pub loss: u64,
+}
+
+/// The profile of at most `limit` steps that loses least against the track: of those with the fewest steps the one whose starts, read from
+/// the last one backwards, come first.
+pub fn reduce<V: Level>(alloc: Global, track: &Runs<V>, limit: usize) -> Result<Reduced<V>, Memory>
+    requires some { 1 ≤ limit }
+    requires few { limit ≤ most_steps }
+    ensures fits { IfOk result (λ r. Fits V.levels 1 limit track.now.end (value_at track.now.steps) r.profile.steps) }
+    ensures end { IfOk result (λ r. r.profile.end ≡ track.now.end) }
+    ensures loss { IfOk result
+        (λ r. r.loss ≡ loss V.levels track.now.end (value_at track.now.steps) r.profile.steps) }
+{
+    let values = values_of(alloc, track)?;
+    let rows = table::fill(alloc, &values, limit)?;
+    let count = table::fewest(&rows, values.len());
+    let steps = steps_of(alloc, &values, &rows, count)?;
+    match Profile::new(&steps, track.end()) {
+        Ok(profile) => {
+            let loss = profile.loss(track);
+            Ok(Reduced { profile, loss })
+        }
+        Err(_) => unreachable!(),
+    }
+}

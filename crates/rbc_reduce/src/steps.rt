@@ -1,0 +1,37 @@
+ghost use Rattle.std.specs.Prelude.{◌≡◌, ◌<◌, ◌≤◌, IfOk, length};
+ghost use Rattle.rbc_model.specs.Profiles.{longest};
+ghost use Rattle.rbc_reduce.specs.Stretches.{AreInRange};
+ghost use Rattle.rbc_reduce.specs.Rows.{IsLinked, price_at};
+ghost use Rattle.rbc_reduce.specs.Covers.{Covers};
+
+use crate::costs::least_of;
+use crate::table::{Cell, UNREACHED};
+use rbc_model::Memory;
+use rbc_steps::Level;
+use std::alloc::Global;
+
+/// The steps to which row `count` leads back: each starts at its cut, and has the floor of the least value there.
+pub(crate) fn steps_of<V: Level>(
+    alloc: Global,
+    values: &[V],
+    rows: &[Vec<Cell>],
+    count: usize,
+) -> Result<Vec<(u32, V)>, Memory>
+    requires in_range { AreInRange V.levels values.now }
+    requires linked { IsLinked (length values.now) rows.now }
+    requires rows { count ≤ length rows.now }
+    requires reached { price_at rows.now count (length values.now) < UNREACHED }
+    ensures count { IfOk result (λ steps. length steps.items ≡ count) }
+    ensures covers { IfOk result (λ steps. Covers V.levels values.now 0 steps.items) }
+{
+    let mut steps = Vec::with_capacity(alloc, count)?;
+    let mut to = values.len();
+    for done in 0..count {
+        let start = rows[count - 1 - done][to].cut;
+        let least = least_of(values, start as usize, to);
+        steps.push((start, least.floor()))?;
+        to = start as usize;
+    }
+    steps.reverse();
+    Ok(steps)
+}
