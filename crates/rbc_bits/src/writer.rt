@@ -1,0 +1,115 @@
+ghost use Rattle.std.specs.Prelude.{◌≡◌, ℕ, ◌+◌, ◌^◌, ◌<◌, ◌≤◌, [], ◌++◌, OnOk, OnErr};
+ghost use Rattle.rbc_model.specs.Bits.{bits_of, padded_bits, bytes_of};
+
+use rbc_model::Memory;
+use std::alloc::Global;
+use std::marker::Model;
+
+/// Fields written bit by bit, each most significant bit first. It is seen as the bits so far.
+#[derive(Drop)]
+pub struct BitWriter {
+    /// The whole bytes.
+    bytes: Vec<u8>,
+    /// The bits of the byte that is not whole yet, as a number.
+    pending: u8,
+    /// How many these are.
+    filled: u32,
+}
+
+impl Model for BitWriter {
+    ghost use Rattle.std.specs.Prelude.{◌+◌, ◌<◌, ◌≤◌, ◌^◌, ◌++◌, List, Bool, vec_len, vec_capacity};
+    ghost use Rattle.rbc_model.specs.Bits.{bits_of, byte_bits, byte_count};
+
+    ghost Value = { List Bool };
+
+    ghost view = { λ w. byte_bits w.bytes.items ++ bits_of w.filled w.pending };
+
+    ghost invariant = { λ w. (w.filled < 8)
+        × (w.pending < 2 ^ w.filled)
+        × (vec_len w.bytes + byte_count w.filled ≤ vec_capacity w.bytes) };
+}
+
+impl BitWriter {
+    /// No bits.
+    pub fn new(alloc: Global) -> BitWriter
+        ensures { result ≡ [] }
+    {
+        BitWriter {
+            bytes: Vec::new(alloc),
+            pending: 0,
+            filled: 0,
+        }
+    }
+
+    /// Writes a value in a field of so many bits, or nothing where there is no memory for it.
+    pub fn put(&mut self, width: u32, value: u32) -> Result<(), Memory>
+        requires narrow { width ≤ 32 }
+        requires fits { value < 2 ^ width }
+        ensures written { OnOk result (self.new ≡ self.old ++ bits_of width value) }
+        ensures refused { OnErr result (self.new ≡ self.old) }
+    {
+        let mut filled = self.filled + width;
+        self.bytes.reserve(filled.div_ceil(8) as usize)?;
+        let mut pending = u64::from(self.pending) << width | u64::from(value);
+        while filled >= 8 {
+            filled -= 8;
+            // There is room for it.
+            let _ = self.bytes.push((pending >> filled) as u8);
+            pending %= 1 << filled;
+        }
+        self.pending = pending as u8;
+        self.filled = filled;
+        Ok(())
+    }
+
+    /// The bytes of the bits, the last one filled up with zeros.
+    pub fn finish(self) -> Vec<u8>
+        ensures { result.items ≡ bytes_of (padded_bits self) }
+    {
+        let mut bytes = self.bytes;
+        if self.filled > 0 {
+            // There is room for it.
+            let _ = bytes.push(self.pending << (8 - self.filled));
+        }
+        bytes
+    }
+}
+
+#[cfg(test)]
+mod tests {
+    use super::*;
+    use std::test::Fail;
+
+    #[test]
+    fn fields_across_bytes(rt: HostRuntime) -> Result<(), Fail> {
+        // The first fields of a packet 27 with two steps.
+        let mut bits = BitWriter::new(rt.alloc());
+        for (width, value) in [(8, 27), (2, 1), (13, 114), (2, 1)] {
+            bits.put(width, value)?;
+        }
+        assert_eq!(rt;
+            bits.finish().as_slice(),
+            [0x1b, 0x40, 0xe4, 0x80].as_slice()
+        );
+        Ok(())
+    }
+
+    #[test]
+    fn the_widest_field_and_the_narrowest(rt: HostRuntime) -> Result<(), Fail> {
+        let mut bits = BitWriter::new(rt.alloc());
+        bits.put(7, 0)?;
+        bits.put(32, u32::MAX)?;
+        bits.put(0, 0)?;
+        bits.put(1, 1)?;
+        assert_eq!(rt;
+            bits.finish().as_slice(),
+            [0x01, 0xff, 0xff, 0xff, 0xff].as_slice()
+        );
+        Ok(())
+    }
+
+    #[test]
+    fn no_field_has_no_byte(rt: HostRuntime) {
+        assert!(rt; BitWriter::new(rt.alloc()).finish().is_empty());
+    }
+}

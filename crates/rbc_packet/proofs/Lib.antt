@@ -1,0 +1,4 @@
+pub mod Rests
+pub mod Rows
+pub mod Speeds
+pub mod Grades
