@@ -1,0 +1,4 @@
+pub mod Asked
+pub mod LineReading
+pub mod Replies
+pub mod Values

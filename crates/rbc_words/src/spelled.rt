@@ -1,0 +1,97 @@
+ghost use Rattle.std.specs.Prelude.{◌≡◌, false, is_err, refl};
+ghost use Rattle.rbc_model.specs.Kinds.{Kind, speed_kind, grade_kind};
+ghost use Rattle.rbc_model.specs.Sessions.{WritesText};
+ghost use Rattle.rbc_words.specs.Values.{value_in};
+
+use crate::words::{integer, number};
+use crate::{Sink, WriteFailed, print_number, print_signed};
+use rbc_steps::{Grade, Level, Speed};
+
+/// How a kind of level stands in a line of text.
+pub trait Spelled: Level {
+    /// Its command, and how its values are read and printed.
+    ghost kind: { Kind Self };
+
+    /// The command that asks for a profile of such levels.
+    fn command() -> &'static [u8]
+        ensures { result.now ≡ kind.command };
+
+    /// The level that a word writes, if it is in range.
+    fn read(word: &[u8]) -> Option<Self>
+        ensures { result ≡ value_in kind word.now };
+
+    /// Writes the level as a word.
+    fn print<W: Sink>(self, writer: &mut W) -> Result<(), WriteFailed>
+        requires { W.failed writer.old ≡ false }
+        ensures text { WritesText (W.written writer.old) (W.written writer.new) (kind.print self) result }
+        ensures failed { W.failed writer.new ≡ is_err result };
+
+    /// The text is of these levels.
+    ghost same_levels: { kind.levels ≡ Self.levels };
+}
+
+/// Speeds in km/h.
+impl Spelled for Speed {
+    ghost kind = { speed_kind };
+
+    fn command() -> &'static [u8] {
+        b"speed"
+    }
+
+    fn read(word: &[u8]) -> Option<Speed> {
+        Speed::new(u16::try_from(number(word)?).ok()?)
+    }
+
+    fn print<W: Sink>(self, writer: &mut W) -> Result<(), WriteFailed> {
+        print_number(u64::from(self.kmh()), writer)
+    }
+
+    ghost same_levels = { refl };
+}
+
+/// Gradients in per mille, downhill with a `-`.
+impl Spelled for Grade {
+    ghost kind = { grade_kind };
+
+    fn command() -> &'static [u8] {
+        b"grade"
+    }
+
+    fn read(word: &[u8]) -> Option<Grade> {
+        Grade::new(i16::try_from(integer(word)?).ok()?)
+    }
+
+    fn print<W: Sink>(self, writer: &mut W) -> Result<(), WriteFailed> {
+        print_signed(self.per_mille(), writer)
+    }
+
+    ghost same_levels = { refl };
+}
+
+#[cfg(test)]
+mod tests {
+    use super::*;
+    use std::test::*;
+
+    fn is_read<V: Spelled>(word: &[u8]) -> bool {
+        V::read(word).is_some()
+    }
+
+    #[test]
+    fn ranges(rt: HostRuntime) {
+        let words: [(&[u8], bool, bool); 8] = [
+            (b"4", false, true),
+            (b"5", true, true),
+            (b"254", true, true),
+            (b"255", true, false),
+            (b"600", true, false),
+            (b"601", false, false),
+            (b"-254", false, true),
+            (b"65541", false, false),
+        ];
+        for (word, speed, grade) in words {
+            assert_eq!(rt; is_read::<Speed>(word), speed);
+            assert_eq!(rt; is_read::<Grade>(word), grade);
+        }
+    }
+}
