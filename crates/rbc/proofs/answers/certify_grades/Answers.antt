@@ -1,0 +1,13 @@
+use Rattle.std.proofs.Common.{sym, ap, ◌∙◌, true}
+use Rattle.rbc_model.specs.Messages.{bytes_of_fields}
+use Rattle.rbc_model.specs.Kinds.{grade_kind}
+use Rattle.rbc_words.specs.Asked.{request_view}
+use Rattle.rbc.proofs.Certifying.{certified}
+use Rattle.rbc.proofs.answers.certify_grades.Goals as goal
+
+pub returns : goal.returns
+returns c =
+    let reduced = c.in_ok-profile.field-0 in
+    let packs = c.in_ok-packet.ensures ∙ ap (λ end. bytes_of_fields (grade_kind.packet true end reduced.profile.steps)) c.in_ok-profile.ensures.end in
+    certified grade_kind (request_view c.args.request) c.in_ok-track.track reduced.profile.steps reduced.loss c.in_ok-packet.packet.items
+    c.requires.end_high (sym c.in_ok-track.ensures.track) c.in_ok-profile.ensures.fits c.in_ok-profile.ensures.loss packs

@@ -1,0 +1,25 @@
+-- The exit statuses of the program.
+use Rattle.std.specs.Prelude.{ℕ}
+use Rattle.clap.specs.Values.{kind_of}
+use Rattle.clap.specs.declared.error.kind.ErrorKind.{ErrorKind}
+use Rattle.clap.specs.declared.error.kind.ErrorKind.TheVariants.{DisplayHelp, DisplayVersion}
+use Rattle.rbc_model.specs.declared.sessions.SessionFault.{SessionFault}
+use Rattle.rbc_model.specs.declared.sessions.SessionFault.TheVariants.{Memory}
+use Rattle.rbc.specs.declared.failure.Failure.{Failure}
+use Rattle.rbc.specs.declared.failure.Failure.TheVariants.{CommandLine, Session}
+
+-- after a command line that asks for help, or that is refused
+abbrev pub status_of_kind : ErrorKind → ℕ
+status_of_kind DisplayHelp = 0
+status_of_kind DisplayVersion = 0
+status_of_kind _ = 2
+
+-- after a session's fault
+abbrev pub status_of_fault : SessionFault → ℕ
+status_of_fault Memory = 5
+status_of_fault _ = 4
+
+-- after either
+abbrev pub status_of : Failure → ℕ
+status_of (CommandLine error) = status_of_kind (kind_of error)
+status_of (Session fault) = status_of_fault fault

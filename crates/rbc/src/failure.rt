@@ -1,0 +1,78 @@
+//! How the program ends where it could not do all that it was asked for.
+
+ghost use Rattle.std.specs.Prelude.{◌≡◌};
+ghost use Rattle.rbc.specs.Statuses.{status_of};
+
+use clap::error::ErrorKind;
+use rbc_words::SessionFault;
+use std::alloc::AllocError;
+use std::io;
+
+/// The exit status after a command line that is refused.
+const REFUSED: u8 = 2;
+/// The exit status after a fault of a session.
+const SESSION_FAULT: u8 = 4;
+/// The exit status after memory was refused.
+const NO_MEMORY: u8 = 5;
+
+/// Why the program ends before its work is done.
+#[derive(Debug, Drop)]
+pub enum Failure {
+    /// The command line is refused, or asks for help.
+    CommandLine(clap::Error),
+    /// A session ended before its input.
+    Session(SessionFault),
+}
+
+impl Failure {
+    /// The program's exit status: 0 after help, 2 for a command line, 4 for a session's fault and 5 for want of memory.
+    pub fn status(&self) -> u8
+        ensures { result ≡ status_of self.now }
+    {
+        match self {
+            Failure::CommandLine(error) => match error.kind() {
+                ErrorKind::DisplayHelp | ErrorKind::DisplayVersion => 0,
+                _ => REFUSED,
+            },
+            Failure::Session(SessionFault::Memory) => NO_MEMORY,
+            Failure::Session(_) => SESSION_FAULT,
+        }
+    }
+
+    /// Prints what went wrong. There is nobody to tell where that can't be printed.
+    pub fn tell(&self, rt: &(impl Print + Eprint)) {
+        let _ = match self {
+            Failure::CommandLine(error) => error.print(rt),
+            Failure::Session(fault) => eprintln!(rt; "rbc: {fault}"),
+        };
+    }
+}
+
+impl From<SessionFault> for Failure {
+    fn from(fault: SessionFault) -> Failure {
+        Failure::Session(fault)
+    }
+}
+
+impl From<AllocError> for Failure {
+    fn from(_refused: AllocError) -> Failure {
+        Failure::Session(SessionFault::Memory)
+    }
+}
+
+/// What fails before a session begins finds no memory.
+impl From<io::Error> for Failure {
+    fn from(_refused: io::Error) -> Failure {
+        Failure::Session(SessionFault::Memory)
+    }
+}
+
+/// A command line that finds no memory is told as such.
+impl From<clap::Error> for Failure {
+    fn from(error: clap::Error) -> Failure {
+        match error.kind() {
+            ErrorKind::OutOfMemory => Failure::Session(SessionFault::Memory),
+            _ => Failure::CommandLine(error),
+        }
+    }
+}
