@@ -13,7 +13,7 @@ pub enum Task {
 /// Reads the command line, whose first word is the program's name. A line that asks for help is an error whose exit code is 0.
 pub fn read(alloc: Global, words: &[String]) -> Result<Task, Error> {
     let steps = Command::new(alloc, "steps").about(
-        "Answers each request on standard input with its best steps, their loss and their packet",
+        "Answers each request on standard input with a profile of few steps, its loss and its packet",
     );
     let command = Command::new(alloc, "rbc")
         .about("The deciding part of an ETCS Level 2 radio block centre")
