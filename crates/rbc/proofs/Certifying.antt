@@ -1,11 +1,11 @@
--- A track that a line's runs make, and a profile that fits it, are the certificate of the line.
+-- A track that a line's runs make, and a best profile for it, are the certificate of the line.
 use Rattle.std.proofs.Common.{◌≡◌, ℕ, ◌≤◌, true, inl, List, [], ◌++◌, Option, Some, None, Ok, Err, refl, sym, ap, ◌∙◌, append-nil, arith}
 use Rattle.std.specs.Result.{result_map_both}
 use Rattle.std.proofs.lemmas.Bool.{le-leb}
 use Rattle.rbc_model.specs.declared.steps.RunsFault.{RunsFault}
 use Rattle.rbc_model.specs.Results.{unless}
 use Rattle.rbc_model.specs.Levels.{Levels}
-use Rattle.rbc_model.specs.Profiles.{StepFunction, value_at, loss, Fits, joined_steps, runs_fault, runs_of, longest}
+use Rattle.rbc_model.specs.Profiles.{StepFunction, value_at, loss, IsBestProfile, joined_steps, runs_fault, runs_of, longest}
 use Rattle.rbc_model.specs.Messages.{bytes_of_fields}
 use Rattle.rbc_model.specs.Kinds.{Kind}
 use Rattle.rbc_model.specs.StepsText.{Request, refusal_of, track_in}
@@ -36,13 +36,13 @@ reply_of kind track steps lost packet loses packs =
 
 pub certified : {V : Type 0} (kind : Kind V) (request : Request V) (track : StepFunction V) (steps : List (ℕ × V)) (lost : ℕ) (packet : List ℕ)
     → request.end ≤ 32000 → runs_of kind.levels request.end request.runs ≡ Ok track
-    → Fits kind.levels 1 request.limit track.end (value_at track.steps) steps
+    → IsBestProfile kind.levels 1 request.limit track.end (value_at track.steps) steps
     → lost ≡ loss kind.levels track.end (value_at track.steps) steps
     → packet ≡ bytes_of_fields (kind.packet true track.end steps)
     → AnswersRequest kind request (track_line kind (record { limit = request.limit; runs = track.steps; end = track.end }) ++ profile_line kind steps lost ++ packet_lines packet)
-certified kind request track steps lost packet near made fits loses packs =
+certified kind request track steps lost packet near made best loses packs =
     let joined : Request _ = with_track kind.levels request track in
     let tracks : track_in kind.levels request ≡ Ok joined =
     track_in-runs_of kind.levels request (omega arith) ∙ ap (result_map_both (with_track kind.levels request) refusal_of) made in
     let ends : track.end ≡ request.end = end_of kind.levels request.end request.runs (runs_fault request.end request.runs) track made in
-    rw (tracks, ends) (inl (steps, rw (le-leb request.end 32000 near, ← ends) fits, reply_of kind joined steps lost packet (rw (← ends) loses) (rw (← ends) packs)))
+    rw (tracks, ends) (inl (steps, rw (le-leb request.end 32000 near, ← ends) best, reply_of kind joined steps lost packet (rw (← ends) loses) (rw (← ends) packs)))

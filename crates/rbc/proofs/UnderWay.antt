@@ -12,8 +12,8 @@ use Rattle.rbc_model.specs.StepsReply.{AnswersLine, AnswersRead, refusal_reply}
 use Rattle.std.proofs.lemmas.Bool.{lt-ltb}
 use Rattle.rbc_model.specs.Sessions.{lines_of, with_front, most_lines, IsSession, WritesPart}
 use Rattle.rbc_model.proofs.Transcripts.{answered, Goes, goes_from_nothing, goes_taking, goes_ended, goes_with_line, goes_with_last_line, transcript_at_end, transcript_at_overlong, transcript_at_too_many, transcript_from}
-use Rattle.rbc_words.specs.LineReading.{LineReading, GivesLine, IsOverlong}
-use Rattle.rbc_words.proofs.Lines.{lines_of_line, lines_of_last, lines_of_overlong}
+use Rattle.rbc_lines.specs.LineReading.{LineReading, GivesLine, IsOverlong}
+use Rattle.rbc_lines.proofs.Lines.{lines_of_line, lines_of_last, lines_of_overlong}
 
 abbrev pub Answers : List ℕ → List ℕ → Type 0
 Answers = AnswersLine Near

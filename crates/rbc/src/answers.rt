@@ -56,7 +56,7 @@ fn reply_to(alloc: Global, line: &[u8]) -> Reply
     }
 }
 
-/// What a request for speeds comes to: a profile with its loss and its packet, or why there is none.
+/// What a request for speeds comes to: a best profile with its loss and its packet, or why there is none.
 fn certify_speeds(alloc: Global, request: Request<Speed>) -> Result<Certified<Speed>, StepsRefusal>
     requires { IsRequestInRange speed_kind.levels (request_view request) }
     ensures { MatchResult result
@@ -76,7 +76,7 @@ fn certify_speeds(alloc: Global, request: Request<Speed>) -> Result<Certified<Sp
     })
 }
 
-/// What a request for gradients comes to: a profile with its loss and its packet, or why there is none.
+/// What a request for gradients comes to: a best profile with its loss and its packet, or why there is none.
 fn certify_grades(alloc: Global, request: Request<Grade>) -> Result<Certified<Grade>, StepsRefusal>
     requires { IsRequestInRange grade_kind.levels (request_view request) }
     ensures { MatchResult result

@@ -2,3 +2,4 @@ pub mod Rests
 pub mod Rows
 pub mod Speeds
 pub mod Grades
+pub mod Ends

@@ -20,6 +20,10 @@ first_written bits new all first later total written =
     ∙ ap (λ xs. bits ++ xs) (sym (bits_of_fields-append first later))
     ∙ total
 
+-- behind the fields so far, more of them are written
+pub more_written : (bits new : List Bool) (before later : List (FieldName × ℕ)) → bits ≡ bits_of_fields before → new ≡ bits ++ bits_of_fields later → new ≡ bits_of_fields (before ++ later)
+more_written bits new before later so_far written = written ∙ ap (λ xs. xs ++ bits_of_fields later) so_far ∙ sym (bits_of_fields-append before later)
+
 -- the bytes of all fields
 pub bytes_written : (bits : List Bool) (fields : List (FieldName × ℕ)) → bits ≡ bits_of_fields fields → bytes_of (padded_bits bits) ≡ bytes_of_fields fields
 unfolding bits_of_fields

@@ -1,20 +1,20 @@
 -- The parts of a speed profile's packet.
-use Rattle.std.proofs.Common.{◌≡◌, ℕ, ◌+◌, ◌-◌, ◌*◌, ◌/◌, ◌<◌, ◌≤◌, Bool, List, [], ◌∷◌, ◌++◌, length, refl, arith, take, drop, get_or}
+use Rattle.std.proofs.Common.{◌≡◌, ℕ, ◌+◌, ◌-◌, ◌/◌, ◌<◌, ◌≤◌, Bool, List, [], ◌∷◌, ◌++◌, length, refl, arith, take, drop, get_or}
 use Rattle.std.proofs.lemmas.Bool.{le-leb}
 use Rattle.std.proofs.lemmas.List.{take_rest, drop_all}
 use Rattle.std.proofs.Math.Nat.{div-one}
 use Rattle.rbc_model.specs.declared.messages.FieldName.{FieldName}
 use Rattle.rbc_model.specs.declared.messages.FieldName.TheVariants.{NID_PACKET, Q_DIR, L_PACKET, Q_SCALE, D_STATIC, V_STATIC, Q_FRONT, N_ITER}
-use Rattle.rbc_model.specs.Messages.{direction_of, packet_27, speed_elements}
+use Rattle.rbc_model.specs.Messages.{direction_of, packet_27, speed_elements, speed_length}
 use Rattle.rbc_packet.specs.Fields.{speed_element}
 use Rattle.rbc_packet.proofs.Rests.{drop_at_step}
 
 -- what stands before the later steps
-abbrev pub speed_head : ℕ → ℕ → ℕ → List (FieldName × ℕ)
-speed_head direction count speed =
+abbrev pub speed_head : ℕ → ℕ → ℕ → ℕ → List (FieldName × ℕ)
+speed_head direction bits count speed =
     (NID_PACKET, 27)
     ∷ (Q_DIR, direction)
-    ∷ (L_PACKET, 58 + 28 * count)
+    ∷ (L_PACKET, bits)
     ∷ (Q_SCALE, 1)
     ∷ (D_STATIC, 0)
     ∷ (V_STATIC, speed)
@@ -24,7 +24,7 @@ speed_head direction count speed =
     ∷ []
 
 pub packet_27-parts : (nominal : Bool) (end : ℕ) (steps : List (ℕ × ℕ)) (first : ℕ × ℕ) → end ≤ 32000 → 0 < length steps → first ≡ get_or steps 0 first
-    → packet_27 nominal end steps ≡ speed_head (direction_of nominal) (length steps) (first.1 / 5) ++ speed_elements 1 end 0 (take (length steps - 1) (drop 1 steps))
+    → packet_27 nominal end steps ≡ speed_head (direction_of nominal) (speed_length (length steps)) (length steps) (first.1 / 5) ++ speed_elements 1 end 0 (take (length steps - 1) (drop 1 steps))
 packet_27-parts nominal end [] first near some is = absurd (omega arith)
 packet_27-parts nominal end (step ∷ later) first near some is = rw (is, le-leb end 32000 near, take_rest (step ∷ later) 1) refl
 

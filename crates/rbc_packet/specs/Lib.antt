@@ -1,1 +1,2 @@
+pub mod Authorities
 pub mod Fields

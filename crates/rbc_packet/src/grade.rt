@@ -1,5 +1,6 @@
 ghost use Rattle.std.specs.Prelude.{◌≡◌, ℕ, ◌^◌, ◌<◌, ◌≤◌, [], ◌∷◌, ◌++◌, OnOk, IfOk};
-ghost use Rattle.rbc_model.specs.Messages.{bytes_of_fields, gradient_fields, packet_21};
+ghost use Rattle.rbc_model.specs.Messages.{bytes_of_fields, gradient_fields, gradient_length, packet_21};
+ghost use Rattle.rbc_model.specs.Profiles.{most_steps};
 ghost use Rattle.rbc_packet.specs.Fields.{bits_of_fields, gradient_element};
 
 use crate::fields::{direction_of, put_fields};
@@ -18,16 +19,29 @@ pub fn write_grade(
     requires { profile.now.end ≤ 32000 }
     ensures { IfOk result (λ bytes. bytes.items ≡ bytes_of_fields (packet_21 nominal profile.now.end profile.now.steps)) }
 {
+    let mut bits = BitWriter::new(alloc);
+    put_gradients(&mut bits, profile, nominal)?;
+    Ok(bits.finish())
+}
+
+/// Packet 21 behind the bits so far. Where memory runs out, some of it may stand.
+pub(crate) fn put_gradients(
+    bits: &mut BitWriter,
+    profile: &Profile<Grade>,
+    nominal: bool,
+) -> Result<(), Memory>
+    requires { profile.now.end ≤ 32000 }
+    ensures { OnOk result (bits.new ≡ bits.old ++ bits_of_fields (packet_21 nominal profile.now.end profile.now.steps)) }
+{
     let steps = profile.steps();
     let count = steps.len() as u32;
     let slope = slope_of(steps[0].1);
-    let mut bits = BitWriter::new(alloc);
     put_fields(
-        &mut bits,
+        bits,
         &[
             (FieldName::NID_PACKET, 21),
             (FieldName::Q_DIR, direction_of(nominal)),
-            (FieldName::L_PACKET, 54 + 24 * count),
+            (FieldName::L_PACKET, gradient_length(count)),
             (FieldName::Q_SCALE, 1),
             (FieldName::D_GRADIENT, 0),
             (FieldName::Q_GDIR, slope.direction),
@@ -37,11 +51,18 @@ pub fn write_grade(
     )?;
     let mut from = 0;
     for (start, grade) in &steps[1..] {
-        put_element(&mut bits, *start - from, slope_of(*grade))?;
+        put_element(bits, *start - from, slope_of(*grade))?;
         from = *start;
     }
-    put_element(&mut bits, profile.end() - from, END)?;
-    Ok(bits.finish())
+    put_element(bits, profile.end() - from, END)
+}
+
+/// How many bits packet 21 has with so many steps, 1 to 31 (L_PACKET).
+pub(crate) fn gradient_length(steps: u32) -> u32
+    requires { steps ≤ most_steps }
+    ensures { result ≡ gradient_length steps }
+{
+    54 + 24 * steps
 }
 
 /// A gradient as the packet tells it.

@@ -1,5 +1,6 @@
 ghost use Rattle.std.specs.Prelude.{◌≡◌, ℕ, ◌^◌, ◌<◌, ◌≤◌, ◌++◌, OnOk, IfOk};
-ghost use Rattle.rbc_model.specs.Messages.{bytes_of_fields, packet_27};
+ghost use Rattle.rbc_model.specs.Messages.{bytes_of_fields, packet_27, speed_length};
+ghost use Rattle.rbc_model.specs.Profiles.{most_steps};
 ghost use Rattle.rbc_packet.specs.Fields.{bits_of_fields, speed_element};
 
 use crate::fields::{direction_of, put_fields};
@@ -18,15 +19,28 @@ pub fn write_speed(
     requires { profile.now.end ≤ 32000 }
     ensures { IfOk result (λ bytes. bytes.items ≡ bytes_of_fields (packet_27 nominal profile.now.end profile.now.steps)) }
 {
+    let mut bits = BitWriter::new(alloc);
+    put_speeds(&mut bits, profile, nominal)?;
+    Ok(bits.finish())
+}
+
+/// Packet 27 behind the bits so far. Where memory runs out, some of it may stand.
+pub(crate) fn put_speeds(
+    bits: &mut BitWriter,
+    profile: &Profile<Speed>,
+    nominal: bool,
+) -> Result<(), Memory>
+    requires { profile.now.end ≤ 32000 }
+    ensures { OnOk result (bits.new ≡ bits.old ++ bits_of_fields (packet_27 nominal profile.now.end profile.now.steps)) }
+{
     let steps = profile.steps();
     let count = steps.len() as u32;
-    let mut bits = BitWriter::new(alloc);
     put_fields(
-        &mut bits,
+        bits,
         &[
             (FieldName::NID_PACKET, 27),
             (FieldName::Q_DIR, direction_of(nominal)),
-            (FieldName::L_PACKET, 58 + 28 * count),
+            (FieldName::L_PACKET, speed_length(count)),
             (FieldName::Q_SCALE, 1),
             (FieldName::D_STATIC, 0),
             (FieldName::V_STATIC, u32::from(steps[0].1.kmh() / 5)),
@@ -37,11 +51,18 @@ pub fn write_speed(
     )?;
     let mut from = 0;
     for (start, speed) in &steps[1..] {
-        put_element(&mut bits, *start - from, u32::from(speed.kmh() / 5))?;
+        put_element(bits, *start - from, u32::from(speed.kmh() / 5))?;
         from = *start;
     }
-    put_element(&mut bits, profile.end() - from, END)?;
-    Ok(bits.finish())
+    put_element(bits, profile.end() - from, END)
+}
+
+/// How many bits packet 27 has with so many steps, 1 to 31 (L_PACKET).
+pub(crate) fn speed_length(steps: u32) -> u32
+    requires { steps ≤ most_steps }
+    ensures { result ≡ speed_length steps }
+{
+    58 + 28 * steps
 }
 
 /// The mark where the profile ends.

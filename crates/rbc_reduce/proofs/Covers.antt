@@ -1,14 +1,14 @@
 -- Steps which cover a track make a profile that fits it.
 use Rattle.std.proofs.lemmas.List.{reverse-append}
-use Rattle.std.proofs.Common.{reverse, ◌++◌, ◌≡◌, refl, ap, arith, ℕ, zero, suc, ◌+◌, ◌-◌, ◌%◌, ◌<◌, ◌≤◌, ◌⊎◌, inl, inr, Bool, true, false, ◌&&◌, List, [], ◌∷◌, Option, Some, None, length, subst, if◌then◌else◌, nat_le, nat_lt, ◌==◌, IsTrue, Result, Ok, Err}
+use Rattle.std.proofs.Common.{reverse, ◌++◌, ◌≡◌, refl, ap, sym, ◌∙◌, arith, ℕ, zero, suc, ◌+◌, ◌-◌, ◌%◌, ◌<◌, ◌≤◌, ◌⊎◌, inl, inr, Bool, true, false, ◌&&◌, List, [], ◌∷◌, Option, Some, None, length, subst, if◌then◌else◌, nat_le, nat_lt, ◌==◌, IsTrue, Result, Ok, Err}
 use Rattle.rbc_model.specs.declared.steps.ProfileFault.{ProfileFault}
 use Rattle.std.specs.List.{list_all, slice_get}
 use Rattle.std.specs.Option.{option_map, option_or}
 use Rattle.std.proofs.lemmas.Bool.Decides.{nat_tests}
 use Rattle.rbc_model.specs.Levels.{Levels, IsInRange, IsAtMost, IsLawful}
 use Rattle.rbc_model.specs.Profiles.{Fits, value_at, starts_of, rises_above, rises_from_zero, is_within, are_inside, longest, most_steps, profile_fault, profile_of, StepFunction}
-use Rattle.rbc_model.specs.PriceTables.{least_value}
-use Rattle.rbc_reduce.specs.Stretches.{AreInRange}
+use Rattle.rbc_model.specs.PriceTables.{least_value, cost}
+use Rattle.rbc_reduce.specs.Stretches.{AreInRange, first_start, stretch_costs}
 use Rattle.rbc_reduce.specs.Covers.{Covers}
 use Rattle.rbc_reduce.proofs.Stretches.{in_range_at, least_in_range, least_below}
 
@@ -168,17 +168,32 @@ covers_more levels values from to least given steps rises least_is given_is late
     let there : option_map levels.floor (least_value levels (slice_get values) from (to - from)) ≡ Some given = rw (least_is, given_is) refl in
     rw (reverse-append steps ((from, given) ∷ [])) (refl, (to, rises, there, later))
 
+-- they start at the metre from which on they cover the track
+pub covers_first : {V : Type 0} (levels : Levels V) (values : List V) (from : ℕ) (steps : List (ℕ × V)) → Covers levels values from steps
+    → first_start (length values) (starts_of steps) ≡ from
+covers_first levels values from [] c = sym c
+covers_first levels values from (step ∷ later) c = c.0
+
+-- and cost so much more
+pub costs_more : {V : Type 0} (levels : Levels V) (values : List V) (from to : ℕ) (given : V) (steps : List (ℕ × V)) → Covers levels values to (reverse steps)
+    → stretch_costs (cost levels (slice_get values)) (length values) (starts_of (reverse (steps ++ (from, given) ∷ [])))
+    ≡ cost levels (slice_get values) from to + stretch_costs (cost levels (slice_get values)) (length values) (starts_of (reverse steps))
+costs_more levels values from to given steps later =
+    let next = covers_first levels values to (reverse steps) later in
+    rw (reverse-append steps ((from, given) ∷ []), next) refl
+
 -- so the profile is made of them, and fits
-pub made_of : {V : Type 0} (levels : Levels V) (values : List V) (limit end : ℕ) (track : ℕ → Option V) (steps : List (ℕ × V)) → IsLawful levels → AreInRange levels values
-    → 0 < length values → length values ≤ longest → length values ≡ end → ((x : ℕ) → x < end → slice_get values x ≡ track x)
-    → length steps ≤ limit → limit ≤ most_steps → Covers levels values 0 steps
-    → Fits levels 1 limit end track steps × (profile_of levels end steps ≡ Ok (record { steps = steps; end = end }))
-made_of levels values limit end track steps lawful in_range some short metres same few limit_few covers =
+pub made_of : {V : Type 0} (levels : Levels V) (limit end : ℕ) (track : ℕ → Option V) (values : List V) (steps rows : List (ℕ × V)) (rows_end : ℕ)
+    (made : Result (StepFunction V) ProfileFault) → IsLawful levels → AreInRange levels values → 0 < length values → length values ≤ longest → length values ≡ end
+    → ((x : ℕ) → x < end → slice_get values x ≡ track x) → limit ≤ most_steps → length steps ≤ limit → Covers levels values 0 steps
+    → rows ≡ steps → rows_end ≡ end → made ≡ profile_of levels rows_end rows
+    → Fits levels 1 limit end track steps × (made ≡ Ok (record { steps = steps; end = end }))
+made_of levels limit end track values steps rows rows_end made lawful in_range some short metres same limit_few few covers rows_are end_is made_is =
     let fits = covers_fit levels values lawful in_range limit track steps some few (λ x h. same x (omega arith)) covers in
-    let fault = covers_no_fault levels values lawful in_range steps some short (omega arith) covers in (
-      subst (λ n. Fits levels 1 limit n track steps) metres fits,
-      (let no_fault : profile_fault levels end steps ≡ None = subst (λ n. profile_fault levels n steps ≡ None) metres fault in rw no_fault refl),
-    )
+    let fault = covers_no_fault levels values lawful in_range steps some short (omega arith) covers in
+    let no_fault : profile_fault levels end steps ≡ None = subst (λ n. profile_fault levels n steps ≡ None) metres fault in
+    let profile : profile_of levels end steps ≡ Ok (record { steps = steps; end = end }) = rw no_fault refl in
+    (subst (λ n. Fits levels 1 limit n track steps) metres fits, made_is ∙ ap (λ n. profile_of levels n rows) end_is ∙ ap (profile_of levels end) rows_are ∙ profile)
 
 pub made_is : {V : Type 0} (p : StepFunction V) (steps : List (ℕ × V)) (end : ℕ) (made : Result (StepFunction V) ProfileFault)
     → made ≡ Ok p → made ≡ Ok (record { steps = steps; end = end }) → (p.steps ≡ steps) × (p.end ≡ end)

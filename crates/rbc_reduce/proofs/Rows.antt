@@ -1,5 +1,5 @@
 -- Tables of the best steps: what a step more changes in them.
-use Rattle.std.proofs.Common.{◌≡◌, ◌≢◌, refl, ap, sym, ◌∙◌, arith, ℕ, zero, suc, ◌+◌, ◌-◌, ◌*◌, ◌<◌, ◌≤◌, ◌⊎◌, inl, inr, Bool, true, false, List, [], ◌∷◌, Option, Some, None, length, subst, add-one, if◌then◌else◌, min, nat_lt, get_or, ◌&&◌}
+use Rattle.std.proofs.Common.{◌≡◌, ◌≢◌, refl, ap, sym, ◌∙◌, arith, ℕ, zero, suc, ◌+◌, ◌-◌, ◌*◌, ◌<◌, ◌≤◌, ◌⊎◌, inl, inr, Bool, true, false, List, [], ◌∷◌, Option, Some, None, length, subst, add-one, if◌then◌else◌, min, nat_lt, get_or, ◌&&◌, ◌==◌}
 use Rattle.std.specs.List.{slice_get}
 use Rattle.std.specs.Option.{option_map, option_map_or}
 use Rattle.std.proofs.lemmas.Bool.Decides.{nat_tests}
@@ -8,7 +8,7 @@ use Rattle.std.proofs.lemmas.Option.{slice_get_past}
 use Rattle.std.proofs.Math.ListN.{set}
 use Rattle.rbc_reduce.specs.declared.table.Cell.{Cell}
 use Rattle.rbc_reduce.specs.declared.table.TheConstants.{UNREACHED}
-use Rattle.rbc_reduce.specs.Rows.{AreWide, IsLinked, IsUnreached, cell_at, price_at, relaxed}
+use Rattle.rbc_reduce.specs.Rows.{AreWide, IsTable, IsUnreached, cell_at, price_at, relaxed}
 
 pub set_here : {A : Type 0} (xs : List A) (i : ℕ) (v : A) → i < length xs → slice_get (set xs i v) i ≡ Some v
 set_here [] i v h = absurd (omega arith)
@@ -120,7 +120,7 @@ module _ (before from : ℕ) (costs : List ℕ) (to : ℕ) where
 
   -- what a cell is that is reached: the new way, or what it was
   abbrev pub IsEither : Cell → Cell → Type 0
-  IsEither old new = ((from < to) × (before < UNREACHED) × (new.cut ≡ from)) ⊎ (new ≡ old)
+  IsEither old new = ((from < to) × (new.price ≡ before + get_or costs to 0) × (new.cut ≡ from)) ⊎ (new ≡ old)
 
   chosen_either : (above lower : Bool) (old : Cell) → nat_lt from to ≡ above → nat_lt new_price old.price ≡ lower
       → (chosen (above && lower) old).price < UNREACHED → IsEither old (chosen (above && lower) old)
@@ -128,8 +128,19 @@ module _ (before from : ℕ) (costs : List ℕ) (to : ℕ) where
   chosen_either true false old e l h = inr refl
   chosen_either false lower old e l h = inr refl
 
+  -- up to the new cut it is what it was
+  pub relaxed_kept : (cell : Cell) → to ≤ from → relaxed before from costs to cell ≡ cell
+  relaxed_kept cell h =
+      let above : nat_lt from to ≡ false = grind (arith, nat_tests) in
+      rw above refl
+
   pub relaxed_either : (old : Cell) → (relaxed before from costs to old).price < UNREACHED → IsEither old (relaxed before from costs to old)
   relaxed_either old h = chosen_either (nat_lt from to) (nat_lt new_price old.price) old refl refl h
+
+pub there_is : {A : Type 0} (xs : List A) (i : ℕ) → i < length xs → (x : A) × (slice_get xs i ≡ Some x)
+there_is [] i h = absurd (omega arith)
+there_is (x ∷ xs) zero h = (x, refl)
+there_is (x ∷ xs) (suc i) h = there_is xs i (omega arith)
 
 -- the new table after the old one
 module _ (from : ℕ) (costs : List ℕ) (old new : List (Vec Cell))
@@ -142,33 +153,92 @@ module _ (from : ℕ) (costs : List ℕ) (old new : List (Vec Cell))
   prices_fall zero to = omega arith
   prices_fall (suc j) to = rw (cells j to) (falls j to (cell_at old j to))
 
-  pub linked_after : (metres : ℕ) → AreWide (metres + 1) new → IsLinked metres old → IsLinked metres new
-  linked_after metres wide linked = record {
-    wide = wide;
-    links = λ j to cell at reached. link j to (cell_at old j to) cell refl (sym (cells j to) ∙ at) reached;
-  }
-    where
-      link : (j to : ℕ) (o : Option Cell) (cell : Cell) → cell_at old j to ≡ o → option_map (relaxed (price_at old j from) from costs to) o ≡ Some cell
-          → cell.price < UNREACHED → (cell.cut < to) × (price_at new j cell.cut < UNREACHED)
-      link j to None cell was e reached = absurd (cc)
-      link j to (Some first) cell was e reached =
-          let same : relaxed (price_at old j from) from costs to first ≡ cell = cc in
-          elim (relaxed_either (price_at old j from) from costs to first (rw same reached)) [
-            | inl n ↦
-                let cut : cell.cut ≡ from = ap (λ c. c.cut) (sym same) ∙ n.2 in
-                let lower = prices_fall j from in
-                rw cut (n.0, omega arith)
-            | inr s ↦
-                let kept : first ≡ cell = sym s ∙ same in
-                let before = linked.links j to cell (rw (← kept) was) reached in
-                let lower = prices_fall j cell.cut in
-                (before.0, omega arith)
-          ]
+  kept : (j to : ℕ) (o : Option Cell) → to ≤ from
+      → option_map_or (λ cell. cell.price) (option_map (relaxed (price_at old j from) from costs to) o) UNREACHED ≡ option_map_or (λ cell. cell.price) o UNREACHED
+  kept j to None h = refl
+  kept j to (Some cell) h = ap (λ (c : Cell). c.price) (relaxed_kept (price_at old j from) from costs to cell h)
 
-pub there_is : {A : Type 0} (xs : List A) (i : ℕ) → i < length xs → (x : A) × (slice_get xs i ≡ Some x)
-there_is [] i h = absurd (omega arith)
-there_is (x ∷ xs) zero h = (x, refl)
-there_is (x ∷ xs) (suc i) h = there_is xs i (omega arith)
+  -- up to the new cut no price changes
+  pub prices_stay : (j to : ℕ) → to ≤ from → price_at new j to ≡ price_at old j to
+  prices_stay zero to h = refl
+  prices_stay (suc j) to h = rw (cells j to) (kept j to (cell_at old j to) h)
+
+  -- a step more from the new cut loses no less
+  pub price_reaches : (metres j to : ℕ) → AreWide (metres + 1) old → j < length old → from < to → to ≤ metres
+      → price_at new (j + 1) to ≤ price_at old j from + get_or costs to 0
+  price_reaches metres j to wide inside above below =
+      let row = there_is old j inside in
+      let width = wide j row.0 row.1 in
+      let cell = there_is row.0.items to (omega arith) in
+      let there : cell_at old j to ≡ Some cell.0 = rw (row.1, cell.1) refl in
+      let new_there : cell_at new j to ≡ Some (relaxed (price_at old j from) from costs to cell.0) = rw there at (cells j to) in
+      let reaches = relaxed_reaches (price_at old j from) from costs to cell.0 above in
+      let price : price_at new (j + 1) to ≡ (relaxed (price_at old j from) from costs to cell.0).price = rw (add-one j, new_there) refl in
+      omega arith
+
+-- what holds of the tried cuts, with one cut more
+module _ (cost : ℕ → ℕ → ℕ) (metres from : ℕ) (costs : List ℕ) (old new : List (Vec Cell)) (table : IsTable cost metres from old)
+    (cells : (j to : ℕ) → cell_at new j to ≡ option_map (relaxed (price_at old j from) from costs to) (cell_at old j to))
+    (costs_are : (to : ℕ) → from < to → to ≤ metres → get_or costs to 0 ≡ cost from to) where
+  inside_at : (xs : List Cell) (i : ℕ) (cell : Cell) → slice_get xs i ≡ Some cell → i < length xs
+  inside_at [] i cell e = absurd (cc)
+  inside_at (x ∷ xs) zero cell e = omega arith
+  inside_at (x ∷ xs) (suc i) cell e = omega (arith, inside_at xs i cell e)
+
+  cell_inside : (j to : ℕ) (o : Option (Vec Cell)) (cell : Cell) → slice_get old j ≡ o → cell_at old j to ≡ Some cell → to ≤ metres
+  cell_inside j to None cell row at = absurd (cc)
+  cell_inside j to (Some r) cell row at =
+      let width = table.wide j r row in
+      let there : slice_get r.items to ≡ Some cell = rw row at at in
+      let inside = inside_at r.items to cell there in
+      omega arith
+
+  links_after : (j to : ℕ) (o : Option Cell) (cell : Cell) → cell_at old j to ≡ o → cell_at new j to ≡ Some cell → cell.price < UNREACHED
+      → (cell.cut < from + 1) × (cell.cut < to) × (cell.price ≡ price_at new j cell.cut + cost cell.cut to)
+  links_after j to None cell was is reached = absurd (let none = rw was at (sym (cells j to) ∙ is) in cc)
+  links_after j to (Some first) cell was is reached =
+      let changed : option_map (relaxed (price_at old j from) from costs to) (Some first) ≡ Some cell = rw was at (sym (cells j to) ∙ is) in
+      let same : relaxed (price_at old j from) from costs to first ≡ cell = cc in
+      elim (relaxed_either (price_at old j from) from costs to first (rw same reached)) [
+        | inl n ↦
+            let cut : cell.cut ≡ from = ap (λ (c : Cell). c.cut) (sym same) ∙ n.2 in
+            let price : cell.price ≡ price_at old j from + get_or costs to 0 = ap (λ (c : Cell). c.price) (sym same) ∙ n.1 in
+            let stays = prices_stay from costs old new cells j from (omega arith) in
+            let here = costs_are to n.0 (cell_inside j to (slice_get old j) first refl was) in
+            rw cut (omega arith, n.0, omega arith)
+        | inr s ↦
+            let unchanged : first ≡ cell = sym s ∙ same in
+            let link = table.links j to cell (rw (← unchanged) was) reached in
+            let stays = prices_stay from costs old new cells j cell.cut (omega (arith, link.0)) in
+            (omega (arith, link.0), link.1, omega (arith, link.2))
+      ]
+
+  last_or_tried : (i : ℕ) → i < from + 1 → (i ≡ from) ⊎ (i < from)
+  last_or_tried i h = grind arith
+
+  lowest_after : length new ≡ length old → (j i to : ℕ) → j < length new → i < from + 1 → i < to → to ≤ metres
+      → price_at new (j + 1) to ≤ price_at new j i + cost i to
+  lowest_after count j i to row tried above below =
+      elim (last_or_tried i tried) [
+        | inl e ↦
+            let above_from : from < to = omega arith in
+            let reaches = price_reaches from costs old new cells metres j to table.wide (omega arith) above_from below in
+            let stays = prices_stay from costs old new cells j from (omega arith) in
+            let here = costs_are to above_from below in
+            rw e (omega arith)
+        | inr h ↦
+            let before = table.lowest j i to (omega arith) h above below in
+            let fall = prices_fall from costs old new cells (j + 1) to in
+            let stays = prices_stay from costs old new cells j i (omega arith) in
+            omega arith
+      ]
+
+  pub table_after : length new ≡ length old → AreWide (metres + 1) new → IsTable cost metres (from + 1) new
+  table_after count wide = record {
+    wide = wide;
+    links = λ j to cell is reached. links_after j to (cell_at old j to) cell refl is reached;
+    lowest = lowest_after count;
+  }
 
 -- one step reaches every metre, once it was tried from metre 0
 module _ (from : ℕ) (costs : List ℕ) (old new : List (Vec Cell))
@@ -182,32 +252,38 @@ module _ (from : ℕ) (costs : List ℕ) (old new : List (Vec Cell))
   reached_after metres to some wide short before bound low high =
       elim (first_or_later from) [
         | inl e ↦
-            let row = there_is old 0 some in
-            let width = wide 0 row.0 row.1 in
-            let cell = there_is row.0.items to (omega arith) in
-            let there : cell_at old 0 to ≡ Some cell.0 = rw (row.1, cell.1) refl in
-            let new_there : cell_at new 0 to ≡ Some (relaxed (price_at old 0 from) from costs to cell.0) = rw there at (cells 0 to) in
             let none : price_at old 0 from ≡ 0 = rw e refl in
-            let reaches = relaxed_reaches (price_at old 0 from) from costs to cell.0 (omega arith) in
-            let price : price_at new 1 to ≡ (relaxed (price_at old 0 from) from costs to cell.0).price = rw new_there refl in
+            let reaches : price_at new 1 to ≤ price_at old 0 from + get_or costs to 0 = price_reaches from costs old new cells metres 0 to wide some (omega arith) high in
             let small = bound (omega arith) in
             omega arith
         | inr h ↦ let old_price = before h in let fall = prices_fall from costs old new cells 1 to in omega arith
       ]
 
 -- following a cut back
-pub link_of : (metres : ℕ) (rows : List (Vec Cell)) (row : Vec Cell) (cell : Cell) (count done to : ℕ) → IsLinked metres rows → done < count
+pub link_of : (cost : ℕ → ℕ → ℕ) (metres tried : ℕ) (rows : List (Vec Cell)) (row : Vec Cell) (cell : Cell) (count done to : ℕ) → IsTable cost metres tried rows → done < count
     → slice_get rows (count - 1 - done) ≡ Some row → slice_get row.items to ≡ Some cell → price_at rows (count - done) to < UNREACHED
     → (cell.cut < to) × (price_at rows (count - (done + 1)) cell.cut < UNREACHED)
-link_of metres rows row cell count done to linked inside row_there cell_there reached =
-    let j : ℕ = count - 1 - done in
+    × (price_at rows (count - done) to ≡ price_at rows (count - (done + 1)) cell.cut + cost cell.cut to)
+link_of cost metres tried rows row cell count done to table inside row_there cell_there reached =
     let there : cell_at rows (count - 1 - done) to ≡ Some cell = rw (row_there, cell_there) refl in
     let number : count - done ≡ count - 1 - done + 1 = omega arith in
-    let price : price_at rows (count - 1 - done + 1) to ≡ cell.price = price_read rows row cell (count - 1 - done) to row_there cell_there in
-    let low : price_at rows (count - 1 - done + 1) to < UNREACHED = (let P : ℕ → Type 0 = λ n. price_at rows n to < UNREACHED in subst P number reached) in
-    let link = linked.links (count - 1 - done) to cell there (omega arith) in
+    let read : price_at rows (count - 1 - done + 1) to ≡ cell.price = price_read rows row cell (count - 1 - done) to row_there cell_there in
+    let price : price_at rows (count - done) to ≡ cell.price = ap (λ n. price_at rows n to) number ∙ read in
+    let link = table.links (count - 1 - done) to cell there (omega arith) in
     let before : count - 1 - done ≡ count - (done + 1) = omega arith in
-    (link.0, (let Q : ℕ → Type 0 = λ n. price_at rows n cell.cut < UNREACHED in subst Q before link.1))
+    let less : price_at rows (count - 1 - done) cell.cut ≡ price_at rows (count - (done + 1)) cell.cut = ap (λ n. price_at rows n cell.cut) before in
+    (link.1, omega (arith, link.2), omega (arith, link.2))
+
+-- what is reached by no step is the start, and loses nothing
+pub price_of_none : (rows : List (Vec Cell)) (count to : ℕ) → count ≡ 0 → price_at rows count to < UNREACHED → price_at rows count to ≡ 0
+price_of_none rows count to none reached =
+    let P : ℕ → Type 0 = λ n. price_at rows n to < UNREACHED in
+    let at_start : price_at rows count to ≡ price_at rows 0 to = ap (λ n. price_at rows n to) none in
+    at_start ∙ either (to == 0) (subst P none reached)
+  where
+    either : (test : Bool) → (if test then 0 else UNREACHED) < UNREACHED → (if test then 0 else UNREACHED) ≡ 0
+    either true h = refl
+    either false h = absurd (omega arith)
 
 -- the fewest steps that lose least are steps that cover the track
 pub reached_by_best : (rows first last : List (Vec Cell)) (count n m metres : ℕ) → first ≡ rows → last ≡ rows → n ≡ metres → m ≡ metres

@@ -104,7 +104,7 @@ module _ {V : Type 0} (levels : Levels V) (values : List V) where
     last_or_before : (x n : ℕ) → x < suc n → (x ≡ n) ⊎ (x < n)
     last_or_before x n h = grind arith
 
-    least_lower : (from count x : ℕ) (v : V) → x < count → slice_get values (from + x) ≡ Some v
+    pub least_lower : (from count x : ℕ) (v : V) → x < count → slice_get values (from + x) ≡ Some v
         → IsLower (least_value levels (slice_get values) from count) v
     least_lower from zero x v h there = absurd (omega arith)
     least_lower from (suc count) x v h there =

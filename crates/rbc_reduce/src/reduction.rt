@@ -1,5 +1,5 @@
-ghost use Rattle.std.specs.Prelude.{◌≡◌, ◌≤◌, IfOk};
-ghost use Rattle.rbc_model.specs.Profiles.{Fits, loss, most_steps, value_at};
+ghost use Rattle.std.specs.Prelude.{◌≡◌, ℕ, ◌≤◌, List, IfOk, length};
+ghost use Rattle.rbc_model.specs.Profiles.{IsBestProfile, loss, most_steps, value_at};
 
 use crate::steps::steps_of;
 use crate::table;
@@ -17,12 +17,19 @@ pub struct Reduced<V: Level> {
     pub loss: u64,
 }
 
-/// The profile of at most `limit` steps that loses least against the track: of those with the fewest steps the one whose starts, read from
-/// the last one backwards, come first.
+/// The profile of 1 to `limit` steps that loses least against the track: no profile of at most `limit` steps that is above the track at no
+/// metre loses less, with cuts at any metre. `Memory` is the only error.
+///
+/// Of the profiles that lose as little it has the fewest steps. Of those that have as few, its starts, read from the last one backwards,
+/// come first: this is tested, and no clause says it.
 pub fn reduce<V: Level>(alloc: Global, track: &Runs<V>, limit: usize) -> Result<Reduced<V>, Memory>
     requires some { 1 ≤ limit }
     requires few { limit ≤ most_steps }
-    ensures fits { IfOk result (λ r. Fits V.levels 1 limit track.now.end (value_at track.now.steps) r.profile.steps) }
+    ensures best { IfOk result
+        (λ r. IsBestProfile V.levels 1 limit track.now.end (value_at track.now.steps) r.profile.steps) }
+    ensures fewest { IfOk result
+        (λ r. (other : List (ℕ × V)) → IsBestProfile V.levels 1 limit track.now.end (value_at track.now.steps) other
+        → length r.profile.steps ≤ length other) }
     ensures end { IfOk result (λ r. r.profile.end ≡ track.now.end) }
     ensures loss { IfOk result
         (λ r. r.loss ≡ loss V.levels track.now.end (value_at track.now.steps) r.profile.steps) }

@@ -1,7 +1,8 @@
-ghost use Rattle.std.specs.Prelude.{◌≡◌, ◌<◌, ◌≤◌, IfOk, length};
-ghost use Rattle.rbc_model.specs.Profiles.{longest};
-ghost use Rattle.rbc_reduce.specs.Stretches.{AreInRange};
-ghost use Rattle.rbc_reduce.specs.Rows.{IsLinked, price_at};
+ghost use Rattle.std.specs.Prelude.{◌≡◌, ◌<◌, ◌≤◌, IfOk, length, slice_get};
+ghost use Rattle.rbc_model.specs.Profiles.{longest, starts_of};
+ghost use Rattle.rbc_model.specs.PriceTables.{cost};
+ghost use Rattle.rbc_reduce.specs.Stretches.{AreInRange, stretch_costs};
+ghost use Rattle.rbc_reduce.specs.Rows.{IsTable, price_at};
 ghost use Rattle.rbc_reduce.specs.Covers.{Covers};
 
 use crate::costs::least_of;
@@ -10,7 +11,8 @@ use rbc_model::Memory;
 use rbc_steps::Level;
 use std::alloc::Global;
 
-/// The steps to which row `count` leads back: each starts at its cut, and has the floor of the least value there.
+/// The steps to which the row of `count` steps leads back: each starts at its cut, and has the floor of the least value there. They lose as
+/// much as that row says.
 pub(crate) fn steps_of<V: Level>(
     alloc: Global,
     values: &[V],
@@ -18,11 +20,14 @@ pub(crate) fn steps_of<V: Level>(
     count: usize,
 ) -> Result<Vec<(u32, V)>, Memory>
     requires in_range { AreInRange V.levels values.now }
-    requires linked { IsLinked (length values.now) rows.now }
+    requires table { IsTable (cost V.levels (slice_get values.now)) (length values.now) (length values.now) rows.now }
     requires rows { count ≤ length rows.now }
     requires reached { price_at rows.now count (length values.now) < UNREACHED }
     ensures count { IfOk result (λ steps. length steps.items ≡ count) }
     ensures covers { IfOk result (λ steps. Covers V.levels values.now 0 steps.items) }
+    ensures costs { IfOk result
+        (λ steps. stretch_costs (cost V.levels (slice_get values.now)) (length values.now) (starts_of steps.items)
+        ≡ price_at rows.now count (length values.now)) }
 {
     let mut steps = Vec::with_capacity(alloc, count)?;
     let mut to = values.len();

@@ -1,7 +1,8 @@
 ghost use Rattle.std.specs.Prelude.{◌≡◌, ℕ, ◌+◌, ◌-◌, ◌*◌, ◌<◌, ◌≤◌, min, IfOk, length, slice_get, slice_index, option_map};
 ghost use Rattle.rbc_model.specs.Profiles.{longest};
+ghost use Rattle.rbc_model.specs.PriceTables.{cost};
 ghost use Rattle.rbc_reduce.specs.Stretches.{AreInRange};
-ghost use Rattle.rbc_reduce.specs.Rows.{AreWide, IsLinked, IsUnreached, cell_at, price_at, relaxed};
+ghost use Rattle.rbc_reduce.specs.Rows.{AreWide, IsTable, IsUnreached, cell_at, price_at, relaxed};
 
 use crate::costs::costs_from;
 use rbc_model::Memory;
@@ -65,7 +66,8 @@ fn relax_rows(rows: &mut [Vec<Cell>], from: u32, costs: &[u64])
     }
 }
 
-/// The best ways to cover the values' first metres, by at most `limit` steps.
+/// The table of the best ways to cover the values' first metres: a row for each number of steps from 1 to `limit`, but no more rows than
+/// there are metres, and in it a cell for each number of metres from 0.
 pub(crate) fn fill<V: Level>(
     alloc: Global,
     values: &[V],
@@ -76,7 +78,8 @@ pub(crate) fn fill<V: Level>(
     requires in_range { AreInRange V.levels values.now }
     requires limit { 1 ≤ limit }
     ensures rows { IfOk result (λ rows. length rows.items ≡ min limit (length values.now)) }
-    ensures linked { IfOk result (λ rows. IsLinked (length values.now) rows.items) }
+    ensures table { IfOk result
+        (λ rows. IsTable (cost V.levels (slice_get values.now)) (length values.now) (length values.now) rows.items) }
     ensures reached { IfOk result (λ rows. price_at rows.items 1 (length values.now) < UNREACHED) }
 {
     let metres = values.len();
@@ -89,7 +92,7 @@ pub(crate) fn fill<V: Level>(
     Ok(rows)
 }
 
-/// The least number of steps with which as little is lost over so many metres as with any.
+/// The number of steps, from 1, that lose least over so many metres in these rows, and the least such number.
 pub(crate) fn fewest(rows: &[Vec<Cell>], metres: usize) -> usize
     requires some { 0 < length rows.now }
     requires wide { AreWide (metres + 1) rows.now }

@@ -16,8 +16,6 @@ pub(crate) fn values_of<V: Level>(alloc: Global, track: &Runs<V>) -> Result<Vec<
         (λ values. (x : ℕ) → x < track.now.end → slice_get values.items x ≡ value_at track.now.steps x) }
 {
     let end = track.end();
-    // Its contract says that a track has a metre, and not too many.
-    let _ = track.runs();
     let mut values = Vec::with_capacity(alloc, end as usize)?;
     for x in 0..end {
         let value = track.at(x);

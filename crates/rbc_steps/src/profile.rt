@@ -54,9 +54,11 @@ impl<V: Level> Profile<V> {
         })
     }
 
-    /// Where the profile ends, in metres.
+    /// Where the profile ends, in metres: 1 to 100,000.
     pub fn end(&self) -> u32
         ensures end { result ≡ self.now.end }
+        ensures profile { IsProfile V.levels 1 most_steps self.now.end self.now.steps }
+        ensures near { self.now.end ≤ longest }
     {
         self.end
     }

@@ -46,9 +46,11 @@ impl<V: Level> Runs<V> {
         Ok(Runs { runs: rows, end })
     }
 
-    /// Where the track ends, in metres.
+    /// Where the track ends, in metres: 1 to 100,000.
     pub fn end(&self) -> u32
         ensures end { result ≡ self.now.end }
+        ensures track { IsTrack V.levels self.now.end self.now.steps }
+        ensures near { self.now.end ≤ longest }
     {
         self.end
     }

@@ -16,6 +16,15 @@ fn at<V: Level>(rt: &impl Abort, track: &Runs<V>, x: u32) -> V {
     track.at(x)
 }
 
+/// What the profile, which is nowhere above the track, loses on it.
+fn lost(rt: &impl Abort, profile: &Profile<Speed>, track: &Runs<Speed>) -> u64 {
+    assert_eq!(rt; profile.end(), track.end());
+    for x in 0..profile.end() {
+        assert!(rt; profile.at(x) <= track.at(x));
+    }
+    profile.loss(track)
+}
+
 #[test]
 fn levels_are_those_of_the_message(rt: HostRuntime) {
     assert!(rt; Speed::new(4).is_none() && Speed::new(601).is_none());
@@ -87,4 +96,18 @@ fn rows_make_a_profile(rt: HostRuntime) {
             Err(ProfileFault::NotExpressible)
         )
     );
+}
+
+#[test]
+fn what_a_profile_loses(rt: HostRuntime) -> Result<(), Fail> {
+    let (slow, middle, fast) = (speed(&rt, 60), speed(&rt, 83), speed(&rt, 120));
+    let rows = vec![in rt.alloc(); (0, middle), (20, fast)]?;
+    let track = Runs::new(rows, 30).expect(&rt, "a track");
+    let profile = Profile::new(&[(0, slow), (25, fast)], 30).expect(&rt, "a profile");
+    assert_eq!(rt; lost(&rt, &profile, &track), 760);
+    let even = Profile::new(&[(0, slow)], 30).expect(&rt, "a profile");
+    assert_eq!(rt; lost(&rt, &even, &track), 1_060);
+    let near = Profile::new(&[(0, speed(&rt, 80)), (20, fast)], 30).expect(&rt, "a profile");
+    assert_eq!(rt; lost(&rt, &near, &track), 60);
+    Ok(())
 }

@@ -1,4 +1,3 @@
 pub mod Asked
-pub mod LineReading
 pub mod Replies
 pub mod Values

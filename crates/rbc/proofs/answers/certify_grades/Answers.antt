@@ -10,4 +10,4 @@ returns c =
     let reduced = c.in_ok-profile.field-0 in
     let packs = c.in_ok-packet.ensures ∙ ap (λ end. bytes_of_fields (grade_kind.packet true end reduced.profile.steps)) c.in_ok-profile.ensures.end in
     certified grade_kind (request_view c.args.request) c.in_ok-track.track reduced.profile.steps reduced.loss c.in_ok-packet.packet.items
-    c.requires.end_high (sym c.in_ok-track.ensures.track) c.in_ok-profile.ensures.fits c.in_ok-profile.ensures.loss packs
+    c.requires.end_high (sym c.in_ok-track.ensures.track) c.in_ok-profile.ensures.best c.in_ok-profile.ensures.loss packs

@@ -1,6 +1,6 @@
 use Rattle.std.proofs.Common.{◌≡◌, refl, sym, ◌∙◌, subst, arith, add-one}
 use Rattle.std.proofs.lemmas.Result.{err_from_is_err_and}
-use Rattle.rbc_words.specs.LineReading.{Steps, IsOverlong}
+use Rattle.rbc_lines.specs.LineReading.{Steps, IsOverlong}
 use Rattle.rbc_model.specs.Sessions.{most_lines}
 use Rattle.rbc.proofs.UnderWay.{begins, takes, answers_line, fails_in_line, fails_reading, ends, refuses_overlong, fails_in_overlong, has_too_many}
 use Rattle.rbc.proofs.steps.steps.Goals as goal

@@ -1,6 +1,6 @@
 use Rattle.std.proofs.Common.{◌≡◌, false}
 use Rattle.rbc_model.specs.StepsText.{longest_line}
-use Rattle.rbc_words.specs.LineReading.{KnowsEnd}
+use Rattle.rbc_lines.specs.LineReading.{KnowsEnd}
 use Rattle.rbc.proofs.UnderWay.{IsUnderWay}
 use Rattle.rbc.proofs.steps.steps.Given as goal
 

@@ -2,9 +2,11 @@ use Rattle.std.proofs.Common.{arith, ◌≡◌, ℕ, ◌+◌, length, ap, sym, �
 use Rattle.std.specs.Global.{Vec}
 use Rattle.std.specs.Vec.{with_items}
 use Rattle.std.proofs.lemmas.List.{with_items_is}
+use Rattle.std.specs.List.{slice_get}
+use Rattle.rbc_model.specs.PriceTables.{cost}
 use Rattle.rbc_reduce.specs.declared.table.Cell.{Cell}
-use Rattle.rbc_reduce.specs.Rows.{AreWide, cell_at, price_at, relaxed}
-use Rattle.rbc_reduce.proofs.Rows.{linked_after, reached_after}
+use Rattle.rbc_reduce.specs.Rows.{AreWide, IsTable, cell_at, price_at, relaxed}
+use Rattle.rbc_reduce.proofs.Rows.{table_after, reached_after}
 use Rattle.rbc_reduce.proofs.table.fill.Goals as goal
 
 pub loop-from-preserved : goal.loop-from-preserved
@@ -24,11 +26,17 @@ loop-from-preserved g c =
     λ j to. c.relax_rows.ensures.cells j to
     ∙ ap (λ (rs : List (Vec Cell)). option_map (relaxed (price_at rs j c.loop-from.from) c.loop-from.from c.as_slice.result.now to) (cell_at rs j to)) old_is
     ∙ ap (λ cs. option_map (relaxed (price_at old j c.loop-from.from) c.loop-from.from cs to) (cell_at old j to)) costs_now in
-    let linked = linked_after c.loop-from.from costs old new cells metres wide i.2 in
-    let count : length new ≡ length old = c.relax_rows.ensures.rows ∙ ap length old_is in (
+    let count : length new ≡ length old = c.relax_rows.ensures.rows ∙ ap length old_is in
+    let table = table_after (cost g.V.Level.levels (slice_get c.args.values.now)) metres c.loop-from.from costs old new i.2 cells (λ to above below. c.costs_from.ensures.costs to above below) count wide in (
       ap length rows_are ∙ count ∙ i.0,
       ap length costs_are ∙ sym (ap length costs_now) ∙ width,
-      rw rows_are linked,
+      rw rows_are table,
       λ to some low high. rw rows_are (reached_after c.loop-from.from costs old new cells metres to (omega arith) i.2.wide c.requires.short
           (λ h. i.3 to h low high) (λ h. c.costs_from.ensures.bound to h high) low high),
     )
+
+pub returns-clause-table : goal.returns-clause-table
+returns-clause-table g c =
+    let metres = length c.args.values.now in
+    let last : c.loop-from.from ≡ metres = omega arith in
+    subst (λ tried. IsTable (cost g.V.Level.levels (slice_get c.args.values.now)) metres tried c.loop-from.rows.items) last c.loop-from.invariant.2

@@ -14,5 +14,5 @@ loop-x-preserved g c =
 
 pub returns-clause-some : goal.returns-clause-some
 returns-clause-some g c =
-    let some = track_some g.V.Level.levels c.args.track.now.end c.args.track.now.steps c.runs.ensures.track in
+    let some = track_some g.V.Level.levels c.args.track.now.end c.args.track.now.steps c.end-end.ensures.track in
     omega arith

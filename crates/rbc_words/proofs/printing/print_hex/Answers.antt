@@ -1,5 +1,5 @@
 use Rattle.rbc_words.proofs.HexText.{hex_of-split}
-use Rattle.rbc_words.proofs.Writing.{writes_then, writes_stopped}
+use Rattle.rbc_lines.proofs.Writing.{writes_then, writes_stopped}
 use Rattle.rbc_words.proofs.printing.print_hex.Goals as goal
 
 pub returns-in_err-print_piece-clause-text : goal.returns-in_err-print_piece-clause-text

@@ -1,7 +1,7 @@
 use Rattle.std.proofs.Common.{◌≡◌, false, length, Option, List, ℕ, Result}
 use Rattle.rbc_model.specs.Sessions.{WritesText}
 use Rattle.rbc_model.specs.Words.{hex_of}
-use Rattle.rbc_words.specs.declared.streams.WriteFailed.{WriteFailed}
+use Rattle.rbc_lines.specs.declared.streams.WriteFailed.{WriteFailed}
 use Rattle.rbc_words.proofs.printing.print_hex.Given as goal
 
 -- to write the rest is to write it all

@@ -1,5 +1,5 @@
 use Rattle.std.proofs.Common.{refl}
-use Rattle.rbc_words.proofs.Writing.{writes_then, writes_stopped}
+use Rattle.rbc_lines.proofs.Writing.{writes_then, writes_stopped}
 use Rattle.rbc_words.proofs.LineTexts.{certified_text-is}
 use Rattle.rbc_words.proofs.steps_reply.print_certified.Goals as goal
 

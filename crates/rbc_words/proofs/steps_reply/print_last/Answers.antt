@@ -1,5 +1,5 @@
 use Rattle.std.proofs.Common.{rules}
-use Rattle.rbc_words.proofs.Writing.{writes_then, writes_stopped}
+use Rattle.rbc_lines.proofs.Writing.{writes_then, writes_stopped}
 use Rattle.rbc_words.proofs.steps_reply.print_last.Goals as goal
 
 pub returns-in_err-put-clause-text : goal.returns-in_err-put-clause-text

@@ -1,4 +1,4 @@
-use Rattle.rbc_words.proofs.Writing.{writes_then, writes_stopped}
+use Rattle.rbc_lines.proofs.Writing.{writes_then, writes_stopped}
 use Rattle.rbc_words.proofs.LineTexts.{refusal_reply-is}
 use Rattle.rbc_words.proofs.steps_reply.print_refusal.Goals as goal
 

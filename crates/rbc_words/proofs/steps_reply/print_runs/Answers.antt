@@ -2,7 +2,7 @@ use Rattle.std.proofs.Common.{sym, subst, Ok}
 use Rattle.std.specs.Io.KnownBytes.{Appends}
 use Rattle.std.proofs.KnownBytes.{Appends-nil}
 use Rattle.rbc_words.proofs.LineTexts.{runs_text-next, runs_text-end}
-use Rattle.rbc_words.proofs.Writing.{writes_then, writes_stopped}
+use Rattle.rbc_lines.proofs.Writing.{writes_then, writes_stopped}
 use Rattle.rbc_words.proofs.steps_reply.print_runs.Goals as goal
 
 pub returns-in_err-print_run-clause-text : goal.returns-in_err-print_run-clause-text

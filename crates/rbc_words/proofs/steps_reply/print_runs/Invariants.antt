@@ -1,7 +1,7 @@
 use Rattle.std.proofs.Common.{◌≡◌, false, drop, Option, List, ℕ, Result}
 use Rattle.rbc_model.specs.Sessions.{WritesText}
 use Rattle.rbc_words.specs.Replies.{runs_text}
-use Rattle.rbc_words.specs.declared.streams.WriteFailed.{WriteFailed}
+use Rattle.rbc_lines.specs.declared.streams.WriteFailed.{WriteFailed}
 use Rattle.rbc_words.proofs.steps_reply.print_runs.Given as goal
 
 -- to write the runs that are left is to write them all

@@ -1,0 +1,5 @@
+mod Buffers
+mod Feeds
+pub mod Lines
+mod Pieces
+pub mod Writing

@@ -1,0 +1,16 @@
+use Rattle.std.proofs.Common.{rules}
+use Rattle.std.proofs.lemmas.Result.{err_from_is_err_and}
+use Rattle.rbc_lines.proofs.Pieces.{piece_more, piece_failed}
+use Rattle.rbc_lines.proofs.streams.put.Goals as goal
+
+pub returns-in_err-count-clause-text : goal.returns-in_err-count-clause-text
+returns-in_err-count-clause-text g c =
+    let fault = err_from_is_err_and c.from_residual.result c.from_residual.ensures.1 in
+    rw fault.1 (piece_failed _ _ _ c.args.bytes.now c.loop-count.count c.loop-count.invariant.so_far c.in_err-count.ensures.bytes)
+
+pub loop-count-preserved : goal.loop-count-preserved
+loop-count-preserved g c = record {
+  in_range = search rules;
+  works = search rules;
+  so_far = piece_more _ _ _ c.args.bytes.now c.loop-count.count c.in_ok-count.field-0 c.loop-count.invariant.so_far c.in_ok-count.ensures.bytes;
+}

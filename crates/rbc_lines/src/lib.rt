@@ -1,0 +1,11 @@
+//! Readers and writers of bytes, and lines.
+#![tactic(auto)]
+
+mod line_reader;
+mod stream;
+mod streams;
+
+pub use line_reader::{Advance, LineReader};
+pub use rbc_model::SessionFault;
+pub use stream::Stream;
+pub use streams::{ReadFailed, Sink, Source, WriteFailed, put};

@@ -1,0 +1,71 @@
+ghost use Rattle.std.specs.Prelude.{ℕ, ◌≡◌, ◌↔◌, IsSome, IfSome};
+ghost use Rattle.rbc_model.specs.Levels.{IsInRange};
+ghost use Rattle.rbc_rows.specs.PowerLevels.{power_levels};
+ghost use Rattle.rbc_rows.proofs.PowerLaws.{power_lawful, power_in_order};
+
+use rbc_steps::Level;
+use std::marker::Model;
+
+/// A number of 1 to 1,024, of which a message has the powers of two. It stands for no quantity of the railway.
+#[derive(Clone, Copy, Debug, PartialEq, Eq, PartialOrd, Ord)]
+pub struct Power {
+    number: u16,
+}
+
+impl Model for Power {
+    ghost Value = { ℕ };
+
+    ghost view = { λ p. p.number };
+
+    ghost invariant = { λ p. IsInRange power_levels p.number };
+
+    ghost inverse = { λ number. record { number = number } };
+}
+
+impl Power {
+    /// This number, if it is 1 to 1,024.
+    pub fn new(number: u16) -> Option<Power>
+        ensures valid { IsSome result ↔ IsInRange power_levels number }
+        ensures value { IfSome result (λ p. p ≡ number) }
+    {
+        if number >= 1 && number <= 1024 {
+            Some(Power { number })
+        } else {
+            None
+        }
+    }
+
+    /// The number.
+    pub fn number(self) -> u16
+        ensures value { result ≡ self }
+        ensures in_range { IsInRange power_levels result }
+    {
+        self.number
+    }
+}
+
+impl Level for Power {
+    ghost levels = { power_levels };
+
+    fn known(self) {
+        let _ = self.number;
+    }
+
+    fn floor(self) -> Power {
+        Power {
+            number: 1 << self.number.ilog2(),
+        }
+    }
+
+    fn expressible(self) -> bool {
+        self.number.is_power_of_two()
+    }
+
+    fn price(self, given: Power) -> u64 {
+        u64::from(self.number - given.number)
+    }
+
+    ghost lawful = { power_lawful };
+
+    ghost in_order = { power_in_order };
+}
