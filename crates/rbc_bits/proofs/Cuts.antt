@@ -41,7 +41,7 @@ zeros : (n : ℕ) → bits_of n 0 ≡ replicate n false
 zeros zero = refl
 zeros (suc n) = ap₂ (λ d later. (d % 2 == 1) ∷ later) (zero-div (2 ^ n)) (zeros n)
 
-length-byte_bits : (bytes : List ℕ) → length (byte_bits bytes) ≡ 8 * length bytes
+pub length-byte_bits : (bytes : List ℕ) → length (byte_bits bytes) ≡ 8 * length bytes
 length-byte_bits [] = refl
 length-byte_bits (byte ∷ bytes) = omega (arith, length-append (bits_of 8 byte) (byte_bits bytes), length-byte_bits bytes)
 

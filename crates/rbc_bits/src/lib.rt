@@ -1,6 +1,8 @@
-//! Fields of so many bits each, written in a row.
+//! Fields of so many bits each, written in a row and read from one.
 #![tactic(auto)]
 
+mod reader;
 mod writer;
 
+pub use reader::{BitReader, Short};
 pub use writer::BitWriter;

@@ -3,3 +3,8 @@ pub mod Rows
 pub mod Speeds
 pub mod Grades
 pub mod Ends
+pub mod ReadLaws
+pub mod Risen
+pub mod Elements
+pub mod Packets
+pub mod Spelled

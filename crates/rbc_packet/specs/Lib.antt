@@ -1,2 +1,6 @@
 pub mod Authorities
 pub mod Fields
+pub mod Frames
+pub mod Layouts
+pub mod Reads
+pub mod Spellings

@@ -9,7 +9,7 @@ use rbc_model::{FieldName, Memory};
 pub(crate) type Field = (FieldName, u32);
 
 /// How many bits the field has.
-fn width_of(name: FieldName) -> u32
+pub(crate) fn width_of(name: FieldName) -> u32
     ensures width { result ≡ width_of name }
     ensures narrow { result ≤ 32 }
 {

@@ -1,0 +1,100 @@
+-- How a packet tells a profile, the same for each kind of level.
+use Rattle.std.specs.Prelude.{◌≡◌, ℕ, zero, suc, pred, ◌+◌, ℤ, Bool, ◌&&◌, List, [], ◌∷◌, Result, Ok, Err, nat_le, ◌==◌}
+use Rattle.rbc_model.specs.declared.messages.Fault.{Fault}
+use Rattle.rbc_model.specs.declared.messages.Fault.TheVariants.{Length}
+use Rattle.rbc_model.specs.declared.messages.FieldName.{FieldName}
+use Rattle.rbc_model.specs.declared.messages.FieldName.TheVariants.{NID_PACKET, Q_DIR, L_PACKET, Q_SCALE, N_ITER, D_GRADIENT, Q_GDIR, G_A, D_STATIC, V_STATIC, Q_FRONT}
+use Rattle.rbc_model.specs.Messages.{gradient_length, speed_length}
+use Rattle.rbc_model.specs.Profiles.{StepFunction}
+use Rattle.rbc_model.specs.Readers.{Reader, answer, ◌>>=◌, ◌>>◌, expect, field, any_field, fixed_field}
+use Rattle.rbc_model.specs.Reading.{gradient_value_at, speed_value_at}
+
+-- How a packet tells a profile: its number, its bits for so many steps, the field of its distances, a value, and the mark at the end.
+pub record Layout (V : Type 0) : Type 0 where
+  pub number : ℕ
+  pub bits : ℕ → ℕ
+  pub distance : FieldName
+  pub value_at : Reader V
+  pub mark_at : Reader (Unit {0})
+
+module _ {V : Type 0} (layout : Layout V) where
+  -- the end element behind a step that starts at a metre: it lies at the end
+  abbrev pub end_at : ℕ → ℕ → Reader (Unit {0})
+  end_at end from = do
+    field layout.distance (λ d. nat_le 1 d && (from + d == end))
+    layout.mark_at
+
+  -- so many steps behind one that starts at a metre, and the end element
+  abbrev pub elements_at : ℕ → ℕ → ℕ → Reader (List (ℕ × V))
+  elements_at end from zero = do
+    end_at end from
+    answer []
+  elements_at end from (suc steps) = do
+    distance ← field layout.distance (nat_le 1)
+    value ← layout.value_at
+    later ← elements_at end (from + distance) steps
+    answer ((from + distance, value) ∷ later)
+
+  -- a profile up to the end that begins with this value at 0 and has so many later steps
+  abbrev pub steps_at : ℕ → V → ℕ → Reader (List (ℕ × V))
+  steps_at end first steps = do
+    later ← elements_at end 0 steps
+    answer ((0, first) ∷ later)
+
+  -- a profile's packet of this direction; its elements, so many behind a metre, are read as the first argument says
+  abbrev pub profile_by : (ℕ → ℕ → Reader (List (ℕ × V))) → ℕ → Reader (List (ℕ × V))
+  profile_by elements direction = do
+    fixed_field NID_PACKET layout.number
+    fixed_field Q_DIR direction
+    said ← any_field L_PACKET
+    fixed_field Q_SCALE 1
+    fixed_field layout.distance 0
+    first ← layout.value_at
+    steps ← field N_ITER (nat_le 1)
+    expect (said == layout.bits steps) Length
+    later ← elements 0 (pred steps)
+    answer ((0, first) ∷ later)
+
+  -- a profile's packet of this direction, up to the end
+  abbrev pub profile_at : ℕ → ℕ → Reader (List (ℕ × V))
+  profile_at direction end = profile_by (elements_at end) direction
+
+-- A call that reads a profile up to this end does as a reader of its steps: on Ok these steps, and the bits after them are left; on Err the reader's fault.
+abbrev pub ReadsProfile : {V : Type 0} → Reader (List (ℕ × V)) → ℕ → List Bool → List Bool → Result (StepFunction V) Fault → Type 0
+ReadsProfile reader end old new (Ok profile) = (reader old ≡ Ok (profile.steps, new)) × (profile.end ≡ end)
+ReadsProfile reader end old new (Err fault) = reader old ≡ Err fault
+
+-- the end mark of gradients: 255, downhill
+abbrev pub gradient_mark_at : Reader (Unit {0})
+gradient_mark_at = do
+  uphill ← any_field Q_GDIR
+  field G_A (λ size. (size == 255) && (uphill == 0))
+  answer tt
+
+-- gradients, in packet 21
+abbrev pub gradient_layout : Layout ℤ
+gradient_layout = record {
+  number = 21;
+  bits = gradient_length;
+  distance = D_GRADIENT;
+  value_at = gradient_value_at;
+  mark_at = gradient_mark_at;
+}
+
+-- the end mark of speeds: 127
+abbrev pub speed_mark_at : Reader (Unit {0})
+speed_mark_at = do
+  fixed_field V_STATIC 127
+  fixed_field Q_FRONT 0
+  fixed_field N_ITER 0
+  answer tt
+
+-- speeds, in packet 27
+abbrev pub speed_layout : Layout ℕ
+speed_layout = record {
+  number = 27;
+  bits = speed_length;
+  distance = D_STATIC;
+  value_at = speed_value_at;
+  mark_at = speed_mark_at;
+}
