@@ -4,8 +4,10 @@
 mod line_reader;
 mod stream;
 mod streams;
+mod whole;
 
 pub use line_reader::{Advance, LineReader};
 pub use rbc_model::SessionFault;
 pub use stream::Stream;
 pub use streams::{ReadFailed, Sink, Source, WriteFailed, put};
+pub use whole::{WholeFault, read_whole};
