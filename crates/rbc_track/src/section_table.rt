@@ -1,0 +1,98 @@
+ghost use Rattle.std.specs.Prelude.{All, ◌≡◌, [], ◌∷◌, ◌++◌, not, bytes_eq, length, position, IfOk, OnOk};
+ghost use Rattle.std.specs.List.{list_any};
+ghost use Rattle.rbc_model.specs.SoundTracks.{first_refusal, section_refusal, has_long_runs};
+ghost use Rattle.rbc_model.specs.TrackParts.{section_number};
+ghost use Rattle.rbc_model.specs.declared.tracks.Table.TheVariants.{Sections as SectionTable};
+ghost use Rattle.rbc_model.specs.declared.tracks.TrackRefusal.TheVariants.{TwiceNamed, ShortRun};
+ghost use Rattle.rbc_track.specs.Judged.{IsJudged};
+ghost use Rattle.rbc_track.specs.Tables.{IsSectionInForm, entry_refusal};
+
+use crate::lookup::Names;
+use crate::steps::has_long_runs;
+use crate::{Name, Section, TrackFault};
+use rbc_model::{SectionId, Table, TrackRefusal};
+use std::alloc::Global;
+use std::marker::Model;
+
+/// The sections of a track in order, each found by its name.
+#[derive(Drop)]
+pub(crate) struct Sections {
+    sections: Vec<Section>,
+    names: Names,
+}
+
+impl Model for Sections {
+    ghost use Rattle.std.specs.Prelude.{List};
+    ghost use Rattle.rbc_model.specs.Tracks.{Section};
+    ghost use Rattle.rbc_track.specs.Tables.{IsSectionTable};
+
+    ghost Value = { List Section };
+
+    ghost view = { λ table. table.sections.items };
+
+    ghost invariant = { λ table. IsSectionTable table.sections.items table.names };
+}
+
+/// Judges one more section, behind those of these names, and notes its name.
+fn note(names: &mut Names, section: &Section, number: usize) -> Result<(), TrackFault>
+    ensures judged { IsJudged result (entry_refusal
+        (not (list_any (λ other. bytes_eq other section.now.name) names.old)) (TwiceNamed SectionTable number)
+        (has_long_runs section.now) (ShortRun number)) }
+    ensures named { OnOk result (names.new ≡ names.old ++ section.now.name ∷ []) }
+    ensures form { OnOk result (IsSectionInForm section.now) }
+{
+    if !names.insert(section.name())? {
+        return Err(TrackFault::Refused(TrackRefusal::TwiceNamed(Table::Sections, number)));
+    }
+    if !has_long_runs(section) {
+        return Err(TrackFault::Refused(TrackRefusal::ShortRun(number)));
+    }
+    Ok(())
+}
+
+impl Sections {
+    /// The table of these sections, or the first refusal of one.
+    pub(crate) fn new(alloc: Global, sections: Vec<Section>) -> Result<Sections, TrackFault>
+        ensures judged { IsJudged result (first_refusal section_refusal [] sections.items) }
+        ensures made { IfOk result (λ table. table ≡ sections.items) }
+        ensures form { OnOk result (All IsSectionInForm sections.items) }
+    {
+        let mut names = Names::new(alloc);
+        for (earlier, section) in sections.iter().enumerate() {
+            note(&mut names, section, earlier + 1)?;
+        }
+        Ok(Sections { sections, names })
+    }
+
+    /// How many sections there are.
+    pub(crate) fn len(&self) -> usize
+        ensures { result ≡ length self.now }
+    {
+        self.sections.len()
+    }
+
+    /// The sections in order.
+    pub(crate) fn as_slice(&self) -> &[Section]
+        ensures sections { result.now ≡ self.now }
+        ensures form { All IsSectionInForm self.now }
+    {
+        let _ = &self.names;
+        self.sections.as_slice()
+    }
+
+    /// The section of this name.
+    pub(crate) fn find(&self, name: Name) -> Option<SectionId>
+        ensures { result ≡ position (λ section. bytes_eq section.name name) self.now }
+    {
+        let index = self.names.position(name)?;
+        Some(SectionId::new(index))
+    }
+
+    /// The number of the section of this name, or one that no section has.
+    pub(crate) fn number(&self, name: Name) -> SectionId
+        ensures { result ≡ section_number self.now name }
+    {
+        self.find(name)
+            .unwrap_or(SectionId::new(self.sections.len()))
+    }
+}

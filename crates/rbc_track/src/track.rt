@@ -1,0 +1,178 @@
+ghost use Rattle.std.specs.Prelude.{◌≡◌, ◌<◌, ◌≤◌, length, slice_get, option_map, Some, IfSome};
+ghost use Rattle.rbc_model.specs.Tracks.{section_named, route_named, group_named, is_linked};
+ghost use Rattle.rbc_model.specs.SoundTracks.{IsInForm, IsSound};
+ghost use Rattle.rbc_track.specs.PartsView.{parts_view};
+ghost use Rattle.rbc_track.specs.Judged.{IsTrackOf};
+ghost use Rattle.rbc_track.specs.Tables.{leg_named};
+
+use crate::group_table::Groups;
+use crate::link_table::links_of;
+use crate::links::Links;
+use crate::route_table::Routes;
+use crate::section_table::Sections;
+use crate::sizes::judge_sizes;
+use crate::{LegName, Name, Parts, Route, Section, TrackFault};
+use rbc_model::{Group, GroupName, Leg, RouteId, SectionId};
+use std::alloc::Global;
+use std::marker::Model;
+
+#[cfg(test)]
+mod tests;
+
+/// A track: sections with their speeds and gradients, links between their legs, balise groups and routes. Names and links are found by
+/// look-ups.
+#[derive(Drop)]
+pub struct Track {
+    speed_steps: usize,
+    grade_steps: usize,
+    sections: Sections,
+    links: Links,
+    groups: Groups,
+    routes: Routes,
+}
+
+impl Model for Track {
+    ghost use Rattle.rbc_model.specs.Tracks.{Track};
+    ghost use Rattle.rbc_track.specs.Tables.{track_with, IsSoundInForm};
+
+    ghost Value = { Track };
+
+    ghost view = { λ t. track_with t.speed_steps t.grade_steps t.sections t.links t.groups t.routes };
+
+    ghost invariant = { λ t. IsSoundInForm (track_with t.speed_steps t.grade_steps t.sections t.links t.groups t.routes) };
+}
+
+impl Track {
+    /// The track that the parts make, or the first reason why they make none. Sizes are judged before all else, and then sections, links,
+    /// groups and routes, one entry after the other. Memory may be refused before a later refusal is found, but no size is passed over.
+    pub fn new(alloc: Global, parts: Parts) -> Result<Track, TrackFault>
+        ensures { IsTrackOf (parts_view parts) result }
+    {
+        judge_sizes(&parts)?;
+        let Parts {
+            speed_steps,
+            grade_steps,
+            sections,
+            links,
+            groups,
+            routes,
+        } = parts;
+        let sections = Sections::new(alloc, sections)?;
+        let links = links_of(alloc, &sections, &links)?;
+        let groups = Groups::new(alloc, &sections, &groups)?;
+        let routes = Routes::new(alloc, &sections, &links, &routes)?;
+        Ok(Track {
+            speed_steps: speed_steps.steps(),
+            grade_steps: grade_steps.steps(),
+            sections,
+            links,
+            groups,
+            routes,
+        })
+    }
+
+    /// How many steps a profile of speeds may have: 1 to 31.
+    pub fn speed_steps(&self) -> usize
+        ensures steps { result ≡ self.now.speed_steps }
+        ensures some { 1 ≤ result }
+        ensures few { result ≤ 31 }
+    {
+        self.speed_steps
+    }
+
+    /// How many steps a profile of gradients may have: 1 to 31.
+    pub fn grade_steps(&self) -> usize
+        ensures steps { result ≡ self.now.grade_steps }
+        ensures some { 1 ≤ result }
+        ensures few { result ≤ 31 }
+    {
+        self.grade_steps
+    }
+
+    /// How many sections the track has: 1 to 4,096.
+    pub fn section_count(&self) -> usize
+        ensures count { result ≡ length self.now.sections }
+        ensures form { IsInForm self.now }
+        ensures sound { IsSound self.now }
+    {
+        self.sections.len()
+    }
+
+    /// How many routes the track has: up to 4,096.
+    pub fn route_count(&self) -> usize
+        ensures count { result ≡ length self.now.routes }
+        ensures sound { IsSound self.now }
+    {
+        self.routes.len()
+    }
+
+    /// The section of this name.
+    pub fn section(&self, name: Name) -> Option<SectionId>
+        ensures section { result ≡ section_named self.now name }
+        ensures within { IfSome result (λ section. section < length self.now.sections) }
+    {
+        self.sections.find(name)
+    }
+
+    /// The route of this name.
+    pub fn route(&self, name: Name) -> Option<RouteId>
+        ensures route { result ≡ route_named self.now name }
+        ensures within { IfSome result (λ route. route < length self.now.routes) }
+    {
+        self.routes.find(name)
+    }
+
+    /// The balise group of this identity.
+    pub fn group(&self, name: GroupName) -> Option<Group>
+        ensures { result ≡ group_named self.now name }
+    {
+        self.groups.find(name)
+    }
+
+    /// Whether a train may run from the one leg onto the other.
+    pub fn linked(&self, from: Leg, to: Leg) -> bool
+        ensures { result ≡ is_linked self.now from to }
+    {
+        self.links.linked(from, to)
+    }
+
+    /// The section of this number.
+    pub fn section_at(&self, section: SectionId) -> &Section
+        requires { section < length self.now.sections }
+        ensures { slice_get self.now.sections section ≡ Some result.now }
+    {
+        &self.sections.as_slice()[section.index()]
+    }
+
+    /// The route of this number.
+    pub fn route_at(&self, route: RouteId) -> &Route
+        requires { route < length self.now.routes }
+        ensures { slice_get self.now.routes route ≡ Some result.now }
+    {
+        &self.routes.as_slice()[route.index()]
+    }
+
+    /// The legs of a route in order.
+    pub fn legs_of(&self, route: RouteId) -> &[Leg]
+        requires { route < length self.now.routes }
+        ensures { option_map (λ r. r.legs) (slice_get self.now.routes route) ≡ Some result.now }
+    {
+        self.route_at(route).legs()
+    }
+
+    /// The leg that a route is entered from, if it has one.
+    pub fn after(&self, route: RouteId) -> Option<Leg>
+        requires { route < length self.now.routes }
+        ensures { option_map (λ r. r.after) (slice_get self.now.routes route) ≡ Some result }
+    {
+        self.route_at(route).after()
+    }
+
+    /// A leg as it is written.
+    pub fn leg_name(&self, leg: Leg) -> LegName
+        requires { leg.section < length self.now.sections }
+        ensures { option_map (leg_named leg.direction) (slice_get self.now.sections leg.section) ≡ Some result }
+    {
+        LegName::of(self.section_at(leg.section).name(), leg.direction)
+    }
+}

@@ -1,0 +1,9 @@
+pub mod Chains
+pub mod Items
+pub mod Legs
+pub mod Members
+pub mod Limits
+pub mod Steps
+pub mod Texts
+pub mod TopChain
+pub mod Walks
