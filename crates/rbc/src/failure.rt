@@ -3,13 +3,17 @@
 ghost use Rattle.std.specs.Prelude.{◌≡◌};
 ghost use Rattle.rbc.specs.Statuses.{status_of};
 
+use crate::load::LoadFault;
 use clap::error::ErrorKind;
+use rbc_trackfile::FileFault;
 use rbc_words::SessionFault;
 use std::alloc::AllocError;
 use std::io;
 
 /// The exit status after a command line that is refused.
 const REFUSED: u8 = 2;
+/// The exit status after a track that can't be had.
+const NO_TRACK: u8 = 3;
 /// The exit status after a fault of a session.
 const SESSION_FAULT: u8 = 4;
 /// The exit status after memory was refused.
@@ -20,12 +24,14 @@ const NO_MEMORY: u8 = 5;
 pub enum Failure {
     /// The command line is refused, or asks for help.
     CommandLine(clap::Error),
+    /// There is no track.
+    Load(LoadFault),
     /// A session ended before its input.
     Session(SessionFault),
 }
 
 impl Failure {
-    /// The program's exit status: 0 after help, 2 for a command line, 4 for a session's fault and 5 for want of memory.
+    /// The program's exit status: 0 after help, 2 for a command line, 3 for a track, 4 for a session's fault and 5 for want of memory.
     pub fn status(&self) -> u8
         ensures { result ≡ status_of self.now }
     {
@@ -34,6 +40,8 @@ impl Failure {
                 ErrorKind::DisplayHelp | ErrorKind::DisplayVersion => 0,
                 _ => REFUSED,
             },
+            Failure::Load(LoadFault::File(FileFault::Memory)) => NO_MEMORY,
+            Failure::Load(_) => NO_TRACK,
             Failure::Session(SessionFault::Memory) => NO_MEMORY,
             Failure::Session(_) => SESSION_FAULT,
         }
@@ -43,8 +51,15 @@ impl Failure {
     pub fn tell(&self, rt: &(impl Print + Eprint)) {
         let _ = match self {
             Failure::CommandLine(error) => error.print(rt),
+            Failure::Load(fault) => eprintln!(rt; "rbc: {fault}"),
             Failure::Session(fault) => eprintln!(rt; "rbc: {fault}"),
         };
+    }
+}
+
+impl From<LoadFault> for Failure {
+    fn from(fault: LoadFault) -> Failure {
+        Failure::Load(fault)
     }
 }
 

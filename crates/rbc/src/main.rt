@@ -4,17 +4,21 @@
 mod answers;
 mod command_line;
 mod failure;
+mod load;
 mod steps;
 #[cfg(test)]
 mod tests;
 
 use command_line::Task;
 use failure::Failure;
+pub use load::{LoadFault, load};
+use rbc_track::Track;
 use rbc_words::Stream;
 use std::env::Env;
+use std::fs::Files;
 use std::io::BufWriter;
 use std::process::ExitCode;
-use std::{env, io};
+use std::{env, fs, io};
 pub use steps::steps;
 
 fn main(rt: HostRuntime) -> ExitCode {
@@ -28,7 +32,7 @@ fn main(rt: HostRuntime) -> ExitCode {
 }
 
 /// Does what the command line asks for.
-fn run(rt: &(impl Env + Input + Print + AllocGlobal)) -> Result<(), Failure> {
+fn run(rt: &(impl Env + Files + Input + Print + AllocGlobal)) -> Result<(), Failure> {
     let alloc = rt.alloc();
     let words: Vec<String> = env::args(rt)?.collect(alloc)?;
     match command_line::read(alloc, words.as_slice())? {
@@ -41,5 +45,17 @@ fn run(rt: &(impl Env + Input + Print + AllocGlobal)) -> Result<(), Failure> {
             )?;
             Ok(())
         }
+        Task::Run(path) => {
+            let _track = read_track(rt, path)?;
+            Ok(())
+        }
     }
+}
+
+/// The track of this file.
+fn read_track(rt: &(impl Files + AllocGlobal), path: &str) -> Result<Track, Failure> {
+    let Ok(file) = fs::open(rt, path) else {
+        return Err(Failure::Load(LoadFault::Unreadable));
+    };
+    Ok(load(rt.alloc(), &mut Stream::new(file))?)
 }
