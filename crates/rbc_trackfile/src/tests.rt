@@ -101,6 +101,34 @@ const CHANGES: &[(&str, &str, &str)] = &[
         "section.size = 1\n[[group]]",
         "Unknown section 1 section",
     ),
+    ("length = 1000\n", "", "Missing section 1 length"),
+    ("legs = [\"S1+\"]\n", "", "Missing route 1 legs"),
+    (
+        "format = 1",
+        "format = 1\nlink = [{ from = 5, to = \"S1+\" }]",
+        "Wrong link 1 from",
+    ),
+    (
+        "format = 1",
+        "format = 1\nlink = [{ from = \"S1\", to = \"S1+\" }]",
+        "Range link 1 from",
+    ),
+    (
+        "format = 1",
+        "format = 1\nlink = [{ from = \"S1+\", to = \"S1-\", size = 1 }]",
+        "Unknown link 1 size",
+    ),
+    ("country = 5", "country = \"5\"", "Wrong group 1 country"),
+    (
+        "[[route]]",
+        "[[group]]\ncountry = 5\nnumber = 17\nsection = \"S1\"\noffset = 9\nnominal = \"-\"\n[[route]]",
+        "TwiceNamed group 2",
+    ),
+    (
+        "[[route]]",
+        "[[route]]\nname = \"R1\"\nlegs = [\"S1-\"]\n[[route]]",
+        "TwiceNamed route 2",
+    ),
 ];
 
 /// Files, and their first fault.
@@ -134,6 +162,18 @@ const FILES: &[(&str, &str)] = &[
     (
         "format = 1\nroute = [{ name = \"R\", legs = [], \"\" = 1 }]",
         "Unknown route 1 ",
+    ),
+    (
+        "format = 1\nsection = [{ name = \"A\", length = 500, speeds = [[0, 100]], grades = [[0, 0]] }, { name = \"L\", length = 800, speeds = [[0, 60]], grades = [[0, 0]] }]\nroute = [{ name = \"RL\", after = \"A+\", legs = [\"L+\", \"A-\"] }]\nlink = [{ from = \"A+\", to = \"L+\" }]",
+        "Route route 1",
+    ),
+    (
+        "format = 1\nsection = [{ name = \"A\", length = 500, speeds = [[0, 100]], grades = [[0, 0]] }, { name = \"L\", length = 800, speeds = [[0, 60]], grades = [[0, 0]] }]\nroute = [{ name = \"RL\", after = \"A+\", legs = [\"L+\", \"A-\"] }]\nlink = [{ from = \"A+\", to = \"L+\" }, { from = \"L+\", to = \"A-\" }, { from = \"L-\", to = \"A-\" }]",
+        "Link link 3",
+    ),
+    (
+        "format = 1\nsection = [{ name = \"S1\", length = 1000, speeds = [[0, 100]], grades = [[0, 0]] }, { name = \"S2\", length = 500, speeds = [[0, 120]], grades = [[0, 3]] }, { name = \"S3\", length = 300, speeds = [[0, 40]], grades = [[0, 0]] }]\nlink = [{ from = \"S1+\", to = \"S2+\" }, { from = \"S2+\", to = \"S1+\" }, { from = \"S2+\", to = \"S3+\" }]\nroute = [{ name = \"R4\", after = \"S2+\", legs = [\"S1+\", \"S2+\", \"S3+\"] }]",
+        "Route route 1",
     ),
 ];
 
