@@ -1,2 +1,2 @@
-mod Certifying
-mod UnderWay
+mod CertifyingLemmas
+mod OverlongLemmas

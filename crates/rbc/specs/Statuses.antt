@@ -5,12 +5,10 @@ use Rattle.clap.specs.declared.error.kind.ErrorKind.{ErrorKind}
 use Rattle.clap.specs.declared.error.kind.ErrorKind.TheVariants.{DisplayHelp, DisplayVersion}
 use Rattle.rbc_model.specs.declared.sessions.SessionFault.{SessionFault}
 use Rattle.rbc_model.specs.declared.sessions.SessionFault.TheVariants.{Memory}
-use Rattle.rbc.specs.declared.failure.Failure.{Failure}
-use Rattle.rbc.specs.declared.failure.Failure.TheVariants.{CommandLine, Load, Session}
 use Rattle.rbc.specs.declared.load.LoadFault.{LoadFault}
-use Rattle.rbc.specs.declared.load.LoadFault.TheVariants.{Unreadable, File}
-use Rattle.rbc_trackfile.specs.declared.fault.FileFault.{FileFault}
-use Rattle.rbc_trackfile.specs.declared.fault.FileFault.TheVariants.{Memory as NoFileMemory}
+use Rattle.rbc.specs.declared.load.LoadFault.TheVariants.{Memory as NoLoadMemory}
+use Rattle.rbc.specs.declared.failure.Failure.{Failure}
+use Rattle.rbc.specs.declared.failure.Failure.TheVariants.{CommandLine, NotText, Load, Session, Memory as NoMemory}
 
 -- after a command line that asks for help, or that is refused
 abbrev pub status_of_kind : ErrorKind → ℕ
@@ -24,16 +22,14 @@ status_of_fault Memory = 5
 status_of_fault _ = 4
 
 -- after a track that can't be had
-abbrev pub status_of_file : FileFault → ℕ
-status_of_file NoFileMemory = 5
-status_of_file _ = 3
-
 abbrev pub status_of_load : LoadFault → ℕ
-status_of_load Unreadable = 3
-status_of_load (File fault) = status_of_file fault
+status_of_load NoLoadMemory = 5
+status_of_load _ = 3
 
 -- after any of them
 abbrev pub status_of : Failure → ℕ
 status_of (CommandLine error) = status_of_kind (kind_of error)
+status_of NotText = 2
 status_of (Load fault) = status_of_load fault
 status_of (Session fault) = status_of_fault fault
+status_of NoMemory = 5

@@ -5,7 +5,7 @@ ghost use Rattle.rbc.specs.Statuses.{status_of};
 
 use crate::load::LoadFault;
 use clap::error::ErrorKind;
-use rbc_trackfile::FileFault;
+use rbc_model::Memory;
 use rbc_words::SessionFault;
 use std::alloc::AllocError;
 use std::io;
@@ -24,10 +24,14 @@ const NO_MEMORY: u8 = 5;
 pub enum Failure {
     /// The command line is refused, or asks for help.
     CommandLine(clap::Error),
+    /// A word of the command line is no UTF-8.
+    NotText,
     /// There is no track.
     Load(LoadFault),
     /// A session ended before its input.
     Session(SessionFault),
+    /// Memory was refused.
+    Memory,
 }
 
 impl Failure {
@@ -40,9 +44,11 @@ impl Failure {
                 ErrorKind::DisplayHelp | ErrorKind::DisplayVersion => 0,
                 _ => REFUSED,
             },
-            Failure::Load(LoadFault::File(FileFault::Memory)) => NO_MEMORY,
+            Failure::NotText => REFUSED,
+            Failure::Load(LoadFault::Memory)
+            | Failure::Session(SessionFault::Memory)
+            | Failure::Memory => NO_MEMORY,
             Failure::Load(_) => NO_TRACK,
-            Failure::Session(SessionFault::Memory) => NO_MEMORY,
             Failure::Session(_) => SESSION_FAULT,
         }
     }
@@ -51,8 +57,12 @@ impl Failure {
     pub fn tell(&self, rt: &(impl Print + Eprint)) {
         let _ = match self {
             Failure::CommandLine(error) => error.print(rt),
+            Failure::NotText => eprintln!(rt;
+                "error: invalid UTF-8 was detected in one or more arguments"
+            ),
             Failure::Load(fault) => eprintln!(rt; "rbc: {fault}"),
             Failure::Session(fault) => eprintln!(rt; "rbc: {fault}"),
+            Failure::Memory => eprintln!(rt; "rbc: out of memory"),
         };
     }
 }
@@ -69,16 +79,25 @@ impl From<SessionFault> for Failure {
     }
 }
 
-impl From<AllocError> for Failure {
-    fn from(_refused: AllocError) -> Failure {
-        Failure::Session(SessionFault::Memory)
+impl From<Memory> for Failure {
+    fn from(_refused: Memory) -> Failure {
+        Failure::Memory
     }
 }
 
-/// What fails before a session begins finds no memory.
+impl From<AllocError> for Failure {
+    fn from(_refused: AllocError) -> Failure {
+        Failure::Memory
+    }
+}
+
+/// What fails before a session begins is a word of the command line that is no UTF-8, or finds no memory.
 impl From<io::Error> for Failure {
-    fn from(_refused: io::Error) -> Failure {
-        Failure::Session(SessionFault::Memory)
+    fn from(error: io::Error) -> Failure {
+        match error.kind() {
+            io::ErrorKind::InvalidData => Failure::NotText,
+            _ => Failure::Memory,
+        }
     }
 }
 
@@ -86,7 +105,7 @@ impl From<io::Error> for Failure {
 impl From<clap::Error> for Failure {
     fn from(error: clap::Error) -> Failure {
         match error.kind() {
-            ErrorKind::OutOfMemory => Failure::Session(SessionFault::Memory),
+            ErrorKind::OutOfMemory => Failure::Memory,
             _ => Failure::CommandLine(error),
         }
     }

@@ -16,7 +16,6 @@ use rbc_track::Track;
 use rbc_words::Stream;
 use std::env::Env;
 use std::fs::Files;
-use std::io::BufWriter;
 use std::process::ExitCode;
 use std::{env, fs, io};
 pub use steps::steps;
@@ -37,11 +36,10 @@ fn run(rt: &(impl Env + Files + Input + Print + AllocGlobal)) -> Result<(), Fail
     let words: Vec<String> = env::args(rt)?.collect(alloc)?;
     match command_line::read(alloc, words.as_slice())? {
         Task::Steps => {
-            let writer = BufWriter::new(alloc, io::writer(rt))?;
             steps(
                 alloc,
-                &mut Stream::new(rt.reader()),
-                &mut Stream::new(writer),
+                &mut Stream::reader(rt.reader()),
+                &mut Stream::writer(alloc, io::writer(rt))?,
             )?;
             Ok(())
         }
@@ -57,5 +55,5 @@ fn read_track(rt: &(impl Files + AllocGlobal), path: &str) -> Result<Track, Fail
     let Ok(file) = fs::open(rt, path) else {
         return Err(Failure::Load(LoadFault::Unreadable));
     };
-    Ok(load(rt.alloc(), &mut Stream::new(file))?)
+    Ok(load(rt.alloc(), &mut Stream::reader(file))?)
 }

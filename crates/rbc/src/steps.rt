@@ -1,20 +1,56 @@
-ghost use Rattle.std.specs.Prelude.{◌≡◌, ◌↔◌, ℕ, List, true, false, IsTrue, OnOk, Err};
+//! The session `rbc steps`: each line is answered by itself, in certified packets.
+
+ghost use Rattle.std.specs.Prelude.{◌≡◌, ◌↔◌, ℕ, List, [], true, false, IsTrue, OnOk, Err};
 ghost use Rattle.std.specs.Io.KnownBytes.{Consumes, IsAtEnd};
 ghost use Rattle.rbc_model.specs.declared.places.Format.TheVariants.{Near};
 ghost use Rattle.rbc_model.specs.StepsReply.{AnswersLine};
-ghost use Rattle.rbc_model.specs.Sessions.{IsSession};
+ghost use Rattle.rbc_model.specs.Talks.{IsTalk, EachByItself};
 
-use crate::answers::{answer, say};
+use crate::answers::reply_to;
 use rbc_model::{LineFault, StepsRefusal};
-use rbc_words::{Advance, LineReader, Reply, SessionFault, Sink, Source};
+use rbc_session::{Answers, SessionFault, converse};
+use rbc_streams::{Sink, Source, WriteFailed};
+use rbc_words::{StepsReply, print};
 use std::alloc::Global;
 
-/// How many lines a session treats.
-const MOST_LINES: u32 = 1_000_000;
-/// How many bytes a line may have.
-const LONGEST_LINE: usize = 4_096;
+/// Answers each line by itself: it keeps nothing.
+#[derive(Drop)]
+struct Certifier;
 
-/// Answers each line of the reader, in order, up to the end of the input or the first fault.
+impl Answers<()> for Certifier {
+    type State = ();
+
+    ghost use Rattle.rbc_model.specs.declared.places.Format.TheVariants.{Near};
+    ghost use Rattle.rbc_model.specs.StepsReply.{AnswersLine};
+    ghost use Rattle.rbc_model.specs.Talks.{EachByItself};
+
+    ghost state = { λ _. tt };
+
+    ghost answers = { EachByItself (AnswersLine Near) };
+
+    fn answer<W: Sink>(
+        &mut self,
+        alloc: Global,
+        _help: &(),
+        line: &[u8],
+        writer: &mut W,
+    ) -> Result<(), WriteFailed> {
+        print(&reply_to(alloc, line), writer)
+    }
+
+    fn refuse<W: Sink>(&mut self, _help: &(), writer: &mut W) -> Result<(), WriteFailed> {
+        let overlong = StepsReply::Refused(StepsRefusal::BadLine(LineFault::Overlong));
+        print(&overlong, writer)
+    }
+}
+
+/// Answers each line of the reader, in order, up to the end of the input or the first fault. Each reply is handed on
+/// before the next line is read.
+///
+/// # Errors
+/// `Memory` before anything is read or written. Then, for each line in order: `Read` where the reader fails, `Write`
+/// where the writer does, `Overlong` behind the reply to a line that is too long; `Lines` where a further byte comes
+/// after the last line that a session treats.
 pub fn steps<R: Source, W: Sink>(
     alloc: Global,
     reader: &mut R,
@@ -27,29 +63,18 @@ pub fn steps<R: Source, W: Sink>(
     ensures read { (result ≡ Err SessionFault.Read) ↔ IsTrue (R.failed reader.new) }
     ensures write { (result ≡ Err SessionFault.Write) ↔ IsTrue (W.failed writer.new) }
 
+    // Without memory nothing begins.
+    ensures memory { result ≡ Err SessionFault.Memory → (reader.new ≡ reader.old) × (writer.new ≡ writer.old) }
+
     // Ok is answered at the end of the input.
     ensures end { OnOk result (IsAtEnd (R.left reader.new)) }
 
     // What was written answers the lines of what was read.
-    ensures session { (input : List ℕ) × Consumes (R.left reader.old) (R.left reader.new) input
-        × IsSession (AnswersLine Near) input (W.written writer.old) (W.written writer.new) result }
+    ensures talk { (input : List ℕ) × Consumes (R.left reader.old) (R.left reader.new) input
+        × IsTalk (EachByItself (AnswersLine Near)) tt tt input (W.written writer.old) (W.written writer.new) result }
+
+    // And it was handed on, unless the writer failed.
+    ensures handed_on { W.failed writer.new ≡ false → W.held_back writer.old ≡ [] → W.held_back writer.new ≡ [] }
 {
-    let mut lines = LineReader::new(alloc, LONGEST_LINE)?;
-    for _ in 0..MOST_LINES {
-        match lines.advance(reader)? {
-            Advance::Line => answer(alloc, lines.line(), writer)?,
-            Advance::Overlong => {
-                say(
-                    &Reply::Refused(StepsRefusal::BadLine(LineFault::Overlong)),
-                    writer,
-                )?;
-                return Err(SessionFault::Overlong);
-            }
-            Advance::End => return Ok(()),
-        }
-    }
-    if lines.has_more(reader)? {
-        return Err(SessionFault::Lines);
-    }
-    Ok(())
+    converse(alloc, reader, writer, &mut Certifier, &())
 }

@@ -1,3 +1,5 @@
+//! The worked lines of `rbc steps`, over readers and writers in memory.
+
 use crate::steps;
 use rbc_words::{SessionFault, Stream};
 use std::alloc::{AllocError, Global};
@@ -50,9 +52,11 @@ impl Write for Room {
 
 // How a session over the input ends, and what it writes.
 fn session(alloc: Global, input: &[u8]) -> (Result<(), SessionFault>, Vec<u8>) {
-    let mut writer = Stream::new(Vec::new(alloc));
-    let outcome = steps(alloc, &mut Stream::new(input), &mut writer);
-    (outcome, writer.into_inner())
+    let Ok(mut writer) = Stream::writer(alloc, Vec::new(alloc)) else {
+        return (Err(SessionFault::Memory), Vec::new(alloc));
+    };
+    let outcome = steps(alloc, &mut Stream::reader(input), &mut writer);
+    (outcome, writer.into_writer())
 }
 
 const FIRST: &[u8] = b"speed 2 0:160 100:120 150:160 end 300";
@@ -160,33 +164,34 @@ fn refuses_lines(rt: HostRuntime) {
 }
 
 #[test]
-fn reads_in_any_pieces(rt: HostRuntime) {
+fn reads_in_any_pieces(rt: HostRuntime) -> Result<(), Fail> {
     for size in [1, 7, 70_000] {
         let pieces = Pieces {
             bytes: MIXED,
             size,
             fails: false,
         };
-        let mut writer = Stream::new(Vec::new(rt.alloc()));
-        let outcome = steps(rt.alloc(), &mut Stream::new(pieces), &mut writer);
+        let mut writer = Stream::writer(rt.alloc(), Vec::new(rt.alloc()))?;
+        let outcome = steps(rt.alloc(), &mut Stream::reader(pieces), &mut writer);
         assert_eq!(rt; outcome, Ok(()), "in {size}s");
-        assert_eq!(rt; writer.into_inner().as_slice(), MIXED_REPLY, "in {size}s");
+        assert_eq!(rt; writer.into_writer().as_slice(), MIXED_REPLY, "in {size}s");
     }
+    Ok(())
 }
 
 // The whole lines that came are answered, and no other.
 #[test]
-fn tells_a_read_fault(rt: HostRuntime) {
+fn tells_a_read_fault(rt: HostRuntime) -> Result<(), Fail> {
     for count in 0..MIXED.len() {
         let pieces = Pieces {
             bytes: &MIXED[..count],
             size: 5,
             fails: true,
         };
-        let mut writer = Stream::new(Vec::new(rt.alloc()));
-        let outcome = steps(rt.alloc(), &mut Stream::new(pieces), &mut writer);
+        let mut writer = Stream::writer(rt.alloc(), Vec::new(rt.alloc()))?;
+        let outcome = steps(rt.alloc(), &mut Stream::reader(pieces), &mut writer);
         assert_eq!(rt; outcome, Err(SessionFault::Read), "after {count}");
-        let written = writer.into_inner();
+        let written = writer.into_writer();
         assert!(rt;
             MIXED_REPLY.starts_with(written.as_slice()),
             "after {count}"
@@ -200,20 +205,23 @@ fn tells_a_read_fault(rt: HostRuntime) {
         };
         assert_eq!(rt; written.len(), replies, "after {count}");
     }
+    Ok(())
 }
 
 #[test]
-fn tells_a_write_fault(rt: HostRuntime) {
+fn tells_a_write_fault(rt: HostRuntime) -> Result<(), Fail> {
     for room in 0..MIXED_REPLY.len() {
-        let mut writer = Stream::new(Room {
+        let full = Room {
             taken: Vec::new(rt.alloc()),
             room,
-        });
-        let outcome = steps(rt.alloc(), &mut Stream::new(MIXED), &mut writer);
+        };
+        let mut writer = Stream::writer(rt.alloc(), full)?;
+        let outcome = steps(rt.alloc(), &mut Stream::reader(MIXED), &mut writer);
         assert_eq!(rt; outcome, Err(SessionFault::Write), "in {room}");
-        let taken = writer.into_inner().taken;
+        let taken = writer.into_writer().taken;
         assert_eq!(rt; taken.as_slice(), &MIXED_REPLY[..room], "in {room}");
     }
+    Ok(())
 }
 
 // A line of 4,097 letters, and a line behind it, which is not read.

@@ -1,2 +1,2 @@
-pub mod Cuts
-pub mod Taken
+pub mod CutLemmas
+pub mod TakingLemmas

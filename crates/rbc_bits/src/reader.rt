@@ -1,3 +1,5 @@
+//! Fields of so many bits each, read from bytes.
+
 ghost use Rattle.std.specs.Prelude.{◌≡◌, ℕ, ◌^◌, ◌<◌, ◌≤◌, length, take, drop, nat_lt, if◌then◌else◌, IfOk, OnOk, OnErr};
 ghost use Rattle.rbc_model.specs.Bits.{number_of, byte_bits};
 
@@ -43,11 +45,15 @@ impl<'a> BitReader<'a> {
         }
     }
 
-    /// The value of the next field, of so many bits, or [`Short`] where fewer are left, and then none is read.
+    /// The value of the next field, of so many bits, 0 to 32.
+    ///
+    /// # Errors
+    ///
+    /// [`Short`] where fewer are left, and then none is read.
     pub fn take(&mut self, width: u32) -> Result<u32, Short>
         requires { width ≤ 32 }
         ensures value { IfOk result (λ value. value ≡ number_of (take width self.old)) }
-        ensures narrow { IfOk result (λ value. value < 2 ^ width) }
+        ensures fits { IfOk result (λ value. value < 2 ^ width) }
         ensures rest { OnOk result (self.new ≡ drop width self.old) }
         ensures enough { OnOk result (width ≤ length self.old) }
         ensures short { OnErr result (length self.old < width) }
@@ -71,7 +77,7 @@ impl<'a> BitReader<'a> {
         Ok((pending >> filled) as u32)
     }
 
-    /// The number that the bits left spell, where they are fewer than eight.
+    /// The number that the bits left spell, 0 to 127, where they are fewer than eight; none where they are eight or more.
     pub fn last_bits(&self) -> Option<u8>
         ensures { result ≡ (if nat_lt (length self.now) 8 then Some (number_of self.now) else None) }
     {

@@ -1,3 +1,5 @@
+//! Fields of so many bits each, written into bytes.
+
 ghost use Rattle.std.specs.Prelude.{◌≡◌, ℕ, ◌+◌, ◌^◌, ◌<◌, ◌≤◌, [], ◌++◌, OnOk, OnErr};
 ghost use Rattle.rbc_model.specs.Bits.{bits_of, padded_bits, bytes_of};
 
@@ -41,9 +43,13 @@ impl BitWriter {
         }
     }
 
-    /// Writes a value in a field of so many bits, or nothing where there is no memory for it.
+    /// Writes a value in a field of so many bits, 0 to 32.
+    ///
+    /// # Errors
+    ///
+    /// [`Memory`] where there is none for it, and then nothing is written.
     pub fn put(&mut self, width: u32, value: u32) -> Result<(), Memory>
-        requires narrow { width ≤ 32 }
+        requires at_most_32 { width ≤ 32 }
         requires fits { value < 2 ^ width }
         ensures written { OnOk result (self.new ≡ self.old ++ bits_of width value) }
         ensures refused { OnErr result (self.new ≡ self.old) }

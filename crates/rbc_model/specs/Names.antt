@@ -1,6 +1,7 @@
 -- Names of sections and routes, and legs as they are written.
-use Rattle.std.specs.Prelude.{ℕ, ◌-◌, ◌&&◌, ◌||◌, Bool, List, [], ◌∷◌, ◌++◌, length, take, drop, Option, Some, None, nat_le, ◌==◌, if◌then◌else◌}
+use Rattle.std.specs.Prelude.{ℕ, ◌-◌, ◌&&◌, ◌||◌, Bool, List, [], ◌∷◌, ◌++◌, length, take, drop, Option, Some, None, ◌==◌, if◌then◌else◌}
 use Rattle.std.specs.List.{list_all}
+use Rattle.rbc_model.specs.declared.limits.TheConstants.{LONGEST_NAME}
 use Rattle.rbc_model.specs.Results.{is_from_to}
 use Rattle.rbc_model.specs.declared.places.Direction.{Direction}
 use Rattle.rbc_model.specs.declared.places.Direction.TheVariants.{Rising, Falling}
@@ -11,7 +12,7 @@ is_name_byte byte = is_from_to 65 90 byte || is_from_to 97 122 byte || is_from_t
 
 -- a name has 1 to 16 of them
 abbrev pub is_name : List ℕ → Bool
-is_name text = is_from_to 1 16 (length text) && list_all is_name_byte text
+is_name text = is_from_to 1 LONGEST_NAME (length text) && list_all is_name_byte text
 
 -- the name that a text is
 abbrev pub name_in : List ℕ → Option (List ℕ)

@@ -3,10 +3,10 @@ use Rattle.std.specs.Prelude.{bytes_eq, ℕ, List, length, map, position, Option
 use Rattle.std.specs.Option.{unwrap_or}
 use Rattle.rbc_model.specs.declared.places.Direction.{Direction}
 use Rattle.rbc_model.specs.declared.places.Leg.{Leg}
-use Rattle.rbc_model.specs.declared.places.GroupName.{GroupName}
+use Rattle.rbc_model.specs.GroupNames.{GroupName}
 use Rattle.rbc_model.specs.declared.places.Format.TheVariants.{Near}
 use Rattle.rbc_model.specs.declared.tracks.Link.{Link}
-use Rattle.rbc_model.specs.declared.tracks.Group.{Group}
+use Rattle.rbc_model.specs.declared.tracks.BaliseGroup.{BaliseGroup}
 use Rattle.rbc_model.specs.declared.tracks.TrackRefusal.{TrackRefusal}
 use Rattle.rbc_model.specs.Results.{unless}
 use Rattle.rbc_model.specs.Names.{LegName}
@@ -51,7 +51,7 @@ module _ (sections : List Section) where
   abbrev pub link_of : LinkPart → Link
   link_of link = record { from = leg_of link.from; to = leg_of link.to }
 
-  abbrev pub group_of : GroupPart → Group
+  abbrev pub group_of : GroupPart → BaliseGroup
   group_of group = record { name = group.name; section = section_number group.section; offset = group.offset; nominal = group.nominal }
 
   abbrev pub route_of : RoutePart → Route

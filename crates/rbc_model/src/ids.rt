@@ -1,3 +1,4 @@
+//! The numbers of sections and routes in their track.
 ghost use Rattle.std.specs.Prelude.{◌≡◌};
 
 use std::marker::Model;

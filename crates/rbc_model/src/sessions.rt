@@ -1,25 +1,28 @@
+//! How a session over lines of text ends.
+
 ghost use Rattle.std.specs.Prelude.{◌≡◌};
 ghost use Rattle.rbc_model.specs.declared.sessions.SessionFault.TheVariants.{Memory as NoMemory};
 
 use crate::Memory;
 use thiserror::Error;
 
-/// Why a session over lines of text ends before the end of its input.
+/// Why a session over lines of text ends before the end of its input. `Memory` comes before anything is read. Then, for
+/// each line in order, come `Read`, `Write` and `Overlong`, and after the last line that is treated `Read` and `Lines`.
 #[derive(Clone, Copy, Debug, PartialEq, Eq, Error)]
 pub enum SessionFault {
-    /// The reader failed.
+    /// The reader failed. Each line that was treated has its whole reply.
     #[error("read fault")]
     Read,
-    /// The writer failed.
+    /// The writer failed. A part of the replies is written, from their start.
     #[error("write fault")]
     Write,
     /// The input goes on after 1,000,000 lines.
     #[error("too many lines")]
     Lines,
-    /// A line has more than 4,096 bytes.
+    /// A line has more than 4,096 bytes. It is refused, and no line after it is treated.
     #[error("overlong line")]
     Overlong,
-    /// There is no memory to keep a line in.
+    /// There is no memory to keep a line in. Nothing is read or written.
     #[error("out of memory")]
     Memory,
 }

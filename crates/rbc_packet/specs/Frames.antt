@@ -1,8 +1,8 @@
 -- What the header and packet 15 tell, as their readers have it.
 use Rattle.rbc_model.specs.Messages.{direction_of}
 use Rattle.rbc_model.specs.Reading.{Frame, Header}
-use Rattle.rbc_packet.specs.declared.frame.Frame.{Frame as NearFrame}
-use Rattle.rbc_packet.specs.declared.read_header.Header.{Header as TrainHeader}
+use Rattle.rbc_packet.specs.declared.packet_15.Frame.{Frame as NearFrame}
+use Rattle.rbc_packet.specs.declared.header.Header.{Header as TrainHeader}
 
 abbrev pub header_view : TrainHeader → Header
 header_view header = record { time = header.time; group = header.group }

@@ -1,23 +1,51 @@
 -- How a packet tells a profile, the same for each kind of level.
-use Rattle.std.specs.Prelude.{◌≡◌, ℕ, zero, suc, pred, ◌+◌, ℤ, Bool, ◌&&◌, List, [], ◌∷◌, Result, Ok, Err, nat_le, ◌==◌}
+use Rattle.std.specs.Prelude.{◌≡◌, ℕ, zero, suc, pred, ◌+◌, ℤ, Bool, ◌&&◌, List, [], ◌∷◌, Result, Ok, Err, nat_le, ◌==◌, ◌++◌, length, ◌-◌, ◌/◌}
 use Rattle.rbc_model.specs.declared.messages.Fault.{Fault}
 use Rattle.rbc_model.specs.declared.messages.Fault.TheVariants.{Length}
 use Rattle.rbc_model.specs.declared.messages.FieldName.{FieldName}
 use Rattle.rbc_model.specs.declared.messages.FieldName.TheVariants.{NID_PACKET, Q_DIR, L_PACKET, Q_SCALE, N_ITER, D_GRADIENT, Q_GDIR, G_A, D_STATIC, V_STATIC, Q_FRONT}
-use Rattle.rbc_model.specs.Messages.{gradient_length, speed_length}
+use Rattle.rbc_model.specs.declared.limits.TheConstants.{GRADIENT_PACKET, GRADIENT_END_MARK, SPEED_PACKET, SPEED_STEP, SPEED_END_MARK}
+use Rattle.rbc_model.specs.Messages.{direction_of, gradient_fields, gradient_length, speed_length}
 use Rattle.rbc_model.specs.Profiles.{StepFunction}
 use Rattle.rbc_model.specs.Readers.{Reader, answer, ◌>>=◌, ◌>>◌, expect, field, any_field, fixed_field}
 use Rattle.rbc_model.specs.Reading.{gradient_value_at, speed_value_at}
 
--- How a packet tells a profile: its number, its bits for so many steps, the field of its distances, a value, and the mark at the end.
+-- How a packet tells a profile: its number, its bits for so many steps, the field of its distances, the fields of a value and of the mark
+-- at the end, and how these two are read.
 pub record Layout (V : Type 0) : Type 0 where
   pub number : ℕ
   pub bits : ℕ → ℕ
   pub distance : FieldName
+  pub value_fields : V → List (FieldName × ℕ)
+  pub mark_fields : List (FieldName × ℕ)
   pub value_at : Reader V
   pub mark_at : Reader (Unit {0})
 
 module _ {V : Type 0} (layout : Layout V) where
+  -- each later step with its distance from the one before, in metres; at the end the mark
+  abbrev pub elements : ℕ → ℕ → List (ℕ × V) → List (FieldName × ℕ)
+  elements end from [] = (layout.distance, end - from) ∷ layout.mark_fields
+  elements end from (step ∷ later) =
+      (layout.distance, step.0 - from) ∷ layout.value_fields step.1 ++ elements end step.0 later
+
+  -- what stands before the later ones of so many steps, with this direction and this first value
+  abbrev pub profile_head : ℕ → V → ℕ → List (FieldName × ℕ)
+  profile_head direction first steps =
+      (NID_PACKET, layout.number)
+      ∷ (Q_DIR, direction)
+      ∷ (L_PACKET, layout.bits steps)
+      ∷ (Q_SCALE, 1)
+      ∷ (layout.distance, 0)
+      ∷ layout.value_fields first
+      ++ (N_ITER, steps)
+      ∷ []
+
+  -- the packet of a profile up to an end that is told in metres; a profile has a step
+  abbrev pub profile_fields : Bool → ℕ → List (ℕ × V) → List (FieldName × ℕ)
+  profile_fields nominal end [] = []
+  profile_fields nominal end (first ∷ later) =
+      profile_head (direction_of nominal) first.1 (length (first ∷ later)) ++ elements end 0 later
+
   -- the end element behind a step that starts at a metre: it lies at the end
   abbrev pub end_at : ℕ → ℕ → Reader (Unit {0})
   end_at end from = do
@@ -59,32 +87,35 @@ module _ {V : Type 0} (layout : Layout V) where
   abbrev pub profile_at : ℕ → ℕ → Reader (List (ℕ × V))
   profile_at direction end = profile_by (elements_at end) direction
 
--- A call that reads a profile up to this end does as a reader of its steps: on Ok these steps, and the bits after them are left; on Err the reader's fault.
+-- A call that reads a profile up to this end does as a reader of its steps: on Ok these steps, and the bits after them are left; on Err
+-- the reader's fault.
 abbrev pub ReadsProfile : {V : Type 0} → Reader (List (ℕ × V)) → ℕ → List Bool → List Bool → Result (StepFunction V) Fault → Type 0
 ReadsProfile reader end old new (Ok profile) = (reader old ≡ Ok (profile.steps, new)) × (profile.end ≡ end)
 ReadsProfile reader end old new (Err fault) = reader old ≡ Err fault
 
--- the end mark of gradients: 255, downhill
+-- the end mark of gradients, downhill
 abbrev pub gradient_mark_at : Reader (Unit {0})
 gradient_mark_at = do
   uphill ← any_field Q_GDIR
-  field G_A (λ size. (size == 255) && (uphill == 0))
+  field G_A (λ size. (size == GRADIENT_END_MARK) && (uphill == 0))
   answer tt
 
 -- gradients, in packet 21
 abbrev pub gradient_layout : Layout ℤ
 gradient_layout = record {
-  number = 21;
+  number = GRADIENT_PACKET;
   bits = gradient_length;
   distance = D_GRADIENT;
+  value_fields = gradient_fields;
+  mark_fields = (Q_GDIR, 0) ∷ (G_A, GRADIENT_END_MARK) ∷ [];
   value_at = gradient_value_at;
   mark_at = gradient_mark_at;
 }
 
--- the end mark of speeds: 127
+-- the end mark of speeds
 abbrev pub speed_mark_at : Reader (Unit {0})
 speed_mark_at = do
-  fixed_field V_STATIC 127
+  fixed_field V_STATIC SPEED_END_MARK
   fixed_field Q_FRONT 0
   fixed_field N_ITER 0
   answer tt
@@ -92,9 +123,11 @@ speed_mark_at = do
 -- speeds, in packet 27
 abbrev pub speed_layout : Layout ℕ
 speed_layout = record {
-  number = 27;
+  number = SPEED_PACKET;
   bits = speed_length;
   distance = D_STATIC;
+  value_fields = λ speed. (V_STATIC, speed / SPEED_STEP) ∷ (Q_FRONT, 0) ∷ (N_ITER, 0) ∷ [];
+  mark_fields = (V_STATIC, SPEED_END_MARK) ∷ (Q_FRONT, 0) ∷ (N_ITER, 0) ∷ [];
   value_at = speed_value_at;
   mark_at = speed_mark_at;
 }

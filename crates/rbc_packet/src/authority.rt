@@ -1,17 +1,17 @@
+//! What message 3 says to one train.
+
 ghost use Rattle.std.specs.Prelude.{◌≡◌, ◌≤◌, ◌==◌, ◌&&◌};
+ghost use Rattle.rbc_model.specs.declared.limits.TheConstants.{LAST_COUNTRY, LAST_GROUP, MOST_STEPS};
 ghost use Rattle.rbc_model.specs.declared.places.Format.TheVariants.{Near};
 ghost use Rattle.rbc_model.specs.Levels.{speed_levels, grade_levels};
 ghost use Rattle.rbc_model.specs.Messages.{authority_of, IsAuthority};
-ghost use Rattle.rbc_model.specs.Profiles.{IsProfile, most_steps};
+ghost use Rattle.rbc_model.specs.Profiles.{IsProfile};
 ghost use Rattle.rbc_model.specs.Scales.{is_expressible};
-ghost use Rattle.rbc_packet.specs.Authorities.{is_name};
 
 use crate::Group;
+use rbc_model::limits::FARTHEST_END;
 use rbc_steps::{Grade, Profile, Speed};
 use std::marker::Model;
-
-/// How many metres from its balise group an authority may end at most, where the message counts in metres (Q_SCALE 1).
-const FARTHEST: u32 = 32_000;
 
 /// What message 3 says to one train: the time of its report, the balise group that distances count from, whether the train runs in that
 /// group's nominal direction, how far it may run, at which speeds and over which gradients (ERA SUBSET-026 3.6.0, section 3.8).
@@ -34,13 +34,13 @@ impl Model for Authority {
 
     ghost view = { λ a. authority_with a.time a.group a.nominal a.speeds a.grades };
 
-    ghost invariant = { λ a. IsAuthority Near (authority_with a.time a.group a.nominal a.speeds a.grades) × (a.grades.end ≡ a.speeds.end) };
+    ghost invariant = { λ a. IsAuthority Near (authority_with a.time a.group a.nominal a.speeds a.grades)
+        × (a.grades.end ≡ a.speeds.end) };
 }
 
 impl Authority {
     /// The authority with these parts: `time` is that of the train's report, in the train's own count, and `nominal` whether the train runs
-    /// in the group's nominal direction. None where the profiles do not end at one metre, where that lies beyond 32,000 m, and where no
-    /// message can name the group: its country or region is above 1,023 (NID_C), or its number above 16,382 (NID_BG).
+    /// in the group's nominal direction. None where the profiles do not end at one metre, or where that lies beyond 32,000 m.
     pub fn new(
         time: u32,
         group: Group,
@@ -50,7 +50,7 @@ impl Authority {
     ) -> Option<Authority>
         ensures { result ≡ authority_of time group nominal speeds grades }
     {
-        if !has_room(group, &speeds, &grades) {
+        if !end_in_metres(&speeds, &grades) {
             return None;
         }
         Some(Authority {
@@ -72,8 +72,8 @@ impl Authority {
     /// The balise group that distances count from: its country or region (NID_C) is 0 to 1,023, its number there (NID_BG) 0 to 16,382.
     pub fn group(&self) -> Group
         ensures group { result ≡ self.now.group }
-        ensures country { result.country ≤ 1023 }
-        ensures number { result.number ≤ 16382 }
+        ensures country { result.country ≤ LAST_COUNTRY }
+        ensures number { result.number ≤ LAST_GROUP }
     {
         self.group
     }
@@ -110,25 +110,11 @@ impl Authority {
     }
 }
 
-/// Whether the message has room for these profiles from this group.
-fn has_room(group: Group, speeds: &Profile<Speed>, grades: &Profile<Grade>) -> bool
-    ensures room { result ≡ ((grades.now.end == speeds.now.end) && (is_expressible Near speeds.now.end && is_name group)) }
-    ensures slow { IsProfile speed_levels 1 most_steps speeds.now.end speeds.now.steps }
-    ensures slight { IsProfile grade_levels 1 most_steps grades.now.end grades.now.steps }
+/// Whether the profiles end at one metre, up to 32,000 m, so that the message counts in metres.
+fn end_in_metres(speeds: &Profile<Speed>, grades: &Profile<Grade>) -> bool
+    ensures ends { result ≡ ((grades.now.end == speeds.now.end) && is_expressible Near speeds.now.end) }
+    ensures speeds { IsProfile speed_levels 1 MOST_STEPS speeds.now.end speeds.now.steps }
+    ensures grades { IsProfile grade_levels 1 MOST_STEPS grades.now.end grades.now.steps }
 {
-    grades.end() == speeds.end() && is_near(speeds.end()) && is_name(group)
-}
-
-/// Whether an authority may end so many metres from its group.
-fn is_near(end: u32) -> bool
-    ensures { result ≡ is_expressible Near end }
-{
-    (1..=FARTHEST).contains(&end)
-}
-
-/// Whether the message can name the group.
-fn is_name(group: Group) -> bool
-    ensures { result ≡ is_name group }
-{
-    group.country <= 1_023 && group.number <= 16_382
+    grades.end() == speeds.end() && (1..=FARTHEST_END).contains(&speeds.end())
 }

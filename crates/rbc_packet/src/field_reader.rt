@@ -1,4 +1,7 @@
-ghost use Rattle.std.specs.Prelude.{◌≡◌, ◌==◌, Bool, List, ◌^◌, ◌<◌, ◌≤◌, nat_le, if◌then◌else◌, IfOk};
+//! Fields read one after another, each with the values that it may have.
+
+ghost use Rattle.std.specs.Prelude.{◌≡◌, ◌==◌, Bool, List, ◌^◌, ◌<◌, ◌≤◌};
+ghost use Rattle.std.specs.Prelude.{nat_le, if◌then◌else◌, IfOk};
 ghost use Rattle.rbc_model.specs.Messages.{width_of};
 ghost use Rattle.rbc_model.specs.Readers.{any_field, expect, fault_of, field, fixed_field};
 ghost use Rattle.rbc_model.specs.Results.{is_from_to};
@@ -11,7 +14,7 @@ use rbc_model::{Fault, FieldName};
 /// The next field, with any value.
 pub(crate) fn any_field(bits: &mut BitReader, name: FieldName) -> Result<u32, Fault>
     ensures read { Reads (any_field name) bits.old bits.new result }
-    ensures narrow { IfOk result (λ value. value < 2 ^ width_of name) }
+    ensures fits { IfOk result (λ value. value < 2 ^ width_of name) }
 {
     bits.take(width_of(name)).map_err(|_| Fault::Short)
 }
@@ -24,9 +27,9 @@ pub(crate) fn field_from_to(
     high: u32,
 ) -> Result<u32, Fault>
     ensures read { Reads (field name (is_from_to low high)) bits.old bits.new result }
-    ensures narrow { IfOk result (λ value. value < 2 ^ width_of name) }
-    ensures from { IfOk result (λ value. low ≤ value) }
-    ensures to { IfOk result (λ value. value ≤ high) }
+    ensures fits { IfOk result (λ value. value < 2 ^ width_of name) }
+    ensures at_least_low { IfOk result (λ value. low ≤ value) }
+    ensures at_most_high { IfOk result (λ value. value ≤ high) }
 {
     let value = any_field(bits, name)?;
     allowed_value(name, value, is_from_to(low, high, value))
@@ -35,7 +38,7 @@ pub(crate) fn field_from_to(
 /// The next field, with a value of at least 1.
 pub(crate) fn positive_field(bits: &mut BitReader, name: FieldName) -> Result<u32, Fault>
     ensures read { Reads (field name (nat_le 1)) bits.old bits.new result }
-    ensures narrow { IfOk result (λ value. value < 2 ^ width_of name) }
+    ensures fits { IfOk result (λ value. value < 2 ^ width_of name) }
     ensures positive { IfOk result (λ value. 1 ≤ value) }
 {
     let value = any_field(bits, name)?;

@@ -1,3 +1,5 @@
+//! Fields and their widths, written in a row.
+
 ghost use Rattle.std.specs.Prelude.{◌≡◌, ℕ, ◌^◌, ◌<◌, ◌≤◌, ◌++◌, OnOk, All};
 ghost use Rattle.rbc_model.specs.Messages.{width_of, direction_of};
 ghost use Rattle.rbc_packet.specs.Fields.{bits_of_fields};
@@ -11,7 +13,7 @@ pub(crate) type Field = (FieldName, u32);
 /// How many bits the field has.
 pub(crate) fn width_of(name: FieldName) -> u32
     ensures width { result ≡ width_of name }
-    ensures narrow { result ≤ 32 }
+    ensures at_most_32 { result ≤ 32 }
 {
     match name {
         FieldName::M_ACK
@@ -33,9 +35,13 @@ pub(crate) fn width_of(name: FieldName) -> u32
     }
 }
 
+/// Q_SCALE: distances are in metres.
+pub(crate) const METRES: u32 = 1;
+
 /// Q_DIR: 1 in the group's nominal direction, 0 against it.
 pub(crate) fn direction_of(nominal: bool) -> u32
-    ensures { result ≡ direction_of nominal }
+    ensures direction { result ≡ direction_of nominal }
+    ensures fits { result < 2 ^ 2 }
 {
     u32::from(nominal)
 }

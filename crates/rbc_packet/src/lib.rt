@@ -6,23 +6,20 @@ mod authority;
 mod encoded;
 mod field_reader;
 mod fields;
-mod frame;
-mod grade;
+mod header;
 mod message;
-mod message_reader;
-mod read_gradients;
-mod read_header;
-mod read_packet_15;
-mod read_profile;
-mod read_speeds;
-mod speed;
+mod packet_15;
+mod packet_21;
+mod packet_27;
+mod profile;
 
 pub use authority::Authority;
-pub use grade::write_grade;
-pub use message::write_message;
-pub use message_reader::read_message;
+pub use encoded::Encoded;
+pub use message::{read_message, write_message};
+pub use packet_21::write_grade;
+pub use packet_27::write_speed;
+pub use profile::write_profile;
 pub use rbc_model::GroupName as Group;
-pub use speed::write_speed;
 
 #[cfg(test)]
 mod tests;

@@ -1,82 +1,80 @@
-ghost use Rattle.std.specs.Prelude.{◌≡◌, ◌<◌, ◌≤◌, ◌^◌, ◌++◌, OnOk, IfOk};
-ghost use Rattle.rbc_model.specs.Messages.{message_bytes, message_length, packet_15};
-ghost use Rattle.rbc_packet.specs.Fields.{bits_of_fields, header};
+//! Message 3, the movement authority (ERA SUBSET-026 3.6.0, chapter 8), with packets 15, 21 and 27.
+
+ghost use Rattle.std.specs.Prelude.{◌≡◌, [], IfOk};
+ghost use Rattle.rbc_model.specs.declared.places.Format.TheVariants.{Near};
+ghost use Rattle.rbc_model.specs.Messages.{message_bytes};
+ghost use Rattle.rbc_model.specs.Reading.{filling_at, read_message};
+ghost use Rattle.rbc_packet.specs.Reads.{Reads};
+ghost use Rattle.rbc_packet.specs.Spellings.{IsOneSpelling};
 
 use crate::Authority;
-use crate::fields::{direction_of, put_fields};
-use crate::grade::{gradient_length, put_gradients};
-use crate::speed::{put_speeds, speed_length};
-use rbc_bits::BitWriter;
-use rbc_model::{FieldName, Memory};
+use crate::header::{put_header, read_header};
+use crate::packet_15::{put_packet_15, read_packet_15};
+use crate::packet_21::read_packet_21;
+use crate::packet_27::read_packet_27;
+use crate::profile::put_profile;
+use rbc_bits::{BitReader, BitWriter};
+use rbc_model::{Fault, Memory};
 use std::alloc::Global;
 
-#[cfg(test)]
-mod tests;
-
-/// Message 3, the movement authority (ERA SUBSET-026 3.6.0, chapter 8), with packets 15, 21 and 27, filled up with zeros to whole bytes.
+/// The message of an authority, filled up with zeros to whole bytes: 39 to 234 bytes.
+///
+/// # Errors
+///
+/// [`Memory`] where there is none for the bytes.
 pub fn write_message(alloc: Global, authority: &Authority) -> Result<Vec<u8>, Memory>
     ensures { IfOk result (λ bytes. bytes.items ≡ message_bytes authority.now) }
 {
     let mut bits = BitWriter::new(alloc);
     let nominal = authority.nominal();
     put_header(&mut bits, authority)?;
-    put_end(&mut bits, authority.end(), nominal)?;
-    put_gradients(&mut bits, authority.grades(), nominal)?;
-    put_speeds(&mut bits, authority.speeds(), nominal)?;
+    put_packet_15(&mut bits, authority.end(), nominal)?;
+    put_profile(&mut bits, authority.grades(), nominal)?;
+    put_profile(&mut bits, authority.speeds(), nominal)?;
     Ok(bits.finish())
 }
 
-/// What stands before the packets: the message's number and length, the time of the train's report and the balise group. No acknowledgement
-/// is asked for.
-fn put_header(bits: &mut BitWriter, authority: &Authority) -> Result<(), Memory>
-    ensures { OnOk result (bits.new ≡ bits.old ++ bits_of_fields (header authority.now)) }
+/// The authority that the bytes of a message tell. It takes no memory.
+///
+/// # Errors
+///
+/// The first fault, in the order in which the message stands. Of each field it is [`Fault::Short`] where its bits are missing, and where its
+/// value is not allowed [`Fault::Number`] of a message or packet, and [`Fault::Field`] of any other field. Between them come
+///
+/// 1. behind the message's length, [`Fault::Short`] where it says more bytes than there are, and [`Fault::Extra`] where it says fewer;
+/// 2. behind packet 15's length, [`Fault::Length`] where it is not 66 bits;
+/// 3. behind the number of steps of packet 21, and then of packet 27, [`Fault::Length`] where the packet's length does not fit it;
+/// 4. behind the last packet, [`Fault::Length`] where eight bits or more are left, and [`Fault::Padding`] where one of fewer is set.
+pub fn read_message(bytes: &[u8]) -> Result<Authority, Fault>
+    ensures read { result ≡ read_message Near bytes.now }
+
+    // What was written is read back, and no second spelling is accepted.
+    ensures spelling { IsOneSpelling bytes.now result }
 {
-    let length = message_length(authority);
-    let group = authority.group();
-    put_fields(
-        bits,
-        &[
-            (FieldName::NID_MESSAGE, 3),
-            (FieldName::L_MESSAGE, length),
-            (FieldName::T_TRAIN, authority.time()),
-            (FieldName::M_ACK, 0),
-            (FieldName::NID_C, u32::from(group.country)),
-            (FieldName::NID_BG, u32::from(group.number)),
-        ],
-    )
+    read_fields(bytes)
 }
 
-/// How many bytes the message takes, its padding included (L_MESSAGE): its header has 75 bits, and packet 15 has 66.
-fn message_length(authority: &Authority) -> u32
-    ensures length { result ≡ message_length authority.now }
-    ensures short { result < 2 ^ 10 }
+/// The same, field by field.
+fn read_fields(bytes: &[u8]) -> Result<Authority, Fault>
+    ensures { result ≡ read_message Near bytes.now }
 {
-    let gradients = authority.grades().steps().len() as u32;
-    let speeds = authority.speeds().steps().len() as u32;
-    (75 + 66 + gradient_length(gradients) + speed_length(speeds)).div_ceil(8)
+    let mut bits = BitReader::new(bytes);
+    let header = read_header(&mut bits, bytes.len())?;
+    let frame = read_packet_15(&mut bits)?;
+    let grades = read_packet_21(&mut bits, &frame)?;
+    let speeds = read_packet_27(&mut bits, &frame)?;
+    read_filling(&bits)?;
+    // The profiles end with the frame.
+    Ok(Authority::new(header.time, header.group, frame.nominal, speeds, grades).unwrap())
 }
 
-/// Packet 15, the level 2 movement authority: one section to the end, in metres (Q_SCALE 1), with target speed 0 there, no time-out, no
-/// timers, no danger point and no overlap.
-fn put_end(bits: &mut BitWriter, end: u32, nominal: bool) -> Result<(), Memory>
-    requires { end ≤ 32000 }
-    ensures { OnOk result (bits.new ≡ bits.old ++ bits_of_fields (packet_15 nominal end)) }
+/// What is left behind the last packet: fewer than eight bits, and none is set.
+fn read_filling(bits: &BitReader) -> Result<(), Fault>
+    ensures { Reads filling_at bits.now [] result }
 {
-    put_fields(
-        bits,
-        &[
-            (FieldName::NID_PACKET, 15),
-            (FieldName::Q_DIR, direction_of(nominal)),
-            (FieldName::L_PACKET, 66),
-            (FieldName::Q_SCALE, 1),
-            (FieldName::V_LOA, 0),
-            (FieldName::T_LOA, 1_023),
-            (FieldName::N_ITER, 0),
-            (FieldName::L_ENDSECTION, end),
-            (FieldName::Q_SECTIONTIMER, 0),
-            (FieldName::Q_ENDTIMER, 0),
-            (FieldName::Q_DANGERPOINT, 0),
-            (FieldName::Q_OVERLAP, 0),
-        ],
-    )
+    match bits.last_bits() {
+        None => Err(Fault::Length),
+        Some(0) => Ok(()),
+        Some(_) => Err(Fault::Padding),
+    }
 }

@@ -1,7 +1,7 @@
 ghost use Rattle.std.specs.Prelude.{ℕ, ◌≡◌, ◌↔◌, IsSome, IfSome};
 ghost use Rattle.rbc_model.specs.Levels.{IsInRange};
-ghost use Rattle.rbc_rows.specs.PowerLevels.{power_levels};
-ghost use Rattle.rbc_rows.proofs.PowerLaws.{power_lawful, power_in_order};
+ghost use Rattle.rbc_powers.specs.PowerLevels.{power_levels};
+ghost use Rattle.rbc_powers.specs.PowerLaws.{power_lawful, power_in_order};
 
 use rbc_steps::Level;
 use std::marker::Model;

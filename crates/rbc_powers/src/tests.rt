@@ -5,7 +5,6 @@ use rbc_model::{AppendFault, Memory, ProfileFault, RunsFault};
 use rbc_reduce::{Reduced, reduce};
 use rbc_steps::{Grade, Level, Profile, Runs, Speed};
 use std::process::Abort;
-use std::test::Fail;
 
 fn speed(rt: &impl Abort, kmh: u16) -> Speed {
     Speed::new(kmh).expect(rt, "a speed")
@@ -56,18 +55,20 @@ fn has_runs<V: Level>(
     track.runs() == rows_of(rt, low, high, rows).as_slice()
 }
 
-/// The level of a track at a metre that it has.
-fn at<V: Level>(rt: &impl Abort, track: &Runs<V>, x: u32) -> V {
-    assert!(rt; x < track.end());
-    track.at(x)
+/// The track that rows of single levels make.
+fn track_from<V: Level>(rt: &(impl Abort + AllocGlobal), rows: &[(u32, V)], end: u32) -> Runs<V> {
+    let rows = rows.to_vec(rt.alloc()).expect(rt, "memory");
+    Runs::new(rows, end).expect(rt, "a track")
 }
 
 /// Walks over a track of two levels: its runs, its single metres, its changes, and the track turned.
 fn walk_track<V: Level>(rt: &(impl Abort + AllocGlobal), low: V, high: V) {
     let track = track_of(rt, low, high, &[(0, false), (10, false), (20, true)], 30);
     assert!(rt; has_runs(rt, &track, low, high, &[(0, false), (20, true)]));
-    assert!(rt; at(rt, &track, 0) == low && at(rt, &track, 19) == low);
-    assert!(rt; at(rt, &track, 20) == high && at(rt, &track, 29) == high);
+    for (x, is_high) in [(0, false), (19, false), (20, true), (29, true)] {
+        assert!(rt; x < track.end());
+        assert!(rt; (track.at(x) == high) == is_high);
+    }
     let breaks = track.breaks(rt.alloc()).expect(rt, "memory");
     assert_eq!(rt; breaks.as_slice(), [0, 20, 30].as_slice());
     let back = track.reversed(rt.alloc()).expect(rt, "memory");
@@ -75,27 +76,20 @@ fn walk_track<V: Level>(rt: &(impl Abort + AllocGlobal), low: V, high: V) {
     assert_eq!(rt; back.end(), 30);
 }
 
-/// Puts tracks behind one another, with one level at the seam and with two.
+/// Puts tracks behind one another: one of the last level, one that begins with it, one that does not, and one that is too long.
 fn append_tracks<V: Level>(rt: &(impl Abort + AllocGlobal), low: V, high: V) {
     let mut track = track_of(rt, low, high, &[(0, false), (20, true)], 30);
-    let other = track_of(rt, low, high, &[(0, true), (5, false)], 10);
-    assert!(rt; track.append(&other).is_ok());
-    assert!(rt;
-        has_runs(
-            rt,
-            &track,
-            low,
-            high,
-            &[(0, false), (20, true), (35, false)]
-        )
-    );
-    assert!(rt; track.append(&other).is_ok());
-    let both = [(0, false), (20, true), (35, false), (40, true), (45, false)];
-    assert!(rt; has_runs(rt, &track, low, high, &both));
-    assert_eq!(rt; track.end(), 50);
-    let long = track_of(rt, low, high, &[(0, false)], 99_951);
+    let one = track_of(rt, low, high, &[(0, true)], 5);
+    assert!(rt; track.append(&one).is_ok());
+    assert!(rt; has_runs(rt, &track, low, high, &[(0, false), (20, true)]));
+    assert_eq!(rt; track.end(), 35);
+    let two = track_of(rt, low, high, &[(0, true), (5, false)], 10);
+    assert!(rt; track.append(&two).is_ok() && track.append(&two).is_ok());
+    let all = [(0, false), (20, true), (40, false), (45, true), (50, false)];
+    assert!(rt; has_runs(rt, &track, low, high, &all));
+    let long = track_of(rt, low, high, &[(0, false)], 99_946);
     assert_eq!(rt; track.append(&long), Err(AppendFault::OutOfRange));
-    assert_eq!(rt; track.end(), 50);
+    assert_eq!(rt; track.end(), 55);
 }
 
 /// Rows that make no track.
@@ -108,21 +102,6 @@ fn refuse_tracks<V: Level>(rt: &(impl Abort + AllocGlobal), low: V, high: V) {
     assert!(rt; matches!(still, Err(RunsFault::NotRising)));
     let far = Runs::new(rows_of(rt, low, high, &[(0, false), (30, true)]), 30);
     assert!(rt; matches!(far, Err(RunsFault::OutOfRange)));
-}
-
-/// Reads a profile that holds a high level up to metre 20 and a low one up to metre 30.
-fn read_profile<V: Level>(
-    rt: &impl Abort,
-    profile: Result<Profile<V>, ProfileFault>,
-    low: V,
-    high: V,
-) {
-    let profile = profile.expect(rt, "a profile");
-    assert_eq!(rt; profile.steps().len(), 2);
-    assert_eq!(rt; profile.end(), 30);
-    assert!(rt; 20 < profile.end());
-    assert!(rt; profile.at(0) == high && profile.at(19) == high);
-    assert!(rt; profile.at(20) == low && profile.at(29) == low);
 }
 
 /// Whether the one level is no higher than the other.
@@ -186,17 +165,14 @@ fn speeds_make_tracks_and_profiles(rt: HostRuntime) {
     refuse_tracks(&rt, low, high);
     let refused = Profile::new(&[(0, high), (20, low)], 30);
     assert!(rt; matches!(refused, Err(ProfileFault::NotExpressible)));
-    let (low, high) = (speed(&rt, 5), speed(&rt, 600));
-    read_profile(&rt, Profile::new(&[(0, high), (20, low)], 30), low, high);
 }
 
 #[test]
-fn gradients_make_tracks_and_profiles(rt: HostRuntime) {
+fn gradients_make_tracks(rt: HostRuntime) {
     let (low, high) = (grade(&rt, -3), grade(&rt, 12));
     walk_track(&rt, low, high);
     append_tracks(&rt, low, high);
     refuse_tracks(&rt, low, high);
-    read_profile(&rt, Profile::new(&[(0, high), (20, low)], 30), low, high);
 }
 
 #[test]
@@ -207,117 +183,74 @@ fn powers_make_tracks_and_profiles(rt: HostRuntime) {
     refuse_tracks(&rt, low, high);
     let refused = Profile::new(&[(0, high), (20, low)], 30);
     assert!(rt; matches!(refused, Err(ProfileFault::NotExpressible)));
-    let (low, high) = (power(&rt, 1), power(&rt, 512));
-    read_profile(&rt, Profile::new(&[(0, high), (20, low)], 30), low, high);
 }
 
 #[test]
-fn speeds_are_reduced(rt: HostRuntime) -> Result<(), Fail> {
-    let (first, low, last) = (speed(&rt, 160), speed(&rt, 83), speed(&rt, 120));
-    let floor = speed(&rt, 80);
-    let rows = vec![in rt.alloc(); (0, first), (10, low), (20, last)]?;
-    let track = Runs::new(rows, 30).expect(&rt, "a track");
-    compare(&rt, reduce(rt.alloc(), &track, 1), &[(0, floor)], 1230);
-    compare(
-        &rt,
-        reduce(rt.alloc(), &track, 2),
-        &[(0, first), (10, floor)],
-        430,
-    );
-    compare(
-        &rt,
-        reduce(rt.alloc(), &track, 3),
-        &[(0, first), (10, floor), (20, last)],
-        30,
-    );
-    Ok(())
-}
-
-#[test]
-fn gradients_are_reduced(rt: HostRuntime) -> Result<(), Fail> {
-    let (first, low, last) = (grade(&rt, 10), grade(&rt, -3), grade(&rt, 254));
-    let rows = vec![in rt.alloc(); (0, first), (10, low), (20, last)]?;
-    let track = Runs::new(rows, 30).expect(&rt, "a track");
-    compare(&rt, reduce(rt.alloc(), &track, 1), &[(0, low)], 2700);
-    compare(
-        &rt,
-        reduce(rt.alloc(), &track, 2),
-        &[(0, low), (20, last)],
-        130,
-    );
-    compare(
-        &rt,
-        reduce(rt.alloc(), &track, 3),
-        &[(0, first), (10, low), (20, last)],
-        0,
-    );
-    Ok(())
-}
-
-#[test]
-fn powers_are_reduced(rt: HostRuntime) -> Result<(), Fail> {
-    let (first, low, last) = (power(&rt, 1000), power(&rt, 600), power(&rt, 1024));
-    let half = power(&rt, 512);
-    let rows = vec![in rt.alloc(); (0, first), (10, low), (20, last)]?;
-    let track = Runs::new(rows, 30).expect(&rt, "a track");
-    compare(&rt, reduce(rt.alloc(), &track, 1), &[(0, half)], 10_880);
-    compare(
-        &rt,
-        reduce(rt.alloc(), &track, 2),
-        &[(0, half), (20, last)],
-        5_760,
-    );
-    compare(
-        &rt,
-        reduce(rt.alloc(), &track, 3),
-        &[(0, half), (20, last)],
-        5_760,
-    );
-    Ok(())
-}
-
-#[test]
-fn a_peak_of_powers_is_reduced(rt: HostRuntime) -> Result<(), Fail> {
-    let (least, most) = (power(&rt, 1), power(&rt, 1024));
-    let (odd, half, quarter) = (power(&rt, 511), power(&rt, 512), power(&rt, 256));
-    let rows = vec![in rt.alloc(); (0, least), (3, most), (7, odd), (9, half)]?;
-    let track = Runs::new(rows, 20).expect(&rt, "a track");
-    compare(&rt, reduce(rt.alloc(), &track, 1), &[(0, least)], 10_733);
-    compare(
-        &rt,
-        reduce(rt.alloc(), &track, 2),
-        &[(0, least), (9, half)],
-        5_112,
-    );
-    compare(
-        &rt,
-        reduce(rt.alloc(), &track, 3),
-        &[(0, least), (3, most), (7, quarter)],
-        3_326,
-    );
-    Ok(())
-}
-
-#[test]
-fn what_profiles_of_each_kind_lose(rt: HostRuntime) -> Result<(), Fail> {
-    let alloc = rt.alloc();
+fn what_profiles_lose(rt: HostRuntime) {
     let (slow, middle, fast) = (speed(&rt, 60), speed(&rt, 83), speed(&rt, 120));
-    let speeds = Runs::new(vec![in alloc; (0, middle), (20, fast)]?, 30).expect(&rt, "a track");
+    let track = track_from(&rt, &[(0, middle), (20, fast)], 30);
+    assert_eq!(rt; lost(&rt, Profile::new(&[(0, slow)], 30), &track), 1_060);
     assert_eq!(rt;
-        lost(&rt, Profile::new(&[(0, slow), (25, fast)], 30), &speeds),
+        lost(&rt, Profile::new(&[(0, slow), (25, fast)], 30), &track),
         760
     );
     let (low, up, high) = (grade(&rt, -254), grade(&rt, 3), grade(&rt, 254));
-    let grades = Runs::new(vec![in alloc; (0, up), (20, high)]?, 30).expect(&rt, "a track");
+    let track = track_from(&rt, &[(0, up), (20, high)], 30);
+    assert_eq!(rt; lost(&rt, Profile::new(&[(0, low)], 30), &track), 10_220);
     assert_eq!(rt;
-        lost(&rt, Profile::new(&[(0, low), (25, high)], 30), &grades),
+        lost(&rt, Profile::new(&[(0, low), (25, high)], 30), &track),
         7_680
     );
     let (one, odd, most) = (power(&rt, 1), power(&rt, 1000), power(&rt, 1024));
-    let powers = Runs::new(vec![in alloc; (0, odd), (20, most)]?, 30).expect(&rt, "a track");
+    let track = track_from(&rt, &[(0, odd), (20, most)], 30);
+    assert_eq!(rt; lost(&rt, Profile::new(&[(0, one)], 30), &track), 30_210);
     assert_eq!(rt;
-        lost(&rt, Profile::new(&[(0, one), (25, most)], 30), &powers),
+        lost(&rt, Profile::new(&[(0, one), (25, most)], 30), &track),
         25_095
     );
-    Ok(())
+}
+
+#[test]
+fn speeds_are_reduced(rt: HostRuntime) {
+    let (first, low, last) = (speed(&rt, 160), speed(&rt, 83), speed(&rt, 120));
+    let floor = speed(&rt, 80);
+    let track = track_from(&rt, &[(0, first), (10, low), (20, last)], 30);
+    let one = reduce(rt.alloc(), &track, 1);
+    compare(&rt, one, &[(0, floor)], 1_230);
+    let two = reduce(rt.alloc(), &track, 2);
+    compare(&rt, two, &[(0, first), (10, floor)], 430);
+    let three = reduce(rt.alloc(), &track, 3);
+    compare(&rt, three, &[(0, first), (10, floor), (20, last)], 30);
+    let long = track_from(&rt, &[(0, first), (1_500, low), (3_300, last)], 4_000);
+    let two = reduce(rt.alloc(), &long, 2);
+    compare(&rt, two, &[(0, first), (1_500, floor)], 33_400);
+}
+
+#[test]
+fn gradients_are_reduced(rt: HostRuntime) {
+    let (first, low, last) = (grade(&rt, 10), grade(&rt, -3), grade(&rt, 254));
+    let track = track_from(&rt, &[(0, first), (10, low), (20, last)], 30);
+    let one = reduce(rt.alloc(), &track, 1);
+    compare(&rt, one, &[(0, low)], 2_700);
+    let two = reduce(rt.alloc(), &track, 2);
+    compare(&rt, two, &[(0, low), (20, last)], 130);
+    let three = reduce(rt.alloc(), &track, 3);
+    compare(&rt, three, &[(0, first), (10, low), (20, last)], 0);
+}
+
+#[test]
+fn powers_are_reduced(rt: HostRuntime) {
+    let (first, low, last) = (power(&rt, 1000), power(&rt, 600), power(&rt, 1024));
+    let half = power(&rt, 512);
+    let track = track_from(&rt, &[(0, first), (10, low), (20, last)], 30);
+    let one = reduce(rt.alloc(), &track, 1);
+    compare(&rt, one, &[(0, half)], 10_880);
+    let three = reduce(rt.alloc(), &track, 3);
+    compare(&rt, three, &[(0, half), (20, last)], 5_760);
+    let (least, odd, quarter) = (power(&rt, 1), power(&rt, 511), power(&rt, 256));
+    let peak = track_from(&rt, &[(0, least), (3, last), (7, odd), (9, half)], 20);
+    let two = reduce(rt.alloc(), &peak, 2);
+    compare(&rt, two, &[(0, least), (9, half)], 5_112);
+    let three = reduce(rt.alloc(), &peak, 3);
+    compare(&rt, three, &[(0, least), (3, last), (7, quarter)], 3_326);
 }

@@ -1,7 +1,7 @@
-pub mod Stretches
-pub mod Rows
-pub mod Covers
-pub mod Metres
-pub mod Losses
-pub mod Lowest
-pub mod Best
+pub mod StretchLemmas
+pub mod RowLemmas
+pub mod CoverLemmas
+pub mod MetreLemmas
+pub mod LossLemmas
+pub mod LowestLemmas
+pub mod BestLemmas

@@ -1,6 +1,7 @@
+//! What one step costs from a metre up to another.
 ghost use Rattle.std.specs.Prelude.{◌≡◌, ℕ, Some, ◌+◌, ◌-◌, ◌*◌, ◌<◌, ◌≤◌, length, slice_get, slice_index};
 ghost use Rattle.rbc_model.specs.Levels.{IsInRange};
-ghost use Rattle.rbc_model.specs.Profiles.{longest};
+ghost use Rattle.rbc_model.specs.declared.limits.TheConstants.{LONGEST_TRACK};
 ghost use Rattle.rbc_model.specs.PriceTables.{least_value, cost};
 ghost use Rattle.rbc_reduce.specs.Stretches.{AreInRange, IsBelowAll, price_over};
 
@@ -35,7 +36,7 @@ pub(crate) fn least_of<V: Level>(values: &[V], from: usize, to: usize) -> V
 fn price_of<V: Level>(values: &[V], from: usize, to: usize, given: V) -> u64
     requires rises { from ≤ to }
     requires inside { to ≤ length values.now }
-    requires short { length values.now ≤ longest }
+    requires within_limit { length values.now ≤ LONGEST_TRACK }
     requires in_range { AreInRange V.levels values.now }
     requires given_in_range { IsInRange V.levels given }
     requires below { IsBelowAll V.levels values.now from (to - from) given }
@@ -52,7 +53,7 @@ fn price_of<V: Level>(values: &[V], from: usize, to: usize, given: V) -> u64
 /// Writes what one step costs from metre `from` up to each later one.
 pub(crate) fn costs_from<V: Level>(values: &[V], from: usize, costs: &mut [u64])
     requires inside { from < length values.now }
-    requires short { length values.now ≤ longest }
+    requires within_limit { length values.now ≤ LONGEST_TRACK }
     requires in_range { AreInRange V.levels values.now }
     requires room { length costs.old ≡ length values.now + 1 }
     ensures costs { (to : ℕ) → from < to → to ≤ length values.now

@@ -1,8 +1,10 @@
+//! The best profile of few steps.
 ghost use Rattle.std.specs.Prelude.{◌≡◌, ℕ, ◌≤◌, List, IfOk, length};
-ghost use Rattle.rbc_model.specs.Profiles.{IsBestProfile, loss, most_steps, value_at};
+ghost use Rattle.rbc_model.specs.Profiles.{IsBestProfile, loss, value_at};
+ghost use Rattle.rbc_model.specs.declared.limits.TheConstants.{MOST_STEPS};
 
-use crate::steps::steps_of;
 use crate::table;
+use crate::traceback::steps_of;
 use crate::values::values_of;
 use rbc_model::Memory;
 use rbc_steps::{Level, Profile, Runs};
@@ -17,14 +19,14 @@ pub struct Reduced<V: Level> {
     pub loss: u64,
 }
 
-/// The profile of 1 to `limit` steps that loses least against the track: no profile of at most `limit` steps that is above the track at no
-/// metre loses less, with cuts at any metre. `Memory` is the only error.
+/// The profile of 1 to `limit` steps that loses least against the track: no profile of at most `limit` steps that is
+/// above the track at no metre loses less, with cuts at any metre. `Memory` is the only error.
 ///
-/// Of the profiles that lose as little it has the fewest steps. Of those that have as few, its starts, read from the last one backwards,
-/// come first: this is tested, and no clause says it.
+/// Of the profiles that lose as little it has the fewest steps. Of those that have as few, its starts, read from the
+/// last one backwards, come first: this is tested, and no clause says it.
 pub fn reduce<V: Level>(alloc: Global, track: &Runs<V>, limit: usize) -> Result<Reduced<V>, Memory>
     requires some { 1 ≤ limit }
-    requires few { limit ≤ most_steps }
+    requires few { limit ≤ MOST_STEPS }
     ensures best { IfOk result
         (λ r. IsBestProfile V.levels 1 limit track.now.end (value_at track.now.steps) r.profile.steps) }
     ensures fewest { IfOk result

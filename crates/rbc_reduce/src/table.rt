@@ -1,5 +1,6 @@
+//! The table of the best ways to cover a track's first metres.
 ghost use Rattle.std.specs.Prelude.{◌≡◌, ℕ, ◌+◌, ◌-◌, ◌*◌, ◌<◌, ◌≤◌, min, IfOk, length, slice_get, slice_index, option_map};
-ghost use Rattle.rbc_model.specs.Profiles.{longest};
+ghost use Rattle.rbc_model.specs.declared.limits.TheConstants.{LONGEST_TRACK};
 ghost use Rattle.rbc_model.specs.PriceTables.{cost};
 ghost use Rattle.rbc_reduce.specs.Stretches.{AreInRange};
 ghost use Rattle.rbc_reduce.specs.Rows.{AreWide, IsTable, IsUnreached, cell_at, price_at, relaxed};
@@ -23,7 +24,7 @@ pub(crate) const UNREACHED: u64 = u64::MAX;
 
 /// A cell that nothing reaches for each of so many numbers of steps, from 1, and of metres, from 0.
 fn new_rows(alloc: Global, count: usize, metres: usize) -> Result<Vec<Vec<Cell>>, Memory>
-    requires { metres ≤ longest }
+    requires { metres ≤ LONGEST_TRACK }
     ensures { IfOk result (λ rows. (length rows.items ≡ count) × IsUnreached metres rows.items) }
 {
     let unreached = Cell {
@@ -56,7 +57,8 @@ fn relax_rows(rows: &mut [Vec<Cell>], from: u32, costs: &[u64])
     requires inside { from < length costs.now }
     ensures rows { length rows.new ≡ length rows.old }
     ensures wide { AreWide (length costs.now) rows.new }
-    ensures cells { (j to : ℕ) → cell_at rows.new j to ≡ option_map (relaxed (price_at rows.old j from) from costs.now to) (cell_at rows.old j to) }
+    ensures cells { (j to : ℕ) → cell_at rows.new j to
+        ≡ option_map (relaxed (price_at rows.old j from) from costs.now to) (cell_at rows.old j to) }
 {
     let mut before = if from == 0 { 0 } else { UNREACHED };
     for j in 0..rows.len() {
@@ -66,15 +68,15 @@ fn relax_rows(rows: &mut [Vec<Cell>], from: u32, costs: &[u64])
     }
 }
 
-/// The table of the best ways to cover the values' first metres: a row for each number of steps from 1 to `limit`, but no more rows than
-/// there are metres, and in it a cell for each number of metres from 0.
+/// The table of the best ways to cover the values' first metres: a row for each number of steps from 1 to `limit`,
+/// but no more rows than there are metres, and in it a cell for each number of metres from 0.
 pub(crate) fn fill<V: Level>(
     alloc: Global,
     values: &[V],
     limit: usize,
 ) -> Result<Vec<Vec<Cell>>, Memory>
     requires some { 0 < length values.now }
-    requires short { length values.now ≤ longest }
+    requires within_limit { length values.now ≤ LONGEST_TRACK }
     requires in_range { AreInRange V.levels values.now }
     requires limit { 1 ≤ limit }
     ensures rows { IfOk result (λ rows. length rows.items ≡ min limit (length values.now)) }
@@ -98,7 +100,8 @@ pub(crate) fn fewest(rows: &[Vec<Cell>], metres: usize) -> usize
     requires wide { AreWide (metres + 1) rows.now }
     ensures some { 1 ≤ result }
     ensures rows { result ≤ length rows.now }
-    ensures least { (j : ℕ) → 1 ≤ j → j ≤ length rows.now → price_at rows.now result metres ≤ price_at rows.now j metres }
+    ensures least { (j : ℕ) → 1 ≤ j → j ≤ length rows.now
+        → price_at rows.now result metres ≤ price_at rows.now j metres }
     ensures fewest { (j : ℕ) → 1 ≤ j → j < result → price_at rows.now result metres < price_at rows.now j metres }
 {
     let mut best = 0;

@@ -1,4 +1,6 @@
+//! The worked reductions.
 ghost use Rattle.std.specs.Prelude.{◌≤◌};
+ghost use Rattle.rbc_model.specs.declared.limits.TheConstants.{MOST_STEPS};
 
 use crate::reduce;
 use rbc_steps::{Grade, Runs, Speed};
@@ -12,7 +14,7 @@ fn reduced_speeds(
     end: u32,
 ) -> String
     requires some { 1 ≤ limit }
-    requires few { limit ≤ 31 }
+    requires few { limit ≤ MOST_STEPS }
 {
     let alloc = rt.alloc();
     let mut runs = Vec::new(alloc);
@@ -38,7 +40,7 @@ fn reduced_grades(
     end: u32,
 ) -> String
     requires some { 1 ≤ limit }
-    requires few { limit ≤ 31 }
+    requires few { limit ≤ MOST_STEPS }
 {
     let alloc = rt.alloc();
     let mut runs = Vec::new(alloc);

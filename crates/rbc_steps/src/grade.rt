@@ -1,9 +1,11 @@
+//! Gradients, a kind of level.
 ghost use Rattle.std.specs.Prelude.{ℤ, ◌≡◌, ◌↔◌, IsSome, IfSome, neg_ℤ};
 ghost use Rattle.rbc_model.specs.Levels.{IsInRange, grade_levels};
-ghost use Rattle.rbc_model.proofs.LevelLaws.{grade_lawful};
-ghost use Rattle.rbc_model.proofs.Orders.{grade_in_order};
+ghost use Rattle.rbc_model.proofs.LevelLemmas.{grade_lawful};
+ghost use Rattle.rbc_model.proofs.OrderLemmas.{grade_in_order};
 
 use crate::Level;
+use rbc_model::limits::STEEPEST;
 use std::marker::Model;
 
 /// A gradient of -254 to 254 per mille, uphill positive. The radio message has each of them (Q_GDIR, G_A).
@@ -28,7 +30,7 @@ impl Grade {
         ensures valid { IsSome result ↔ IsInRange grade_levels per_mille }
         ensures value { IfSome result (λ g. g ≡ per_mille) }
     {
-        if per_mille >= -254 && per_mille <= 254 {
+        if (-STEEPEST..=STEEPEST).contains(&per_mille) {
             Some(Grade { per_mille })
         } else {
             None

@@ -1,3 +1,4 @@
+//! What a kind of level is: a trait with laws.
 ghost use Rattle.std.specs.Prelude.{◌≡◌, IsTrue};
 ghost use Rattle.std.specs.Ordering.{is_le};
 ghost use Rattle.rbc_model.specs.Levels.{Levels, IsLawful, IsInRange, IsAtMost};
@@ -28,5 +29,6 @@ pub trait Level: Copy + Ord + Send + Sync {
     ghost lawful: { IsLawful levels };
 
     /// Values compare as levels do.
-    ghost in_order: { (a b : Self) → IsInRange levels a → IsInRange levels b → is_le (Self.cmp a b) ≡ levels.at_most a b };
+    ghost in_order: { (a b : Self) → IsInRange levels a → IsInRange levels b
+        → is_le (Self.cmp a b) ≡ levels.at_most a b };
 }

@@ -1,7 +1,7 @@
 //! Levels, track functions and step profiles.
 //!
-//! A level is a speed or a gradient. A track gives one for each metre, as runs; a profile gives one in few steps that the radio message can
-//! hold (ERA SUBSET-026 3.6.0, section 3.11).
+//! A level is a speed or a gradient. A track gives one for each metre, as runs; a profile gives one in few steps that
+//! the radio message can hold (ERA SUBSET-026 3.6.0, section 3.11).
 #![tactic(auto)]
 
 mod grade;
@@ -16,5 +16,5 @@ mod tests;
 pub use grade::Grade;
 pub use level::Level;
 pub use profile::Profile;
-pub use runs::Runs;
+pub use runs::{Runs, one_spelling};
 pub use speed::Speed;

@@ -1,15 +1,15 @@
+//! Step profiles, as a packet holds them.
 ghost use Rattle.std.specs.Prelude.{ℕ, ◌≡◌, ◌<◌, ◌≤◌, Some, IsTrue};
-ghost use Rattle.rbc_model.specs.Profiles.{value_at, profile_of, is_within, loss, IsProfile, longest, most_steps};
+ghost use Rattle.rbc_model.specs.Profiles.{value_at, profile_of, is_within, loss, IsProfile};
+ghost use Rattle.rbc_model.specs.declared.limits.TheConstants.{LONGEST_TRACK, MOST_STEPS};
 
 use crate::{Level, Runs, rows};
 use rbc_model::ProfileFault;
+use rbc_model::limits::MOST_STEPS;
 use std::marker::Model;
 
-/// How many steps a packet may have.
-pub const MOST_STEPS: usize = 31;
-
-/// A step profile: 1 to 31 steps (start, value) that the radio message can express, each up to the next one's start, the last one up to the
-/// end. Starts are in metres. It is kept in place and takes no memory.
+/// A step profile: 1 to 31 steps (start, value) that the radio message can express, each up to the next one's start,
+/// the last one up to the end. Starts are in metres. It is kept in place and takes no memory.
 #[derive(Drop)]
 pub struct Profile<V: Level> {
     steps: [(u32, V); MOST_STEPS],
@@ -19,13 +19,15 @@ pub struct Profile<V: Level> {
 
 impl<V: Level> Model for Profile<V> {
     ghost use Rattle.std.specs.Prelude.{◌≤◌, take};
-    ghost use Rattle.rbc_model.specs.Profiles.{StepFunction, IsProfile, longest, most_steps};
+    ghost use Rattle.rbc_model.specs.Profiles.{StepFunction, IsProfile};
+    ghost use Rattle.rbc_model.specs.declared.limits.TheConstants.{LONGEST_TRACK, MOST_STEPS};
 
     ghost Value = { StepFunction V };
 
     ghost view = { λ p. record { steps = take p.count p.steps; end = p.end } };
 
-    ghost invariant = { λ p. IsProfile V.levels 1 most_steps p.end (take p.count p.steps) × (p.count ≤ most_steps) × (p.end ≤ longest) };
+    ghost invariant = { λ p. IsProfile V.levels 1 MOST_STEPS p.end (take p.count p.steps)
+        × (p.count ≤ MOST_STEPS) × (p.end ≤ LONGEST_TRACK) };
 }
 
 impl<V: Level> Profile<V> {
@@ -57,8 +59,8 @@ impl<V: Level> Profile<V> {
     /// Where the profile ends, in metres: 1 to 100,000.
     pub fn end(&self) -> u32
         ensures end { result ≡ self.now.end }
-        ensures profile { IsProfile V.levels 1 most_steps self.now.end self.now.steps }
-        ensures near { self.now.end ≤ longest }
+        ensures profile { IsProfile V.levels 1 MOST_STEPS self.now.end self.now.steps }
+        ensures within_limit { self.now.end ≤ LONGEST_TRACK }
     {
         self.end
     }
@@ -66,8 +68,8 @@ impl<V: Level> Profile<V> {
     /// The steps as (start, value).
     pub fn steps(&self) -> &[(u32, V)]
         ensures steps { result.now ≡ self.now.steps }
-        ensures profile { IsProfile V.levels 1 most_steps self.now.end self.now.steps }
-        ensures near { self.now.end ≤ longest }
+        ensures profile { IsProfile V.levels 1 MOST_STEPS self.now.end self.now.steps }
+        ensures within_limit { self.now.end ≤ LONGEST_TRACK }
     {
         &self.steps[..self.count]
     }
@@ -80,10 +82,12 @@ impl<V: Level> Profile<V> {
         rows::at(self.steps(), x)
     }
 
-    /// What a train loses on the track where this profile, which is nowhere above it, is given: the sum of the prices of the single metres.
+    /// What a train loses on the track where this profile, which is nowhere above it, is given: the sum of the prices
+    /// of the single metres.
     pub fn loss(&self, track: &Runs<V>) -> u64
         requires ends { track.now.end ≡ self.now.end }
-        requires below { (x : ℕ) → x < self.now.end → IsTrue (is_within V.levels (value_at track.now.steps x) (value_at self.now.steps x)) }
+        requires below { (x : ℕ) → x < self.now.end
+            → IsTrue (is_within V.levels (value_at track.now.steps x) (value_at self.now.steps x)) }
         ensures { result ≡ loss V.levels self.now.end (value_at track.now.steps) self.now.steps }
     {
         rows::loss(track.runs(), self.steps(), self.end)

@@ -1,15 +1,15 @@
-ghost use Rattle.std.specs.Prelude.{ℕ, ◌≡◌, ◌<◌, ◌≤◌, ◌+◌, ◌*◌, ◌^◌, nat_lt, ◌++◌, length, map, neg_ℤ, slice_index_or, Some, IsTrue, IfOk, is_ok, if◌then◌else◌};
+//! Rows of (start, level), which tracks and profiles are made of.
+ghost use Rattle.std.specs.Prelude.{ℕ, ◌≡◌, ◌<◌, ◌≤◌, ◌+◌, ◌*◌, ◌^◌, nat_lt, ◌++◌, length, map, neg_ℤ, slice_index_or, Some, true, IsTrue, IfOk, OnErr, is_ok, if◌then◌else◌};
 ghost use Rattle.std.specs.List.{list_all};
 ghost use Rattle.rbc_model.specs.Levels.{is_same, IsAtMost};
-ghost use Rattle.rbc_model.specs.Profiles.{starts_of, rises_from_zero, are_inside, joined_steps, value_at, longest, is_within, loss, IsStepList};
+ghost use Rattle.rbc_model.specs.Profiles.{starts_of, rises_from_zero, are_inside, joined_steps, value_at, is_within, loss, IsStepList};
+ghost use Rattle.rbc_model.specs.declared.limits.TheConstants.{LONGEST_TRACK};
 ghost use Rattle.rbc_steps.specs.Mirrored.{mirrored};
 
 use crate::{Grade, Level};
 use rbc_model::Memory;
+use rbc_model::limits::LONGEST_TRACK;
 use std::alloc::Global;
-
-/// No track or profile has more metres.
-pub(crate) const LONGEST: u32 = 100_000;
 
 /// Whether the starts rise from 0. Each value is in range, and the caller learns it here.
 pub(crate) fn rise_from_zero<V: Level>(rows: &[(u32, V)]) -> bool
@@ -35,7 +35,7 @@ pub(crate) fn rise_from_zero<V: Level>(rows: &[(u32, V)]) -> bool
 pub(crate) fn lie_below<V: Level>(rows: &[(u32, V)], end: u32) -> bool
     ensures { result ≡ are_inside end (starts_of rows.now) }
 {
-    end <= LONGEST && start_below(rows, end)
+    end <= LONGEST_TRACK && start_below(rows, end)
 }
 
 /// Whether each start lies below the end.
@@ -47,7 +47,8 @@ fn start_below<V: Level>(rows: &[(u32, V)], end: u32) -> bool
 
 /// Whether the two values are one.
 pub(crate) fn same<V: Level>(a: V, b: V) -> bool
-    ensures { result ≡ is_same V.levels a b }
+    ensures same { result ≡ is_same V.levels a b }
+    ensures alike { a ≡ b → result ≡ true }
 {
     a.known();
     b.known();
@@ -81,7 +82,7 @@ pub(crate) fn at<V: Level>(rows: &[(u32, V)], x: u32) -> V
 pub(crate) fn stop<V: Level>(rows: &[(u32, V)], index: usize, end: u32) -> u32
     requires index { index < length rows.now }
     requires listed { IsStepList end rows.now }
-    ensures near { result ≤ end }
+    ensures before_end { result ≤ end }
     ensures next { (d : ℕ × V) → index + 1 < length rows.now → result ≡ (slice_index_or rows.now (index + 1) d).0 }
     ensures last { length rows.now ≤ index + 1 → result ≡ end }
 {
@@ -93,19 +94,20 @@ pub(crate) fn stop<V: Level>(rows: &[(u32, V)], index: usize, end: u32) -> u32
 
 /// What is lost on so many metres of one level where a level that is no higher is given.
 fn loss_over<V: Level>(metres: u32, track: V, given: V) -> u64
-    requires near { metres ≤ longest }
+    requires within_limit { metres ≤ LONGEST_TRACK }
     requires below { IsAtMost V.levels given track }
     ensures loss { result ≡ metres * V.levels.price track given }
-    ensures small { result ≤ metres * 1000000 }
+    ensures bound { result ≤ metres * 1000000 }
 {
     track.known();
     given.known();
     u64::from(metres) * track.price(given)
 }
 
-/// What is lost up to the end where the steps, which are nowhere above the runs, are given for them. It goes from change to change.
+/// What is lost up to the end where the steps, which are nowhere above the runs, are given for them. It goes from
+/// change to change.
 pub(crate) fn loss<V: Level>(runs: &[(u32, V)], steps: &[(u32, V)], end: u32) -> u64
-    requires near { end ≤ longest }
+    requires within_limit { end ≤ LONGEST_TRACK }
     requires runs { IsStepList end runs.now }
     requires steps { IsStepList end steps.now }
     requires below { (x : ℕ) → x < end → IsTrue (is_within V.levels (value_at runs.now x) (value_at steps.now x)) }
@@ -134,7 +136,9 @@ pub(crate) fn extend_moved<V: Level>(
     by: u32,
 ) -> Result<(), Memory>
     requires { (k : ℕ) (d : ℕ × V) → k < length later.now → (slice_index_or later.now k d).0 + by < 2 ^ 32 }
-    ensures { rows.new.items ≡ (if is_ok result then rows.old.items ++ map (λ row. (row.0 + by, row.1)) later.now else rows.old.items) }
+    ensures rows { rows.new.items
+        ≡ (if is_ok result then rows.old.items ++ map (λ row. (row.0 + by, row.1)) later.now else rows.old.items) }
+    ensures memory { OnErr result (0 < length later.now) }
 {
     rows.reserve(later.len())?;
     for row in later {

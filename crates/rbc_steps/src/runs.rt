@@ -1,15 +1,17 @@
-ghost use Rattle.std.specs.Prelude.{ℕ, ◌≡◌, ◌+◌, ◌<◌, ◌≤◌, ◌↔◌, [], ◌∷◌, ◌++◌, map, neg_ℤ, Some, Err, IfOk, IfErr};
-ghost use Rattle.rbc_model.specs.Profiles.{value_at, starts_of, runs_of, IsTrack, Follows, Reverses, longest};
+//! Track functions.
+ghost use Rattle.std.specs.Prelude.{ℕ, List, ◌≡◌, ◌+◌, ◌<◌, ◌≤◌, ◌↔◌, [], ◌∷◌, ◌++◌, map, neg_ℤ, Some, Err, IfOk, IfErr};
+ghost use Rattle.rbc_model.specs.Profiles.{value_at, starts_of, runs_of, IsTrackFunction, Follows, Reverses};
+ghost use Rattle.rbc_model.specs.declared.limits.TheConstants.{LONGEST_TRACK};
 
-use crate::rows::{self, LONGEST};
-use crate::{Grade, Level};
+use crate::{Grade, Level, rows};
+use rbc_model::limits::LONGEST_TRACK;
 use rbc_model::{AppendFault, Memory, RunsFault};
 use std::alloc::Global;
 use std::iter;
 use std::marker::Model;
 
-/// A track function: a level for each metre from 0 to its end, as runs (start, value), each up to the next one's start. Starts are in
-/// metres. Neighbouring runs differ in value, so equal functions are equal values.
+/// A track function: a level for each metre from 0 to its end, as runs (start, value), each up to the next one's
+/// start. Starts are in metres. Neighbouring runs differ in value, so equal functions are equal values.
 #[derive(Drop)]
 pub struct Runs<V: Level> {
     runs: Vec<(u32, V)>,
@@ -18,13 +20,14 @@ pub struct Runs<V: Level> {
 
 impl<V: Level> Model for Runs<V> {
     ghost use Rattle.std.specs.Prelude.{◌≤◌};
-    ghost use Rattle.rbc_model.specs.Profiles.{StepFunction, IsTrack, longest};
+    ghost use Rattle.rbc_model.specs.Profiles.{StepFunction, IsTrackFunction};
+    ghost use Rattle.rbc_model.specs.declared.limits.TheConstants.{LONGEST_TRACK};
 
     ghost Value = { StepFunction V };
 
     ghost view = { λ r. record { steps = r.runs.items; end = r.end } };
 
-    ghost invariant = { λ r. IsTrack V.levels r.end r.runs.items × (r.end ≤ longest) };
+    ghost invariant = { λ r. IsTrackFunction V.levels r.end r.runs.items × (r.end ≤ LONGEST_TRACK) };
 }
 
 impl<V: Level> Runs<V> {
@@ -49,8 +52,8 @@ impl<V: Level> Runs<V> {
     /// Where the track ends, in metres: 1 to 100,000.
     pub fn end(&self) -> u32
         ensures end { result ≡ self.now.end }
-        ensures track { IsTrack V.levels self.now.end self.now.steps }
-        ensures near { self.now.end ≤ longest }
+        ensures track { IsTrackFunction V.levels self.now.end self.now.steps }
+        ensures within_limit { self.now.end ≤ LONGEST_TRACK }
     {
         self.end
     }
@@ -58,8 +61,8 @@ impl<V: Level> Runs<V> {
     /// The runs as (start, value).
     pub fn runs(&self) -> &[(u32, V)]
         ensures runs { result.now ≡ self.now.steps }
-        ensures track { IsTrack V.levels self.now.end self.now.steps }
-        ensures near { self.now.end ≤ longest }
+        ensures track { IsTrackFunction V.levels self.now.end self.now.steps }
+        ensures within_limit { self.now.end ≤ LONGEST_TRACK }
     {
         self.runs.as_slice()
     }
@@ -83,12 +86,16 @@ impl<V: Level> Runs<V> {
     /// Puts another track behind this one, which stays as it is after an error.
     pub fn append(&mut self, other: &Runs<V>) -> Result<(), AppendFault>
         ensures follows { IfOk result (λ _. Follows self.old other.now self.new) }
-        ensures track { IsTrack V.levels self.new.end self.new.steps }
-        ensures near { self.new.end ≤ longest }
-        ensures too_long { result ≡ Err AppendFault.OutOfRange ↔ longest < self.old.end + other.now.end }
+        ensures track { IsTrackFunction V.levels self.new.end self.new.steps }
+        ensures within_limit { self.new.end ≤ LONGEST_TRACK }
+        ensures too_long { result ≡ Err AppendFault.OutOfRange ↔ LONGEST_TRACK < self.old.end + other.now.end }
         ensures unchanged { IfErr result (λ _. self.new ≡ self.old) }
+
+        // Where the other track only goes on with the last run's value nothing grows, so no memory is refused.
+        ensures no_growth { (front : List (ℕ × V)) (start : ℕ) (v : V) → self.old.steps ≡ front ++ (start, v) ∷ []
+            → other.now.steps ≡ (0, v) ∷ [] → result ≡ Err AppendFault.Memory → ⊥ }
     {
-        if other.end > LONGEST - self.end {
+        if other.end > LONGEST_TRACK - self.end {
             return Err(AppendFault::OutOfRange);
         }
         let last = self.runs.len() - 1;
@@ -102,7 +109,7 @@ impl<V: Level> Runs<V> {
     /// The track run the other way.
     pub fn reversed(&self, alloc: Global) -> Result<Runs<V>, Memory>
         ensures back { IfOk result (λ r. Reverses self.now r) }
-        ensures track { IfOk result (λ r. IsTrack V.levels r.end r.steps) }
+        ensures track { IfOk result (λ r. IsTrackFunction V.levels r.end r.steps) }
     {
         let runs = rows::reversed(alloc, &self.runs, self.end)?;
         Ok(Runs {
@@ -124,4 +131,15 @@ impl Runs<Grade> {
             end: self.end,
         })
     }
+}
+
+/// Equal functions are equal values: tracks that end at one metre and have the same level at each metre are the same
+/// runs. This is a law, and does nothing.
+pub fn one_spelling<V: Level>(one: &Runs<V>, other: &Runs<V>)
+    requires ends { one.now.end ≡ other.now.end }
+    requires levels { (x : ℕ) → x < one.now.end → value_at one.now.steps x ≡ value_at other.now.steps x }
+    ensures { one.now ≡ other.now }
+{
+    let _ = one.runs();
+    let _ = other.runs();
 }

@@ -1,9 +1,11 @@
+//! Speeds, a kind of level.
 ghost use Rattle.std.specs.Prelude.{ℕ, ◌≡◌, ◌↔◌, IsSome, IfSome};
 ghost use Rattle.rbc_model.specs.Levels.{IsInRange, speed_levels};
-ghost use Rattle.rbc_model.proofs.LevelLaws.{speed_lawful};
-ghost use Rattle.rbc_model.proofs.Orders.{speed_in_order};
+ghost use Rattle.rbc_model.proofs.LevelLemmas.{speed_lawful};
+ghost use Rattle.rbc_model.proofs.OrderLemmas.{speed_in_order};
 
 use crate::Level;
+use rbc_model::limits::{FASTEST, SLOWEST};
 use std::marker::Model;
 
 /// A speed of 5 to 600 km/h. The radio message has the multiples of 5 km/h (V_STATIC).
@@ -28,7 +30,7 @@ impl Speed {
         ensures valid { IsSome result ↔ IsInRange speed_levels kmh }
         ensures value { IfSome result (λ s. s ≡ kmh) }
     {
-        if kmh >= 5 && kmh <= 600 {
+        if (SLOWEST..=FASTEST).contains(&kmh) {
             Some(Speed { kmh })
         } else {
             None

@@ -1,3 +1,5 @@
+//! Each call once, at speeds and gradients.
+
 use crate::{Grade, Level, Profile, Runs, Speed};
 use rbc_model::{AppendFault, ProfileFault, RunsFault};
 use std::process::Abort;

@@ -1,7 +1,7 @@
-mod Finding
-mod Judging
-mod Keeping
-mod Lasting
-mod Making
-pub mod LinkKeyLaws
-pub mod RouteLaws
+mod FindingLemmas
+mod JudgingLemmas
+mod KeepingLemmas
+mod LastingLemmas
+mod MakingLemmas
+pub mod LinkKeyLemmas
+pub mod RouteLemmas

@@ -1,8 +1,8 @@
 pub mod GroupKeys
-pub mod Judged
 pub mod Kept
 pub mod KeptBack
 pub mod LinkKeys
+pub mod Making
 pub mod PartsView
 pub mod Sections
 pub mod Tables

@@ -1,20 +1,21 @@
 -- The tables of a track, and what stands beside them so that names are looked up.
-use Rattle.std.specs.Prelude.{All, ◌≡◌, ℕ, nat_le, Bool, IsTrue, List, [], map, Option}
-use Rattle.std.specs.Option.{option_or}
+use Rattle.std.specs.Prelude.{All, ◌≡◌, ℕ, nat_le, Bool, IsTrue, List, [], map, Result}
 use Rattle.rbc_model.specs.declared.places.Format.TheVariants.{Near}
-use Rattle.rbc_model.specs.declared.places.GroupName.{GroupName}
+use Rattle.rbc_model.specs.GroupNames.{GroupName}
 use Rattle.rbc_model.specs.declared.tracks.Link.{Link}
-use Rattle.rbc_model.specs.declared.tracks.Group.{Group}
+use Rattle.rbc_model.specs.declared.tracks.BaliseGroup.{BaliseGroup}
 use Rattle.rbc_model.specs.declared.tracks.TrackRefusal.{TrackRefusal}
 use Rattle.rbc_model.specs.declared.places.Direction.{Direction}
 use Rattle.rbc_model.specs.Names.{LegName}
+use Rattle.rbc_model.specs.declared.limits.TheConstants.{LONGEST_TRACK}
 use Rattle.rbc_model.specs.Levels.{speed_levels, grade_levels}
-use Rattle.rbc_model.specs.Profiles.{IsTrack}
+use Rattle.rbc_model.specs.Profiles.{IsTrackFunction}
+use Rattle.rbc_model.specs.Results.{demand, ◌>>◌}
 use Rattle.rbc_model.specs.Tracks.{Section, Route, Track}
-use Rattle.rbc_model.specs.SoundTracks.{IsInForm, IsSound, refuse_unless}
+use Rattle.rbc_model.specs.SoundTracks.{IsInForm, IsSound}
 
 -- a track of these tables
-abbrev pub track_with : ℕ → ℕ → List Section → List Link → List Group → List Route → Track
+abbrev pub track_with : ℕ → ℕ → List Section → List Link → List BaliseGroup → List Route → Track
 track_with speed_steps grade_steps sections links groups routes = record {
   format = Near;
   speed_steps = speed_steps;
@@ -40,9 +41,9 @@ leg_named direction section = record { section = section.name; direction = direc
 
 -- what a section keeps by its own type
 pub record IsSectionInForm (section : Section) : Type 0 where
-  pub few_metres : IsTrue (nat_le section.metres 100000)
-  pub speeds : IsTrack speed_levels section.metres section.speeds
-  pub grades : IsTrack grade_levels section.metres section.grades
+  pub at_most : IsTrue (nat_le section.metres LONGEST_TRACK)
+  pub speeds : IsTrackFunction speed_levels section.metres section.speeds
+  pub grades : IsTrackFunction grade_levels section.metres section.grades
 
 -- sections and their names
 pub record IsSectionTable (sections : List Section) (names : List (List ℕ)) : Type 0 where
@@ -50,13 +51,13 @@ pub record IsSectionTable (sections : List Section) (names : List (List ℕ)) : 
   pub form : All IsSectionInForm sections
 
 -- groups and their identities
-pub record IsGroupTable (groups : List Group) (names : List GroupName) : Type 0 where
+pub record IsGroupTable (groups : List BaliseGroup) (names : List GroupName) : Type 0 where
   pub listed : names ≡ map (λ group. group.name) groups
 
 -- routes and their names
 pub record IsRouteTable (routes : List Route) (names : List (List ℕ)) : Type 0 where
   pub listed : names ≡ map (λ route. route.name) routes
 
--- the refusal of an entry: its name is to be new, and it is to pass a test of its own
-abbrev pub entry_refusal : Bool → TrackRefusal → Bool → TrackRefusal → Option TrackRefusal
-entry_refusal is_new twice is_good bad = option_or (refuse_unless is_new twice) (refuse_unless is_good bad)
+-- the answer for an entry: its name is to be new, and it is to pass a test of its own
+abbrev pub entry_answer : Bool → TrackRefusal → Bool → TrackRefusal → Result (Unit {0}) TrackRefusal
+entry_answer is_new twice is_good bad = demand is_new twice >> demand is_good bad

@@ -3,12 +3,12 @@
 //! The parts that a track is made of name sections by their names; a track names them by their numbers.
 #![tactic(auto)]
 
-mod fault;
 mod group_table;
 mod leg_name;
 mod legs;
 mod link_table;
 mod links;
+mod long_runs;
 mod lookup;
 mod name;
 mod parts;
@@ -20,10 +20,8 @@ mod section;
 mod section_table;
 mod sizes;
 mod step_limit;
-mod steps;
 mod track;
 
-pub use fault::TrackFault;
 pub use leg_name::LegName;
 pub use legs::reverse;
 pub use name::Name;

@@ -1,25 +1,26 @@
-ghost use Rattle.std.specs.Prelude.{◌≡◌, [], ◌∷◌, ◌++◌, length, map, IfOk, OnOk};
-ghost use Rattle.rbc_model.specs.SoundTracks.{first_refusal, link_refusal, refuse_unless, is_good_link};
-ghost use Rattle.rbc_model.specs.TrackParts.{link_of};
+ghost use Rattle.std.specs.Prelude.{◌≡◌, [], ◌∷◌, ◌++◌, length, Ok, OnOk};
+ghost use Rattle.rbc_model.specs.Answers.{AnswersOrMemory};
+ghost use Rattle.rbc_model.specs.Results.{unless};
+ghost use Rattle.rbc_model.specs.SoundTracks.{link_refusal};
 ghost use Rattle.rbc_model.specs.Tracks.{Track};
-ghost use Rattle.rbc_model.specs.declared.tracks.TrackRefusal.TheVariants.{BadLink};
-ghost use Rattle.rbc_track.specs.Judged.{IsJudged};
-ghost use Rattle.rbc_track.specs.Tables.{with_links};
+ghost use Rattle.rbc_track.specs.Making.{sound_links};
 
+use crate::LinkPart;
 use crate::links::Links;
 use crate::resolve::link_of;
 use crate::section_table::Sections;
-use crate::{LinkPart, TrackFault};
-use rbc_model::{Link, TrackRefusal};
+use rbc_model::{Link, OrMemory, TrackRefusal};
 use std::alloc::Global;
 
 /// Judges one more link of a track of so many sections, and puts it behind the others.
-fn add(links: &mut Links, sections: usize, link: Link, number: usize) -> Result<(), TrackFault>
-    ensures judged { (track : Track) → length track.sections ≡ sections → IsJudged result (refuse_unless (is_good_link track links.old link) (BadLink number)) }
+fn add(links: &mut Links, sections: usize, link: Link) -> Result<(), OrMemory<TrackRefusal>>
+    ensures judged { (track : Track) → length track.sections ≡ sections
+        → AnswersOrMemory result (unless (link_refusal track links.old link) (Ok tt)) }
     ensures added { OnOk result (links.new ≡ links.old ++ link ∷ []) }
 {
+    let number = links.as_slice().len() + 1;
     if !links.is_good(sections, link) {
-        return Err(TrackFault::Refused(TrackRefusal::BadLink(number)));
+        return Err(OrMemory::Refused(TrackRefusal::BadLink(number)));
     }
     Ok(links.push(link)?)
 }
@@ -29,18 +30,12 @@ pub(crate) fn links_of(
     alloc: Global,
     sections: &Sections,
     parts: &[LinkPart],
-) -> Result<Links, TrackFault>
-    ensures judged { IsJudged result (first_refusal (link_refusal (with_links sections.now [])) [] (map (link_of sections.now) parts.now)) }
-    ensures made { IfOk result (λ links. links ≡ map (link_of sections.now) parts.now) }
+) -> Result<Links, OrMemory<TrackRefusal>>
+    ensures { AnswersOrMemory result (sound_links sections.now parts.now) }
 {
     let mut links = Links::new(alloc);
-    for (earlier, part) in parts.iter().enumerate() {
-        add(
-            &mut links,
-            sections.len(),
-            link_of(sections, part),
-            earlier + 1,
-        )?;
+    for part in parts {
+        add(&mut links, sections.len(), link_of(sections, part))?;
     }
     Ok(links)
 }

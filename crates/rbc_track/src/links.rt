@@ -10,9 +10,6 @@ use std::alloc::Global;
 use std::collections::HashSet;
 use std::marker::Model;
 
-#[cfg(test)]
-pub(crate) mod tests;
-
 /// A leg as links are looked up by it.
 #[derive(Clone, Copy, PartialEq, Eq, Hash)]
 struct LegKey {

@@ -1,4 +1,4 @@
-ghost use Rattle.std.specs.Prelude.{◌≡◌, [], ◌∷◌, ◌++◌, not, position, bytes_eq, IfOk, if◌then◌else◌};
+ghost use Rattle.std.specs.Prelude.{◌≡◌, [], ◌∷◌, ◌++◌, not, false, position, bytes_eq, IfOk, OnErr, if◌then◌else◌};
 ghost use Rattle.std.specs.List.{list_any};
 ghost use Rattle.rbc_model.specs.Tracks.{group_name_eq};
 
@@ -36,6 +36,7 @@ impl Names {
     pub(crate) fn insert(&mut self, name: Name) -> Result<bool, Memory>
         ensures new { IfOk result (λ new. new ≡ not (list_any (λ other. bytes_eq other name) self.old)) }
         ensures names { IfOk result (λ new. self.new ≡ (if new then self.old ++ name ∷ [] else self.old)) }
+        ensures memory { OnErr result (list_any (λ other. bytes_eq other name) self.old ≡ false) }
     {
         Ok(self.set.insert(name)?)
     }
@@ -56,12 +57,19 @@ pub(crate) struct GroupNames {
 
 impl Model for GroupNames {
     ghost use Rattle.std.specs.Prelude.{List, map};
-    ghost use Rattle.rbc_model.specs.declared.places.GroupName.{GroupName};
+    ghost use Rattle.rbc_model.specs.GroupNames.{GroupName};
     ghost use Rattle.rbc_track.specs.GroupKeys.{group_name};
 
     ghost Value = { List GroupName };
 
     ghost view = { λ names. map group_name names.set.keys };
+}
+
+/// What an identity is looked up by: its country or region, and its number there.
+fn group_key(name: GroupName) -> (u16, u16)
+    ensures { result ≡ (name.country, name.number) }
+{
+    (name.country(), name.number())
 }
 
 impl GroupNames {
@@ -78,14 +86,15 @@ impl GroupNames {
     pub(crate) fn insert(&mut self, name: GroupName) -> Result<bool, Memory>
         ensures new { IfOk result (λ new. new ≡ not (list_any (λ other. group_name_eq other name) self.old)) }
         ensures names { IfOk result (λ new. self.new ≡ (if new then self.old ++ name ∷ [] else self.old)) }
+        ensures memory { OnErr result (list_any (λ other. group_name_eq other name) self.old ≡ false) }
     {
-        Ok(self.set.insert((name.country, name.number))?)
+        Ok(self.set.insert(group_key(name))?)
     }
 
     /// The place of an identity.
     pub(crate) fn position(&self, name: GroupName) -> Option<usize>
         ensures { result ≡ position (λ other. group_name_eq other name) self.now }
     {
-        self.set.get_index_of(&(name.country, name.number))
+        self.set.get_index_of(&group_key(name))
     }
 }

@@ -7,6 +7,7 @@ ghost use Rattle.std.specs.Hash as fed;
 ghost use Rattle.std.proofs.Common.{rules};
 ghost use Rattle.rbc_model.specs.Names.{is_name_byte, is_name, name_in};
 
+use rbc_model::limits::LONGEST_NAME;
 use std::hash::{Hash, Hasher};
 use std::marker::Model;
 use std::{fmt, str};
@@ -14,13 +15,10 @@ use std::{fmt, str};
 #[cfg(test)]
 mod tests;
 
-/// How many bytes a name may have.
-const LONGEST: usize = 16;
-
 /// The name of a section or a route: 1 to 16 bytes of `A` to `Z`, `a` to `z`, `0` to `9` and `_`. It is kept in place and takes no memory.
 #[derive(Clone, Copy)]
 pub struct Name {
-    bytes: [u8; LONGEST],
+    bytes: [u8; LONGEST_NAME],
     count: usize,
 }
 
@@ -59,7 +57,7 @@ fn may_all_stand(text: &[u8]) -> bool
 fn is_name(text: &[u8]) -> bool
     ensures { result ≡ is_name text.now }
 {
-    text.len() >= 1 && text.len() <= LONGEST && may_all_stand(text)
+    text.len() >= 1 && text.len() <= LONGEST_NAME && may_all_stand(text)
 }
 
 impl Name {
@@ -70,7 +68,7 @@ impl Name {
         if !is_name(text) {
             return None;
         }
-        let mut bytes = [0; LONGEST];
+        let mut bytes = [0; LONGEST_NAME];
         bytes[..text.len()].copy_from_slice(text);
         Some(Name {
             bytes,

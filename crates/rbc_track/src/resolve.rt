@@ -3,7 +3,7 @@ ghost use Rattle.rbc_model.specs.TrackParts.{leg_of, link_of, group_of, route_of
 
 use crate::section_table::Sections;
 use crate::{GroupPart, LegName, LinkPart, Route, RoutePart};
-use rbc_model::{Group, Leg, Link, Memory};
+use rbc_model::{BaliseGroup, Leg, Link, Memory};
 use std::alloc::Global;
 
 /// The leg, its section by number.
@@ -27,10 +27,10 @@ pub(crate) fn link_of(sections: &Sections, link: &LinkPart) -> Link
 }
 
 /// The group, its section by number.
-pub(crate) fn group_of(sections: &Sections, group: &GroupPart) -> Group
+pub(crate) fn group_of(sections: &Sections, group: &GroupPart) -> BaliseGroup
     ensures { result ≡ group_of sections.now group.now }
 {
-    Group {
+    BaliseGroup {
         name: group.name,
         section: sections.number(group.section),
         offset: group.offset,

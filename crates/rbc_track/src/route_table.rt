@@ -1,19 +1,20 @@
-ghost use Rattle.std.specs.Prelude.{◌≡◌, [], ◌∷◌, ◌++◌, not, bytes_eq, length, position, map, IfOk, OnOk};
+ghost use Rattle.std.specs.Prelude.{◌≡◌, [], ◌∷◌, ◌++◌, not, false, bytes_eq, length, position, Err, OnOk};
 ghost use Rattle.std.specs.List.{list_any};
-ghost use Rattle.rbc_model.specs.SoundTracks.{first_refusal, route_refusal, is_good_route};
-ghost use Rattle.rbc_model.specs.TrackParts.{route_of};
+ghost use Rattle.rbc_model.specs.Answers.{AnswersOrMemory};
+ghost use Rattle.rbc_model.specs.declared.memory.OrMemory.TheVariants.{Memory as NoMemory};
+ghost use Rattle.rbc_model.specs.SoundTracks.{is_good_route};
 ghost use Rattle.rbc_model.specs.declared.tracks.Table.TheVariants.{Routes as RouteTable};
 ghost use Rattle.rbc_model.specs.declared.tracks.TrackRefusal.TheVariants.{TwiceNamed, BadRoute};
-ghost use Rattle.rbc_track.specs.Judged.{IsJudged};
-ghost use Rattle.rbc_track.specs.Tables.{with_links, entry_refusal};
+ghost use Rattle.rbc_track.specs.Making.{sound_routes};
+ghost use Rattle.rbc_track.specs.Tables.{with_links, entry_answer};
 
 use crate::links::Links;
 use crate::lookup::Names;
 use crate::resolve::route_of;
 use crate::routes::is_good_route;
 use crate::section_table::Sections;
-use crate::{Name, Route, RoutePart, TrackFault};
-use rbc_model::{RouteId, Table, TrackRefusal};
+use crate::{Name, Route, RoutePart};
+use rbc_model::{OrMemory, RouteId, Table, TrackRefusal};
 use std::alloc::Global;
 use std::marker::Model;
 
@@ -50,17 +51,18 @@ fn note(
     links: &Links,
     route: &Route,
     number: usize,
-) -> Result<(), TrackFault>
-    ensures judged { IsJudged result (entry_refusal
+) -> Result<(), OrMemory<TrackRefusal>>
+    ensures judged { AnswersOrMemory result (entry_answer
         (not (list_any (λ other. bytes_eq other route.now.name) names.old)) (TwiceNamed RouteTable number)
         (is_good_route (with_links sections.now links.now) route.now) (BadRoute number)) }
     ensures named { OnOk result (names.new ≡ names.old ++ route.now.name ∷ []) }
+    ensures memory { result ≡ Err NoMemory → list_any (λ other. bytes_eq other route.now.name) names.old ≡ false }
 {
     if !names.insert(route.name())? {
-        return Err(TrackFault::Refused(TrackRefusal::TwiceNamed(Table::Routes, number)));
+        return Err(OrMemory::Refused(TrackRefusal::TwiceNamed(Table::Routes, number)));
     }
     if !is_good(sections, links, route) {
-        return Err(TrackFault::Refused(TrackRefusal::BadRoute(number)));
+        return Err(OrMemory::Refused(TrackRefusal::BadRoute(number)));
     }
     Ok(())
 }
@@ -72,15 +74,14 @@ impl Routes {
         sections: &Sections,
         links: &Links,
         parts: &[RoutePart],
-    ) -> Result<Routes, TrackFault>
-        ensures judged { IsJudged result (first_refusal (route_refusal (with_links sections.now links.now)) [] (map (route_of sections.now) parts.now)) }
-        ensures made { IfOk result (λ table. table ≡ map (route_of sections.now) parts.now) }
+    ) -> Result<Routes, OrMemory<TrackRefusal>>
+        ensures { AnswersOrMemory result (sound_routes sections.now links.now parts.now) }
     {
         let mut routes = Vec::new(alloc);
         let mut names = Names::new(alloc);
-        for (earlier, part) in parts.iter().enumerate() {
+        for part in parts {
             let route = route_of(alloc, sections, part)?;
-            note(&mut names, sections, links, &route, earlier + 1)?;
+            note(&mut names, sections, links, &route, routes.len() + 1)?;
             routes.push(route)?;
         }
         Ok(Routes { routes, names })

@@ -5,13 +5,8 @@ ghost use Rattle.rbc_model.specs.SoundTracks.{sections_differ, are_linked, but_l
 
 use crate::legs::{is_leg_of, leg_eq};
 use crate::links::Links;
+use rbc_model::limits::MOST_LEGS;
 use rbc_model::{Leg, SectionId};
-
-#[cfg(test)]
-mod tests;
-
-/// The most legs that a route may have.
-const MOST_LEGS: usize = 64;
 
 /// Whether a track of these links and so many sections may have a route of these legs, entered from the leg `after` if there is one: it has
 /// 1 to 64 legs of the track's sections, none of one section with another, each linked to the next, and is entered from a leg that is

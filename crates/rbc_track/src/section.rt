@@ -1,6 +1,7 @@
 ghost use Rattle.std.specs.Prelude.{◌≡◌, ◌≤◌, ◌==◌, Some, None, if◌then◌else◌};
 ghost use Rattle.rbc_model.specs.Levels.{speed_levels, grade_levels};
-ghost use Rattle.rbc_model.specs.Profiles.{IsTrack, longest};
+ghost use Rattle.rbc_model.specs.Profiles.{IsTrackFunction};
+ghost use Rattle.rbc_model.specs.declared.limits.TheConstants.{LONGEST_TRACK};
 
 use crate::Name;
 use rbc_steps::{Grade, Runs, Speed};
@@ -61,7 +62,7 @@ impl Section {
     /// How many metres the section has: 1 to 100,000.
     pub fn length(&self) -> u32
         ensures metres { result ≡ self.now.metres }
-        ensures near { result ≤ longest }
+        ensures at_most { result ≤ LONGEST_TRACK }
     {
         self.speeds.end()
     }
@@ -69,8 +70,8 @@ impl Section {
     /// The speeds for rising offsets and for falling ones.
     pub fn speeds(&self) -> &Runs<Speed>
         ensures speeds { result.now ≡ record { steps = self.now.speeds; end = self.now.metres } }
-        ensures track { IsTrack speed_levels self.now.metres self.now.speeds }
-        ensures near { self.now.metres ≤ longest }
+        ensures track { IsTrackFunction speed_levels self.now.metres self.now.speeds }
+        ensures metres_at_most { self.now.metres ≤ LONGEST_TRACK }
     {
         &self.speeds
     }
@@ -78,8 +79,8 @@ impl Section {
     /// The gradients for rising offsets, positive uphill.
     pub fn grades(&self) -> &Runs<Grade>
         ensures grades { result.now ≡ record { steps = self.now.grades; end = self.now.metres } }
-        ensures track { IsTrack grade_levels self.now.metres self.now.grades }
-        ensures near { self.now.metres ≤ longest }
+        ensures track { IsTrackFunction grade_levels self.now.metres self.now.grades }
+        ensures metres_at_most { self.now.metres ≤ LONGEST_TRACK }
     {
         &self.grades
     }

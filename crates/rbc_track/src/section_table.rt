@@ -1,16 +1,18 @@
-ghost use Rattle.std.specs.Prelude.{All, ◌≡◌, [], ◌∷◌, ◌++◌, not, bytes_eq, length, position, IfOk, OnOk};
+ghost use Rattle.std.specs.Prelude.{All, ◌≡◌, [], ◌∷◌, ◌++◌, not, false, bytes_eq, length, position, Err, IfOk, OnOk};
 ghost use Rattle.std.specs.List.{list_any};
-ghost use Rattle.rbc_model.specs.SoundTracks.{first_refusal, section_refusal, has_long_runs};
+ghost use Rattle.rbc_model.specs.Answers.{AnswersOrMemory};
+ghost use Rattle.rbc_model.specs.declared.memory.OrMemory.TheVariants.{Memory as NoMemory};
+ghost use Rattle.rbc_model.specs.SoundTracks.{has_long_runs};
 ghost use Rattle.rbc_model.specs.TrackParts.{section_number};
 ghost use Rattle.rbc_model.specs.declared.tracks.Table.TheVariants.{Sections as SectionTable};
 ghost use Rattle.rbc_model.specs.declared.tracks.TrackRefusal.TheVariants.{TwiceNamed, ShortRun};
-ghost use Rattle.rbc_track.specs.Judged.{IsJudged};
-ghost use Rattle.rbc_track.specs.Tables.{IsSectionInForm, entry_refusal};
+ghost use Rattle.rbc_track.specs.Making.{sound_sections};
+ghost use Rattle.rbc_track.specs.Tables.{IsSectionInForm, entry_answer};
 
+use crate::long_runs::has_long_runs;
 use crate::lookup::Names;
-use crate::steps::has_long_runs;
-use crate::{Name, Section, TrackFault};
-use rbc_model::{SectionId, Table, TrackRefusal};
+use crate::{Name, Section};
+use rbc_model::{OrMemory, SectionId, Table, TrackRefusal};
 use std::alloc::Global;
 use std::marker::Model;
 
@@ -34,28 +36,31 @@ impl Model for Sections {
 }
 
 /// Judges one more section, behind those of these names, and notes its name.
-fn note(names: &mut Names, section: &Section, number: usize) -> Result<(), TrackFault>
-    ensures judged { IsJudged result (entry_refusal
+fn note(names: &mut Names, section: &Section, number: usize) -> Result<(), OrMemory<TrackRefusal>>
+    ensures judged { AnswersOrMemory result (entry_answer
         (not (list_any (λ other. bytes_eq other section.now.name) names.old)) (TwiceNamed SectionTable number)
         (has_long_runs section.now) (ShortRun number)) }
     ensures named { OnOk result (names.new ≡ names.old ++ section.now.name ∷ []) }
     ensures form { OnOk result (IsSectionInForm section.now) }
+    ensures memory { result ≡ Err NoMemory → list_any (λ other. bytes_eq other section.now.name) names.old ≡ false }
 {
     if !names.insert(section.name())? {
-        return Err(TrackFault::Refused(TrackRefusal::TwiceNamed(Table::Sections, number)));
+        return Err(OrMemory::Refused(TrackRefusal::TwiceNamed(Table::Sections, number)));
     }
     if !has_long_runs(section) {
-        return Err(TrackFault::Refused(TrackRefusal::ShortRun(number)));
+        return Err(OrMemory::Refused(TrackRefusal::ShortRun(number)));
     }
     Ok(())
 }
 
 impl Sections {
     /// The table of these sections, or the first refusal of one.
-    pub(crate) fn new(alloc: Global, sections: Vec<Section>) -> Result<Sections, TrackFault>
-        ensures judged { IsJudged result (first_refusal section_refusal [] sections.items) }
-        ensures made { IfOk result (λ table. table ≡ sections.items) }
-        ensures form { OnOk result (All IsSectionInForm sections.items) }
+    pub(crate) fn new(
+        alloc: Global,
+        sections: Vec<Section>,
+    ) -> Result<Sections, OrMemory<TrackRefusal>>
+        ensures judged { AnswersOrMemory result (sound_sections sections.items) }
+        ensures form { IfOk result (λ table. All IsSectionInForm table) }
     {
         let mut names = Names::new(alloc);
         for (earlier, section) in sections.iter().enumerate() {

@@ -1,8 +1,12 @@
-ghost use Rattle.std.specs.Prelude.{◌≡◌, ◌<◌, ◌≤◌, length, slice_get, option_map, Some, IfSome};
+ghost use Rattle.std.specs.Prelude.{◌≡◌, ◌<◌, ◌≤◌, length, slice_get, option_map, Some, Err, IfSome, IfErr};
 ghost use Rattle.rbc_model.specs.Tracks.{section_named, route_named, group_named, is_linked};
-ghost use Rattle.rbc_model.specs.SoundTracks.{IsInForm, IsSound};
+ghost use Rattle.rbc_model.specs.SoundTracks.{IsInForm, IsSound, size_refusal};
+ghost use Rattle.rbc_model.specs.Answers.{AnswersOrMemory};
+ghost use Rattle.rbc_model.specs.TrackParts.{resolved, track_of};
+ghost use Rattle.rbc_model.specs.declared.limits.TheConstants.{MOST_STEPS};
+ghost use Rattle.rbc_model.specs.declared.memory.OrMemory.TheVariants.{Refused};
+ghost use Rattle.rbc_track.specs.Making.{made_of, sizes_of};
 ghost use Rattle.rbc_track.specs.PartsView.{parts_view};
-ghost use Rattle.rbc_track.specs.Judged.{IsTrackOf};
 ghost use Rattle.rbc_track.specs.Tables.{leg_named};
 
 use crate::group_table::Groups;
@@ -11,8 +15,8 @@ use crate::links::Links;
 use crate::route_table::Routes;
 use crate::section_table::Sections;
 use crate::sizes::judge_sizes;
-use crate::{LegName, Name, Parts, Route, Section, TrackFault};
-use rbc_model::{Group, GroupName, Leg, RouteId, SectionId};
+use crate::{LegName, Name, Parts, Route, Section};
+use rbc_model::{BaliseGroup, GroupName, Leg, OrMemory, RouteId, SectionId, TrackRefusal};
 use std::alloc::Global;
 use std::marker::Model;
 
@@ -44,9 +48,30 @@ impl Model for Track {
 
 impl Track {
     /// The track that the parts make, or the first reason why they make none. Sizes are judged before all else, and then sections, links,
-    /// groups and routes, one entry after the other. Memory may be refused before a later refusal is found, but no size is passed over.
-    pub fn new(alloc: Global, parts: Parts) -> Result<Track, TrackFault>
-        ensures { IsTrackOf (parts_view parts) result }
+    /// groups and routes, one entry after the other.
+    ///
+    /// # Errors
+    ///
+    /// `Refused` with the first of these:
+    /// - `NoSection` and then `TooMany`, before any memory is asked for,
+    /// - `TwiceNamed` or `ShortRun` of a section,
+    /// - `BadLink`,
+    /// - `TwiceNamed` or `BadGroup` of a group,
+    /// - `TwiceNamed` or `BadRoute` of a route.
+    ///
+    /// `Memory` may come in place of all but the first line.
+    pub fn new(alloc: Global, parts: Parts) -> Result<Track, OrMemory<TrackRefusal>>
+        ensures track { AnswersOrMemory result (track_of (parts_view parts)) }
+        ensures sizes { IfSome (size_refusal (resolved (parts_view parts))) (λ refusal. result ≡ Err (Refused refusal)) }
+    {
+        Track::made(alloc, parts)
+    }
+
+    /// The same, table by table.
+    #[tactic(auto, unfolding(crate::specs::Making::made_of))]
+    fn made(alloc: Global, parts: Parts) -> Result<Track, OrMemory<TrackRefusal>>
+        ensures made { AnswersOrMemory result (made_of (parts_view parts)) }
+        ensures sizes { IfErr (sizes_of (parts_view parts)) (λ refusal. result ≡ Err (Refused refusal)) }
     {
         judge_sizes(&parts)?;
         let Parts {
@@ -74,8 +99,8 @@ impl Track {
     /// How many steps a profile of speeds may have: 1 to 31.
     pub fn speed_steps(&self) -> usize
         ensures steps { result ≡ self.now.speed_steps }
-        ensures some { 1 ≤ result }
-        ensures few { result ≤ 31 }
+        ensures at_least { 1 ≤ result }
+        ensures at_most { result ≤ MOST_STEPS }
     {
         self.speed_steps
     }
@@ -83,8 +108,8 @@ impl Track {
     /// How many steps a profile of gradients may have: 1 to 31.
     pub fn grade_steps(&self) -> usize
         ensures steps { result ≡ self.now.grade_steps }
-        ensures some { 1 ≤ result }
-        ensures few { result ≤ 31 }
+        ensures at_least { 1 ≤ result }
+        ensures at_most { result ≤ MOST_STEPS }
     {
         self.grade_steps
     }
@@ -123,8 +148,9 @@ impl Track {
     }
 
     /// The balise group of this identity.
-    pub fn group(&self, name: GroupName) -> Option<Group>
-        ensures { result ≡ group_named self.now name }
+    pub fn group(&self, name: GroupName) -> Option<BaliseGroup>
+        ensures group { result ≡ group_named self.now name }
+        ensures within { IfSome result (λ group. group.section < length self.now.sections) }
     {
         self.groups.find(name)
     }

@@ -1,9 +1,5 @@
-pub mod Chains
-pub mod Items
-pub mod Legs
-pub mod Members
-pub mod Limits
-pub mod Steps
-pub mod Texts
-pub mod TopChain
-pub mod Walks
+pub mod FileLemmas
+pub mod ItemLemmas
+pub mod MemberLemmas
+pub mod TextLemmas
+pub mod WalkLemmas

@@ -1,3 +1,3 @@
 pub mod TomlFile
-pub mod FaultTexts
 pub mod Told
+pub mod TopTables

@@ -1,133 +1,202 @@
--- What is answered of a file, beside what its definition says.
-use Rattle.std.specs.Prelude.{◌≡◌, ℕ, ℤ, List, map, Option, Some, None, option_map, Result, Ok, Err, IfSome, string_bytes, if◌then◌else◌}
-use Rattle.std.specs.List.{filter_map}
-use Rattle.std.specs.Option.{option_and_then}
+-- What is answered of a track file in TOML: the definition of `TrackFile`, cut into the steps that are taken here.
+use Rattle.std.specs.Prelude.{◌≡◌, ℕ, ℤ, List, [], ◌∷◌, Option, Some, None, option_map, Result, Ok, Err, Bool, is_some, if◌then◌else◌}
+use Rattle.std.specs.List.{list_all}
+use Rattle.std.specs.Result.{result_map_both}
 use Rattle.std.specs.Str.{is_utf8}
 use Rattle.toml.specs.Parse.{parse_document}
-use Rattle.toml.specs.Data.{Data, Members}
-use Rattle.toml.specs.View.{view}
-use Rattle.toml.specs.declared.value.Value.{Value}
+use Rattle.toml.specs.Data.{Data, Members, as_integer, as_str}
+use Rattle.rbc_model.specs.declared.limits.TheConstants.{MOST_STEPS, SHORTEST_RUN, LONGEST_TRACK, LAST_COUNTRY, LAST_GROUP}
+use Rattle.rbc_model.specs.declared.files.FileFault.{FileFault}
+use Rattle.rbc_model.specs.declared.files.FileFault.TheVariants.{Toml, Missing, Wrong, Range, Runs, Track as BadTrack}
 use Rattle.rbc_model.specs.declared.files.FileTable.{FileTable}
-use Rattle.rbc_model.specs.declared.files.FileTable.TheVariants.{Top}
+use Rattle.rbc_model.specs.declared.files.FileTable.TheVariants.{Top, Section as SectionTable, Link as LinkTable, Group as GroupTable, Route as RouteTable}
 use Rattle.rbc_model.specs.declared.files.Key.{Key}
-use Rattle.rbc_model.specs.TrackFile.{Entry, FileFault, Toml, Missing, Wrong, Unknown, Range, Runs, Refused, or_fault, each_in, pair_of, value_at_key, in_form, required, optional, only_keys, runs_at, section_at, link_at, group_at, route_at, entries_at, parts_at, track_in_file}
-use Rattle.rbc_model.specs.Levels.{Levels}
-use Rattle.rbc_model.specs.Profiles.{StepFunction}
+use Rattle.rbc_model.specs.declared.files.Key.TheVariants.{Format as FormatKey, SpeedSteps, GradeSteps, Section as SectionKey, Link as LinkKey, Group as GroupKey, Route as RouteKey, Name, Length, Speeds, Grades, From, To, Country, Number, Offset, Nominal, After, Legs}
+use Rattle.rbc_model.specs.Results.{demand, ◌>>=◌, ◌>>◌}
+use Rattle.rbc_model.specs.TrackFile.{FileEntry, TopKeys, or_fault, or_absent, pair_in, each_at, value_at_key, number_from_to, run_of_pair, speed_in, grade_in, only_keys, track_in_file}
+use Rattle.rbc_model.specs.Levels.{Levels, speed_levels, grade_levels}
+use Rattle.rbc_model.specs.Names.{LegName, name_in, leg_in, direction_in}
+use Rattle.rbc_model.specs.Profiles.{StepFunction, runs_of}
 use Rattle.rbc_model.specs.Tracks.{Section, Track}
-use Rattle.rbc_model.specs.TrackParts.{LinkPart, GroupPart, RoutePart, Parts}
-use Rattle.rbc_trackfile.specs.declared.fault.FileFault.{FileFault as ReadFault}
-use Rattle.rbc_trackfile.specs.declared.fault.FileFault.TheVariants.{Toml as ReadToml, Missing as ReadMissing, Wrong as ReadWrong, Unknown as ReadUnknown, Range as ReadRange, Runs as ReadRuns, Track as ReadTrack, Memory as ReadMemory}
+use Rattle.rbc_model.specs.TrackParts.{LinkPart, GroupPart, RoutePart, Parts, track_of}
+use Rattle.rbc_trackfile.specs.declared.values.Sort.{Sort}
+use Rattle.rbc_trackfile.specs.declared.values.Sort.TheVariants.{Text, Pair, Table}
 use Rattle.rbc_trackfile.specs.TomlFile.{toml_document, member_list}
 
--- the definition's fault; where memory was refused there is none
-abbrev pub fault_view : ReadFault → Option FileFault
-fault_view ReadToml = Some Toml
-fault_view (ReadMissing table number key) = Some (Missing table number key)
-fault_view (ReadWrong table number key) = Some (Wrong table number key)
-fault_view (ReadUnknown table number key) = Some (Unknown table number (string_bytes key))
-fault_view (ReadRange table number key) = Some (Range table number key)
-fault_view (ReadRuns number key) = Some (Runs number key)
-fault_view (ReadTrack refusal) = Some (Refused refusal)
-fault_view ReadMemory = None
+-- what is answered is what the definition says; the value is seen by the function given first
+abbrev pub Tells : {X Y : Type 0} → (X → Y) → Result X FileFault → Result Y FileFault → Type 0
+Tells view (Ok x) answer = answer ≡ Ok (view x)
+Tells view (Err fault) answer = answer ≡ Err fault
 
--- the definition's answer; where memory was refused there is none
-abbrev pub told : {X Y : Type 0} → (X → Y) → Result X ReadFault → Option (Result Y FileFault)
-told view (Ok read) = Some (Ok (view read))
-told view (Err fault) = option_map Err (fault_view fault)
+-- ---- values at keys
 
--- what is answered is what the definition says
-abbrev pub Tells : {X Y : Type 0} → (X → Y) → Result X ReadFault → Result Y FileFault → Type 0
-Tells view result answer = told view result ≡ Some answer
-
--- what is answered is what the definition says, unless memory was refused
-abbrev pub TellsOrMemory : {X Y : Type 0} → (X → Y) → Result X ReadFault → Result Y FileFault → Type 0
-TellsOrMemory view result answer = IfSome (told view result) (λ known. known ≡ answer)
-
--- ---- the definition at TOML documents
-
--- the value at a key
-unfoldable pub value_told : Entry Data → Key → Option Data
+unfoldable pub value_told : FileEntry Data → Key → Option Data
 value_told = value_at_key toml_document
 
--- the value at a key that must be there
-unfoldable pub there_told : Entry Data → Key → Result Data FileFault
-there_told entry key = or_fault (Missing entry.table entry.number key) (value_at_key toml_document entry key)
+-- a value that must be there
+unfoldable pub there_told : FileEntry Data → Key → Result Data FileFault
+there_told entry key = or_fault (Missing entry.table entry.number key) (value_told entry key)
 
 -- a value of a sort and in a form, at a key that must be there, and at one that may be absent
-unfoldable pub in_form_told : {A B : Type 0} → (Data → Option A) → (A → Option B) → Entry Data → Key → Data → Result B FileFault
-in_form_told = in_form toml_document
+unfoldable pub in_form_told : {A B : Type 0} → (Data → Option A) → (A → Option B) → FileEntry Data → Key → Data → Result B FileFault
+in_form_told sort form entry key value = do
+  found ← or_fault (Wrong entry.table entry.number key) (sort value)
+  or_fault (Range entry.table entry.number key) (form found)
 
-unfoldable pub required_told : {A B : Type 0} → (Data → Option A) → (A → Option B) → Entry Data → Key → Result B FileFault
-required_told = required toml_document
+unfoldable pub required_told : {A B : Type 0} → (Data → Option A) → (A → Option B) → FileEntry Data → Key → Result B FileFault
+required_told sort form entry key = do
+  value ← there_told entry key
+  in_form_told sort form entry key value
 
-unfoldable pub optional_told : {A B : Type 0} → (Data → Option A) → (A → Option B) → B → Entry Data → Key → Result B FileFault
-optional_told = optional toml_document
+unfoldable pub optional_told : {A B : Type 0} → (Data → Option A) → (A → Option B) → B → FileEntry Data → Key → Result B FileFault
+optional_told sort form absent entry key = or_absent toml_document (in_form_told sort form entry key) absent (value_told entry key)
+
+-- a leg, if its key is there
+unfoldable pub leg_if_any_told : FileEntry Data → Key → Result (Option LegName) FileFault
+leg_if_any_told entry key =
+    or_absent toml_document (λ value. in_form_told as_str leg_in entry key value >>= λ leg. Ok (Some leg)) None (value_told entry key)
 
 -- no keys but these
-unfoldable pub only_told : List Key → Entry Data → Result (Unit {0}) FileFault
+unfoldable pub only_told : List Key → FileEntry Data → Result (Unit {0}) FileFault
 only_told = only_keys toml_document
 
--- ---- sorts of values
+-- ---- lists, whose values are all of one sort before one of them is out of its form
 
--- a list, and a list of two whole numbers
 unfoldable pub list_sort : Data → Option (List Data)
 list_sort = toml_document.as_list
 
 unfoldable pub pair_sort : Data → Option (ℤ × ℤ)
-pair_sort value = option_and_then (pair_of toml_document) (toml_document.as_list value)
+pair_sort = pair_in toml_document
 
 unfoldable pub table_sort : Data → Option (List (List ℕ × Data))
 table_sort = toml_document.as_table
 
--- a list whose items are all of a sort
-abbrev pub list_of : {A : Type 0} → (Data → Option A) → Data → Option (List A)
-list_of sort value = option_and_then (each_in sort) (list_sort value)
+-- whether a value is of the sort
+abbrev pub is_of_sort : Sort → Data → Bool
+is_of_sort Text value = is_some (as_str value)
+is_of_sort Pair value = is_some (pair_sort value)
+is_of_sort Table value = is_some (table_sort value)
 
--- those of the values that are of a sort
-unfoldable pub of_sort : {A : Type 0} → (Data → Option A) → List Value → List A
-of_sort sort values = filter_map sort (map view values)
+-- the values of a list, if all are of the sort
+unfoldable pub values_told : Sort → FileEntry Data → Key → Data → Result (List Data) FileFault
+values_told sort entry key value = do
+  values ← or_fault (Wrong entry.table entry.number key) (list_sort value)
+  demand (list_all (is_of_sort sort) values) (Wrong entry.table entry.number key)
+  Ok values
+
+-- the same at a key that may be absent
+unfoldable pub tables_told : FileEntry Data → Key → Result (List Data) FileFault
+tables_told entry key = or_absent toml_document (values_told Table entry key) [] (value_told entry key)
+
+-- each value, read with its number, counted from a number on
+unfoldable pub each_told : {A : Type 0} → (ℕ → Data → Result A FileFault) → ℕ → List Data → Result (List A) FileFault
+each_told = each_at toml_document
+
+-- the list at a key that must be there
+unfoldable pub list_told : {A : Type 0} → Sort → (FileEntry Data → Key → ℕ → Data → Result A FileFault) → FileEntry Data → Key → Result (List A) FileFault
+list_told sort read entry key = do
+  value ← there_told entry key
+  values ← values_told sort entry key value
+  each_told (read entry key) 1 values
+
+-- a value in its form, whatever its number
+unfoldable pub item_told : {A B : Type 0} → (Data → Option A) → (A → Option B) → FileEntry Data → Key → ℕ → Data → Result B FileFault
+item_told sort form entry key number value = in_form_told sort form entry key value
+
+-- the entry that a value of a list of tables is
+unfoldable pub inner_told : FileTable → FileEntry Data → Key → ℕ → Data → Result (FileEntry Data) FileFault
+inner_told table entry key number value = do
+  members ← or_fault (Wrong entry.table entry.number key) (table_sort value)
+  Ok (record { table = table; number = number; members = members })
+
+unfoldable pub entry_told : {A : Type 0} → (FileEntry Data → Result A FileFault) → FileTable → FileEntry Data → Key → ℕ → Data → Result A FileFault
+entry_told read table entry key number value = do
+  inner ← inner_told table entry key number value
+  read inner
 
 -- ---- entries of the lists of tables
 
--- each of a list in its form
-unfoldable pub each_told : {A B : Type 0} → (A → Option B) → Entry Data → Key → List A → Result (List B) FileFault
-each_told form entry key found = or_fault (Range entry.table entry.number key) (each_in form found)
-
 -- speeds or gradients over so many metres
-unfoldable pub runs_told : {V : Type 0} → Levels V → (ℤ → Option V) → Entry Data → ℕ → Key → Result (StepFunction V) FileFault
-runs_told = runs_at toml_document
+unfoldable pub runs_told : {V : Type 0} → Levels V → (ℤ → Option V) → FileEntry Data → ℕ → Key → Result (StepFunction V) FileFault
+runs_told levels level_in entry metres key = do
+  rows ← list_told Pair (item_told pair_sort (run_of_pair level_in)) entry key
+  result_map_both (λ track. track) (λ _. Runs entry.number key) (runs_of levels metres rows)
 
 -- the entries of each table
-unfoldable pub section_told : Entry Data → Result Section FileFault
-section_told = section_at toml_document
+unfoldable pub section_told : FileEntry Data → Result Section FileFault
+section_told entry = do
+  name ← required_told as_str name_in entry Name
+  metres ← required_told as_integer (number_from_to SHORTEST_RUN LONGEST_TRACK) entry Length
+  speeds ← runs_told speed_levels speed_in entry metres Speeds
+  grades ← runs_told grade_levels grade_in entry metres Grades
+  only_told (Name ∷ Length ∷ Speeds ∷ Grades ∷ []) entry
+  Ok (record { name = name; metres = metres; speeds = speeds.steps; grades = grades.steps })
 
-unfoldable pub link_told : Entry Data → Result LinkPart FileFault
-link_told = link_at toml_document
+unfoldable pub link_told : FileEntry Data → Result LinkPart FileFault
+link_told entry = do
+  from ← required_told as_str leg_in entry From
+  to ← required_told as_str leg_in entry To
+  only_told (From ∷ To ∷ []) entry
+  Ok (record { from = from; to = to })
 
-unfoldable pub group_told : Entry Data → Result GroupPart FileFault
-group_told = group_at toml_document
+unfoldable pub group_told : FileEntry Data → Result GroupPart FileFault
+group_told entry = do
+  country ← required_told as_integer (number_from_to 0 LAST_COUNTRY) entry Country
+  number ← required_told as_integer (number_from_to 0 LAST_GROUP) entry Number
+  section ← required_told as_str name_in entry SectionKey
+  offset ← required_told as_integer (number_from_to 0 LONGEST_TRACK) entry Offset
+  nominal ← required_told as_str direction_in entry Nominal
+  only_told (Country ∷ Number ∷ SectionKey ∷ Offset ∷ Nominal ∷ []) entry
+  Ok (record { name = record { country = country; number = number }; section = section; offset = offset; nominal = nominal })
 
-unfoldable pub route_told : Entry Data → Result RoutePart FileFault
-route_told = route_at toml_document
-
--- the entries of a table, numbered from a number on
-unfoldable pub entries_told : {A : Type 0} → (Entry Data → Result A FileFault) → FileTable → ℕ → List (List (List ℕ × Data)) → Result (List A) FileFault
-entries_told = entries_at toml_document
+unfoldable pub route_told : FileEntry Data → Result RoutePart FileFault
+route_told entry = do
+  name ← required_told as_str name_in entry Name
+  after ← leg_if_any_told entry After
+  legs ← list_told Text (item_told as_str leg_in) entry Legs
+  only_told (Name ∷ After ∷ Legs ∷ []) entry
+  Ok (record { name = name; after = after; legs = legs })
 
 -- ---- the file
 
--- the parts that the top table tells
-unfoldable pub top_told : Entry Data → Result Parts FileFault
-top_told = parts_at toml_document
+-- what the top table's own keys tell
+unfoldable pub keys_told : FileEntry Data → Result (TopKeys Data) FileFault
+keys_told top = do
+  required_told as_integer (number_from_to 1 1) top FormatKey
+  speed_steps ← optional_told as_integer (number_from_to 1 MOST_STEPS) MOST_STEPS top SpeedSteps
+  grade_steps ← optional_told as_integer (number_from_to 1 MOST_STEPS) MOST_STEPS top GradeSteps
+  sections ← tables_told top SectionKey
+  links ← tables_told top LinkKey
+  groups ← tables_told top GroupKey
+  routes ← tables_told top RouteKey
+  Ok (record { speed_steps = speed_steps; grade_steps = grade_steps; sections = sections; links = links; groups = groups; routes = routes })
 
--- the same of a table of TOML
-abbrev pub parts_told : Members → Result Parts FileFault
-parts_told members = top_told (record { table = Top; number = 1; members = member_list members })
+-- the parts that the top table tells
+unfoldable pub top_told : FileEntry Data → Result Parts FileFault
+top_told top = do
+  keys ← keys_told top
+  only_told (FormatKey ∷ SpeedSteps ∷ GradeSteps ∷ SectionKey ∷ LinkKey ∷ GroupKey ∷ RouteKey ∷ []) top
+  sections ← each_told (entry_told section_told SectionTable top SectionKey) 1 keys.sections
+  links ← each_told (entry_told link_told LinkTable top LinkKey) 1 keys.links
+  groups ← each_told (entry_told group_told GroupTable top GroupKey) 1 keys.groups
+  routes ← each_told (entry_told route_told RouteTable top RouteKey) 1 keys.routes
+  Ok (record { speed_steps = keys.speed_steps; grade_steps = keys.grade_steps; sections = sections; links = links; groups = groups; routes = routes })
+
+-- the entry that a whole table of TOML is
+abbrev pub top_of : Members → FileEntry Data
+top_of members = record { table = Top; number = 1; members = member_list members }
 
 -- the table that a text is in TOML, if it is UTF-8 and TOML
 unfoldable pub toml_table : List ℕ → Option Members
 toml_table text = if is_utf8 text then parse_document text else None
 
 -- the track that a text tells
-unfoldable pub track_told : List ℕ → Result Track FileFault
+unfoldable pub file_told : List ℕ → Result Track FileFault
+file_told text = do
+  members ← or_fault Toml (toml_table text)
+  parts ← top_told (top_of members)
+  result_map_both (λ track. track) BadTrack (track_of parts)
+
+-- the track that a text tells, by the definition
+abbrev pub track_told : List ℕ → Result Track FileFault
 track_told text = track_in_file toml_document (option_map member_list (toml_table text))

@@ -2,8 +2,8 @@
 use Rattle.std.specs.Prelude.{ℕ, List, [], ◌∷◌, option_map}
 use Rattle.toml.specs.Data.{Data, Items, no_items, item, Members, no_members, member, as_integer, as_str, as_array, as_table}
 use Rattle.toml.specs.View.{table_view}
-use Rattle.rbc_model.specs.TrackFile.{Document, Entry}
-use Rattle.rbc_trackfile.specs.declared.entry.Entry.{Entry as ReadEntry}
+use Rattle.rbc_model.specs.TrackFile.{Document, FileEntry}
+use Rattle.rbc_trackfile.specs.declared.entry.FileEntry.{FileEntry as ReadEntry}
 
 -- the items of an array in order
 abbrev pub item_list : Items → List Data
@@ -25,5 +25,5 @@ toml_document = record {
 }
 
 -- an entry as the definition has it
-abbrev pub entry_view : ReadEntry → Entry Data
+abbrev pub entry_view : ReadEntry → FileEntry Data
 entry_view entry = record { table = entry.table; number = entry.number; members = member_list (table_view entry.members.now) }

@@ -1,18 +1,23 @@
+//! A whole track file, from its bytes to its track.
+ghost use Rattle.std.specs.Prelude.{◌≡◌, Err, IfOk, IfErr};
+ghost use Rattle.std.specs.Str.{IsUtf8};
+ghost use Rattle.toml.specs.Errors.{IsBlank};
+ghost use Rattle.rbc_trackfile.specs.TomlFile.{entry_view, toml_document, member_list};
 ghost use Rattle.toml.specs.View.{table_view};
-ghost use Rattle.rbc_model.specs.TrackFile.{Toml, or_fault};
+ghost use Rattle.rbc_model.specs.Answers.{AnswersAs, AnswersOrMemory};
+ghost use Rattle.rbc_model.specs.declared.files.FileFault.TheVariants.{Toml};
+ghost use Rattle.rbc_model.specs.declared.memory.OrMemory.TheVariants.{Refused, Memory as NoMemory};
+ghost use Rattle.rbc_model.specs.TrackFile.{AreInKeyOrder, or_fault, keys_at, parts_at};
 ghost use Rattle.rbc_track.specs.PartsView.{parts_view};
-ghost use Rattle.rbc_trackfile.specs.Told.{TellsOrMemory, parts_told, toml_table, track_told};
+ghost use Rattle.rbc_trackfile.specs.Told.{Tells, keys_told, top_told, top_of, toml_table, file_told, track_told};
+ghost use Rattle.rbc_trackfile.specs.TopTables.{keys_view};
 
-use crate::entry::Entry;
-use crate::fault::FileFault;
-use crate::groups::groups_in;
-use crate::links::links_in;
-use crate::routes::routes_in;
-use crate::sections::sections_in;
-use rbc_model::{FileTable, Key};
-use rbc_track::{Parts, Track, TrackFault};
+use crate::entry::FileEntry;
+use rbc_model::{FileFault, FileTable, Key, OrMemory};
+use rbc_track::{Parts, StepLimit, Track};
 use std::alloc::Global;
-use toml::Table;
+use std::str;
+use toml::{Table, Value};
 
 /// The keys of the top table.
 const TOP_KEYS: [Key; 7] = [
@@ -25,55 +30,55 @@ const TOP_KEYS: [Key; 7] = [
     Key::Route,
 ];
 
-/// The table that the bytes of a track file are. Bytes that are no UTF-8, or no TOML, are the fault `Toml`.
-pub fn parse(alloc: Global, text: &[u8]) -> Result<Table, FileFault>
-    ensures { TellsOrMemory (λ table. table_view table) result (or_fault Toml (toml_table text.now)) }
+/// What the top table's own keys tell: the step limits, and the values of the lists of tables.
+#[derive(Clone, Copy)]
+pub(crate) struct TopKeys<'a> {
+    speed_steps: StepLimit,
+    grade_steps: StepLimit,
+    sections: &'a [Value],
+    links: &'a [Value],
+    groups: &'a [Value],
+    routes: &'a [Value],
+}
+
+/// The table that the bytes of a track file are.
+///
+/// # Errors
+///
+/// - `Toml`: the bytes are no UTF-8, or no TOML.
+/// - `Memory`, unless the bytes are no UTF-8, or are blank.
+pub fn parse(alloc: Global, text: &[u8]) -> Result<Table, OrMemory<FileFault>>
+    ensures table { AnswersAs (λ table. table_view table) result (or_fault Toml (toml_table text.now)) }
+    ensures memory { result ≡ Err NoMemory → IsUtf8 text.now × ¬ IsBlank text.now }
 {
-    match toml::table_from_slice(alloc, text) {
+    let Ok(text) = str::from_utf8(text) else {
+        return Err(OrMemory::Refused(FileFault::Toml));
+    };
+    match toml::table_from_str(alloc, text) {
         Ok(table) => Ok(table),
         Err(error) => {
             if error.is_memory() {
-                Err(FileFault::Memory)
+                Err(OrMemory::Memory)
             } else {
-                Err(FileFault::Toml)
+                Err(OrMemory::Refused(FileFault::Toml))
             }
         }
     }
 }
 
-/// The track that the bytes of a track file tell, or the file's first fault: that it is no TOML, those that `read_parts` tells, and then
-/// the track's own refusal. Memory may be refused before a fault is found.
-pub fn read(alloc: Global, text: &[u8]) -> Result<Track, FileFault>
-    ensures { TellsOrMemory (λ track. track) result (track_told text.now) }
+/// What the top table's own keys tell, in the order of their reading.
+#[tactic(auto, unfolding(crate::specs::Told::keys_told))]
+fn top_keys<'a>(top: FileEntry<'a>) -> Result<TopKeys<'a>, FileFault>
+    ensures { Tells keys_view result (keys_told (entry_view top.entry)) }
 {
-    let table = parse(alloc, text)?;
-    let parts = read_parts(alloc, &table)?;
-    match Track::new(alloc, parts) {
-        Ok(track) => Ok(track),
-        Err(TrackFault::Refused(refusal)) => Err(FileFault::Track(refusal)),
-        Err(TrackFault::Memory) => Err(FileFault::Memory),
-    }
-}
-
-/// The parts that the table of a track file tells, or its first fault: those of the top table's own keys in the order of their reading, an
-/// unknown key, and then those of its sections, links, groups and routes, entry by entry. Memory may be refused before a fault is found.
-pub fn read_parts(alloc: Global, table: &Table) -> Result<Parts, FileFault>
-    ensures { TellsOrMemory parts_view result (parts_told (table_view table.now)) }
-{
-    let top = Entry::new(FileTable::Top, 1, table);
     top.number(Key::Format, 1, 1)?;
     let speed_steps = top.step_limit(Key::SpeedSteps)?;
     let grade_steps = top.step_limit(Key::GradeSteps)?;
-    let section_tables = top.tables(Key::Section)?;
-    let link_tables = top.tables(Key::Link)?;
-    let group_tables = top.tables(Key::Group)?;
-    let route_tables = top.tables(Key::Route)?;
-    top.only(alloc, &TOP_KEYS)?;
-    let sections = sections_in(alloc, section_tables)?;
-    let links = links_in(alloc, link_tables)?;
-    let groups = groups_in(alloc, group_tables)?;
-    let routes = routes_in(alloc, route_tables)?;
-    Ok(Parts {
+    let sections = top.tables(Key::Section)?;
+    let links = top.tables(Key::Link)?;
+    let groups = top.tables(Key::Group)?;
+    let routes = top.tables(Key::Route)?;
+    Ok(TopKeys {
         speed_steps,
         grade_steps,
         sections,
@@ -81,4 +86,72 @@ pub fn read_parts(alloc: Global, table: &Table) -> Result<Parts, FileFault>
         groups,
         routes,
     })
+}
+
+/// The parts that the top table tells: its own keys, then each of its lists of tables, entry by entry.
+#[tactic(auto, unfolding(crate::specs::Told::top_told))]
+fn top_parts(alloc: Global, top: FileEntry) -> Result<Parts, OrMemory<FileFault>>
+    ensures told { AnswersAs parts_view result (top_told (entry_view top.entry)) }
+    ensures keys { IfErr (keys_told (entry_view top.entry)) (λ fault. result ≡ Err (Refused fault)) }
+    ensures order { IfOk (keys_told (entry_view top.entry)) (λ _. AreInKeyOrder (member_list (table_view top.entry.members.now))) }
+{
+    let keys = top_keys(top)?;
+    top.only(alloc, &TOP_KEYS)?;
+    let sections = top.items(alloc, Key::Section, keys.sections)?;
+    let links = top.items(alloc, Key::Link, keys.links)?;
+    let groups = top.items(alloc, Key::Group, keys.groups)?;
+    let routes = top.items(alloc, Key::Route, keys.routes)?;
+    Ok(Parts {
+        speed_steps: keys.speed_steps,
+        grade_steps: keys.grade_steps,
+        sections,
+        links,
+        groups,
+        routes,
+    })
+}
+
+/// The parts that the table of a track file tells.
+///
+/// # Errors
+///
+/// `Refused` with the first of these:
+/// - `Missing`, `Wrong` or `Range` of the top table's own keys, in the order of their reading, before any memory is asked for,
+/// - `Unknown` of the top table,
+/// - the first fault of its sections, links, balise groups and routes, entry by entry: `Missing`, `Wrong`, `Range` and `Runs` key by key,
+///   and then `Unknown`.
+///
+/// `Memory` may come in place of all but the first line.
+pub fn read_parts(alloc: Global, table: &Table) -> Result<Parts, OrMemory<FileFault>>
+    ensures parts { AnswersAs parts_view result (parts_at toml_document (top_of (table_view table.now))) }
+    ensures keys { IfErr (keys_at toml_document (top_of (table_view table.now))) (λ fault. result ≡ Err (Refused fault)) }
+    ensures order { IfOk (keys_at toml_document (top_of (table_view table.now))) (λ _. AreInKeyOrder (member_list (table_view table.now))) }
+{
+    top_parts(alloc, FileEntry::new(FileTable::Top, 1, table))
+}
+
+/// The track that the bytes of a track file tell.
+///
+/// # Errors
+///
+/// `Refused` with the file's first fault: `Toml`, then those of `read_parts`, and then `Track` with the refusal of `Track::new`.
+/// `Memory` may come in place of a fault.
+pub fn read(alloc: Global, text: &[u8]) -> Result<Track, OrMemory<FileFault>>
+    ensures { AnswersOrMemory result (track_told text.now) }
+{
+    track_in(alloc, text)
+}
+
+/// The same, step by step.
+#[tactic(auto, unfolding(crate::specs::Told::file_told))]
+fn track_in(alloc: Global, text: &[u8]) -> Result<Track, OrMemory<FileFault>>
+    ensures { AnswersOrMemory result (file_told text.now) }
+{
+    let table = parse(alloc, text)?;
+    let parts = top_parts(alloc, FileEntry::new(FileTable::Top, 1, &table))?;
+    match Track::new(alloc, parts) {
+        Ok(track) => Ok(track),
+        Err(OrMemory::Refused(refusal)) => Err(OrMemory::Refused(FileFault::Track(refusal))),
+        Err(OrMemory::Memory) => Err(OrMemory::Memory),
+    }
 }

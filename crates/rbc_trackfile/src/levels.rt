@@ -1,13 +1,15 @@
 //! Speeds and gradients over the metres of a section.
-ghost use Rattle.std.specs.Prelude.{ℤ, ◌≡◌, Option, IfOk};
-ghost use Rattle.rbc_model.specs.TrackFile.{speed_in, grade_in, run_in, each_in};
+ghost use Rattle.std.specs.Prelude.{ℤ, ◌≡◌, Option, Some, IfOk};
+ghost use Rattle.rbc_model.specs.TrackFile.{speed_in, grade_in, run_of_pair};
 ghost use Rattle.rbc_trackfile.specs.TomlFile.{entry_view};
-ghost use Rattle.rbc_trackfile.specs.Told.{TellsOrMemory, pair_sort, list_of, of_sort, each_told, required_told, runs_told};
+ghost use Rattle.rbc_model.specs.Answers.{AnswersOrMemory};
+ghost use Rattle.rbc_trackfile.specs.Told.{pair_sort, item_told, runs_told};
 
-use crate::entry::Entry;
-use crate::fault::FileFault;
-use crate::values::{number_from_to, pair_in};
-use rbc_model::Key;
+use crate::entry::FileEntry;
+use crate::items::ListItem;
+use crate::values::{Sort, number_from_to, pair_in};
+use rbc_model::limits::LONGEST_TRACK;
+use rbc_model::{FileFault, Key, OrMemory};
 use rbc_steps::{Grade, Level, Runs, Speed};
 use std::alloc::Global;
 use toml::Value;
@@ -40,62 +42,44 @@ impl FileLevel for Grade {
     }
 }
 
-/// The run that begins at a metre, 0 to 100,000, with a level.
-fn run<V: FileLevel>(start: i64, level: i64) -> Option<(u32, V)>
-    ensures { result ≡ run_in V.level_in (start, level) }
-{
-    let start = number_from_to(0, 100_000, start)?;
-    let level = V::read(level)?;
-    Some((start, level))
+/// Runs, each a list of its start and its level.
+impl<V: FileLevel> ListItem for (u32, V) {
+    ghost item_at = { item_told pair_sort (run_of_pair V.level_in) };
+
+    #[tactic(auto, unfolding(crate::specs::Told::item_told))]
+    fn read(
+        _alloc: Global,
+        entry: FileEntry,
+        key: Key,
+        _number: usize,
+        value: &Value,
+    ) -> Result<(u32, V), OrMemory<FileFault>> {
+        let Some((start, level)) = pair_in(value) else {
+            return Err(OrMemory::Refused(entry.wrong(key)));
+        };
+        match number_from_to(0, LONGEST_TRACK, start).zip(V::read(level)) {
+            Some(run) => Ok(run),
+            None => Err(OrMemory::Refused(entry.range(key))),
+        }
+    }
 }
 
-impl<'a> Entry<'a> {
-    /// The runs that these pairs are.
-    fn rows_in<V: FileLevel>(
-        self,
-        alloc: Global,
-        key: Key,
-        pairs: &[Value],
-    ) -> Result<Vec<(u32, V)>, FileFault>
-        ensures { TellsOrMemory (λ rows. rows.items) result
-            (each_told (run_in V.level_in) (entry_view self.entry) key (of_sort pair_sort pairs.now)) }
-    {
-        let mut rows = Vec::new(alloc);
-        for value in pairs {
-            let Some((start, level)) = pair_in(value) else {
-                continue;
-            };
-            let Some(run) = run(start, level) else {
-                return Err(self.range(key));
-            };
-            rows.push(run)?;
-        }
-        Ok(rows)
-    }
-
-    /// The runs at a key that must be there.
-    fn rows<V: FileLevel>(self, alloc: Global, key: Key) -> Result<Vec<(u32, V)>, FileFault>
-        ensures { TellsOrMemory (λ rows. rows.items) result
-            (required_told (list_of pair_sort) (each_in (run_in V.level_in)) (entry_view self.entry) key) }
-    {
-        let pairs = self.pairs(key)?;
-        self.rows_in(alloc, key, pairs)
-    }
-
+impl<'a> FileEntry<'a> {
     /// The levels at a key over so many metres.
+    #[tactic(auto, unfolding(crate::specs::Told::runs_told))]
     pub(crate) fn runs<V: FileLevel>(
         self,
         alloc: Global,
         key: Key,
         metres: u32,
-    ) -> Result<Runs<V>, FileFault>
-        ensures told { TellsOrMemory (λ runs. runs) result (runs_told V.levels V.level_in (entry_view self.entry) metres key) }
+    ) -> Result<Runs<V>, OrMemory<FileFault>>
+        ensures told { AnswersOrMemory result (runs_told V.levels V.level_in (entry_view self.entry) metres key) }
         ensures end { IfOk result (λ runs. runs.end ≡ metres) }
     {
-        let rows = self.rows(alloc, key)?;
+        let rows = self.list(alloc, Sort::Pair, key)?;
         match Runs::new(rows, metres) {
             Ok(runs) => Ok(runs),
-            Err(_) => Err(self.no_runs(key)),
+            Err(_) => Err(OrMemory::Refused(self.no_runs(key))),
         }
     }
 }

@@ -2,19 +2,14 @@
 #![tactic(auto)]
 
 mod entry;
-mod fault;
 mod file;
 mod forms;
-mod groups;
-mod keys;
+mod items;
 mod levels;
-mod links;
-mod routes;
-mod sections;
+mod parts;
 #[cfg(test)]
 mod tests;
 mod values;
 
-pub use fault::FileFault;
 pub use file::{parse, read, read_parts};
-pub use keys::key_text;
+pub use rbc_model::{FileFault, key_text};

@@ -1,5 +1,5 @@
 use crate::{FileFault, parse, read, read_parts};
-use rbc_model::Direction;
+use rbc_model::{Direction, OrMemory};
 use rbc_track::Parts;
 use std::alloc::Global;
 use std::test::Fail;
@@ -177,7 +177,7 @@ const FILES: &[(&str, &str)] = &[
     ),
 ];
 
-fn parts_in(alloc: Global, text: &[u8]) -> Result<Parts, FileFault> {
+fn parts_in(alloc: Global, text: &[u8]) -> Result<Parts, OrMemory<FileFault>> {
     let table = parse(alloc, text)?;
     read_parts(alloc, &table)
 }
@@ -192,7 +192,8 @@ fn changed(alloc: Global, old: &str, new: &str) -> Result<String, Fail> {
 fn fault_in(alloc: Global, text: &[u8]) -> Result<String, Fail> {
     match read(alloc, text) {
         Ok(_) => Err("the file has a fault".into()),
-        Err(fault) => Ok(format!(in alloc; "{fault}")?),
+        Err(OrMemory::Refused(fault)) => Ok(format!(in alloc; "{fault}")?),
+        Err(OrMemory::Memory) => Err("there is memory".into()),
     }
 }
 
@@ -207,7 +208,10 @@ fn the_plain_file(rt: HostRuntime) {
         assert_eq!(rt; parts.sections[0].name().as_str(), "S1");
         assert_eq!(rt; parts.sections[0].length(), 1000);
         assert_eq!(rt;
-            (parts.groups[0].name.country, parts.groups[0].name.number),
+            (
+                parts.groups[0].name.country(),
+                parts.groups[0].name.number()
+            ),
             (5, 17)
         );
         assert_eq!(rt; parts.groups[0].nominal, Direction::Rising);

@@ -1,17 +1,26 @@
-//! Values of TOML as numbers, and lists whose items are all of one sort.
+//! Values of TOML as numbers, and the sorts of a list's values.
 ghost use Rattle.std.specs.Prelude.{◌≡◌, ◌≤◌, is_some, IfSome, map};
 ghost use Rattle.std.specs.List.{list_all};
-ghost use Rattle.toml.specs.Data.{as_str};
 ghost use Rattle.toml.specs.View.{view};
 ghost use Rattle.rbc_model.specs.TrackFile.{number_from_to, pair_of};
 ghost use Rattle.rbc_trackfile.specs.TomlFile.{toml_document};
-ghost use Rattle.rbc_trackfile.specs.Told.{pair_sort, table_sort};
+ghost use Rattle.rbc_trackfile.specs.Told.{pair_sort, table_sort, is_of_sort};
 
 use toml::Value;
+
+/// The sorts of which the values of a list can be.
+#[derive(Clone, Copy)]
+pub(crate) enum Sort {
+    Text,
+    /// A list of two whole numbers.
+    Pair,
+    Table,
+}
 
 /// The number, if it lies from `low` to `high`.
 pub(crate) fn number_from_to(low: u32, high: u32, number: i64) -> Option<u32>
     ensures value { result ≡ number_from_to low high number }
+    ensures low { IfSome result (λ number. low ≤ number) }
     ensures high { IfSome result (λ number. number ≤ high) }
 {
     if number >= i64::from(low) && number <= i64::from(high) {
@@ -51,23 +60,20 @@ fn is_table(value: &Value) -> bool
     value.is_table()
 }
 
-/// Whether each value is a text.
-pub(crate) fn are_texts(values: &[Value]) -> bool
-    ensures { result ≡ list_all (λ value. is_some (as_str (view value))) values.now }
+/// Whether a value is of the sort.
+fn is_of_sort(sort: Sort, value: &Value) -> bool
+    ensures { result ≡ is_of_sort sort (view value.now) }
 {
-    values.iter().all(|value| value.is_str())
+    match sort {
+        Sort::Text => value.is_str(),
+        Sort::Pair => pair_in(value).is_some(),
+        Sort::Table => is_table(value),
+    }
 }
 
-/// Whether each value is a list of two whole numbers.
-pub(crate) fn are_pairs(values: &[Value]) -> bool
-    ensures { result ≡ list_all (λ value. is_some (pair_sort (view value))) values.now }
+/// Whether each value is of the sort.
+pub(crate) fn are_of_sort(sort: Sort, values: &[Value]) -> bool
+    ensures { result ≡ list_all (λ value. is_of_sort sort (view value)) values.now }
 {
-    values.iter().all(|value| pair_in(value).is_some())
-}
-
-/// Whether each value is a table.
-pub(crate) fn are_tables(values: &[Value]) -> bool
-    ensures { result ≡ list_all (λ value. is_some (table_sort (view value))) values.now }
-{
-    values.iter().all(|value| is_table(value))
+    values.iter().all(|value| is_of_sort(sort, value))
 }

@@ -1,5 +1,6 @@
-pub mod FirstWord
-pub mod HexText
-pub mod LineTexts
-pub mod Ranges
-pub mod Requests
+pub mod FirstWordLemmas
+pub mod HexTextLemmas
+pub mod LineTextLemmas
+pub mod PrintingLemmas
+pub mod RangeLemmas
+pub mod RequestLemmas

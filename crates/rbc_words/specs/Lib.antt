@@ -1,3 +1,3 @@
-pub mod Asked
 pub mod Replies
+pub mod StepsLines
 pub mod Values

@@ -2,24 +2,29 @@
 use Rattle.std.specs.Prelude.{ℕ, List, [], ◌∷◌, ◌++◌, decimal}
 use Rattle.std.specs.List.{flat_map}
 use Rattle.rbc_model.specs.Kinds.{Kind, speed_kind, grade_kind}
+use Rattle.rbc_model.specs.Profiles.{StepFunction}
 use Rattle.rbc_model.specs.StepsReply.{track_line, profile_line, packet_lines, refusal_reply}
 use Rattle.rbc_words.specs.declared.steps_reply.Certified.{Certified}
-use Rattle.rbc_words.specs.declared.steps_reply.Reply.{Reply}
-use Rattle.rbc_words.specs.declared.steps_reply.Reply.TheVariants.{Nothing, Refused, Speed, Grade}
+use Rattle.rbc_words.specs.declared.steps_reply.StepsReply.{StepsReply}
+use Rattle.rbc_words.specs.declared.steps_reply.StepsReply.TheVariants.{Nothing, Refused, Speed, Grade}
 
 -- runs or steps, each a start, a colon (58) and a value behind a space (32)
 abbrev pub runs_text : {V : Type 0} → Kind V → List (ℕ × V) → List ℕ
 runs_text kind runs = flat_map (λ run. 32 ∷ (decimal run.0 ++ 58 ∷ kind.print run.1)) runs
 
+-- the line of a track, with the limit of steps
+abbrev pub track_text : {V : Type 0} → Kind V → ℕ → StepFunction V → List ℕ
+track_text kind limit track = track_line kind (record { limit = limit; runs = track.steps; end = track.end })
+
 -- a certificate without prices, and its packet
 abbrev pub certified_text : {V : Type 0} → Kind V → Certified V → List ℕ
 certified_text kind certified =
-    track_line kind (record { limit = certified.limit; runs = certified.track.steps; end = certified.track.end })
+    track_text kind certified.limit certified.track
     ++ profile_line kind certified.profile.steps certified.loss
     ++ packet_lines certified.packet.items
 
 -- the text of a reply
-abbrev pub reply_text : Reply → List ℕ
+abbrev pub reply_text : StepsReply → List ℕ
 reply_text Nothing = []
 reply_text (Refused refusal) = refusal_reply refusal
 reply_text (Speed certified) = certified_text speed_kind certified

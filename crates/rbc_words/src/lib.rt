@@ -1,4 +1,4 @@
-//! What a line says, and what is answered.
+//! What the lines of `rbc steps` say, and how the replies to them are printed.
 #![tactic(auto)]
 
 mod printing;
@@ -8,10 +8,8 @@ mod steps_request;
 mod words;
 
 pub use printing::{print_hex, print_number, print_signed};
-pub use rbc_lines::{
-    Advance, LineReader, ReadFailed, SessionFault, Sink, Source, Stream, WriteFailed, put,
-};
+pub use rbc_streams::{Advance, LineReader, SessionFault, Sink, Source, Stream, WriteFailed};
 pub use spelled::Spelled;
-pub use steps_reply::{Certified, Reply, print};
-pub use steps_request::{ParseFault, Request, StepsLine, parse_steps};
+pub use steps_reply::{Certified, StepsReply, print};
+pub use steps_request::{StepsLine, StepsRequest, parse_steps};
 pub use words::{around_colon, integer, is_blank, is_text, next_word, number, without_return};

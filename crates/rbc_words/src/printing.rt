@@ -1,25 +1,34 @@
-ghost use Rattle.std.specs.Prelude.{◌≡◌, ◌≤◌, false, ℕ, ℤ, List, ◌++◌, length, is_err, decimal};
+//! Numbers and bytes, printed as text.
+
+ghost use Rattle.std.specs.Prelude.{◌≡◌, ◌≤◌, false, ℕ, ℤ, List, ◌++◌, length, decimal};
 ghost use Rattle.std.specs.Fmt.{signed_decimal};
-ghost use Rattle.rbc_model.specs.Sessions.{WritesText};
+ghost use Rattle.rbc_model.specs.Sessions.{Prints};
 ghost use Rattle.rbc_model.specs.Words.{hex_of};
 
-use crate::{Sink, WriteFailed, put};
+use rbc_streams::{Sink, WriteFailed, put};
 
 /// Writes a number in base 10.
+///
+/// # Errors
+///
+/// `WriteFailed`, where the writer fails. Then a part of the text stands, from its start.
 pub fn print_number<W: Sink>(number: u64, writer: &mut W) -> Result<(), WriteFailed>
     requires { W.failed writer.old ≡ false }
-    ensures text { WritesText (W.written writer.old) (W.written writer.new) (decimal number) result }
-    ensures failed { W.failed writer.new ≡ is_err result }
+    ensures { Prints (W.written writer.old) (W.written writer.new) (W.failed writer.new) (decimal number) result }
 {
     let mut digits = itoa::Buffer::new();
     put(writer, digits.format(number).as_bytes())
 }
 
 /// Writes a number in base 10, with a `-` before its digits if it is below 0.
+///
+/// # Errors
+///
+/// `WriteFailed`, where the writer fails. Then a part of the text stands, from its start.
 pub fn print_signed<W: Sink>(number: i16, writer: &mut W) -> Result<(), WriteFailed>
     requires { W.failed writer.old ≡ false }
-    ensures text { WritesText (W.written writer.old) (W.written writer.new) (signed_decimal number) result }
-    ensures failed { W.failed writer.new ≡ is_err result }
+    ensures { Prints (W.written writer.old) (W.written writer.new) (W.failed writer.new)
+        (signed_decimal number) result }
 {
     let mut text = itoa::Buffer::new();
     put(writer, text.format(number).as_bytes())
@@ -29,10 +38,13 @@ pub fn print_signed<W: Sink>(number: i16, writer: &mut W) -> Result<(), WriteFai
 const PIECE: usize = 32;
 
 /// Writes bytes as text, each as two digits of base 16, in lower case.
+///
+/// # Errors
+///
+/// `WriteFailed`, where the writer fails. Then a part of the text stands, from its start.
 pub fn print_hex<W: Sink>(bytes: &[u8], writer: &mut W) -> Result<(), WriteFailed>
     requires { W.failed writer.old ≡ false }
-    ensures text { WritesText (W.written writer.old) (W.written writer.new) (hex_of bytes.now) result }
-    ensures failed { W.failed writer.new ≡ is_err result }
+    ensures { Prints (W.written writer.old) (W.written writer.new) (W.failed writer.new) (hex_of bytes.now) result }
 {
     let mut rest = bytes;
     while !rest.is_empty() {
@@ -46,8 +58,7 @@ pub fn print_hex<W: Sink>(bytes: &[u8], writer: &mut W) -> Result<(), WriteFaile
 fn print_piece<W: Sink>(piece: &[u8], writer: &mut W) -> Result<(), WriteFailed>
     requires going { W.failed writer.old ≡ false }
     requires short { length piece.now ≤ 32 }
-    ensures text { WritesText (W.written writer.old) (W.written writer.new) (hex_of piece.now) result }
-    ensures failed { W.failed writer.new ≡ is_err result }
+    ensures { Prints (W.written writer.old) (W.written writer.new) (W.failed writer.new) (hex_of piece.now) result }
 {
     let mut digits = [0; 2 * PIECE];
     let digits = &mut digits[..2 * piece.len()];

@@ -1,11 +1,14 @@
-ghost use Rattle.std.specs.Prelude.{◌≡◌, false, is_err, refl};
+//! The two kinds of level, speeds and gradients, as words of a line.
+
+ghost use Rattle.std.specs.Prelude.{◌≡◌, false, refl};
 ghost use Rattle.rbc_model.specs.Kinds.{Kind, speed_kind, grade_kind};
-ghost use Rattle.rbc_model.specs.Sessions.{WritesText};
+ghost use Rattle.rbc_model.specs.Sessions.{Prints};
 ghost use Rattle.rbc_words.specs.Values.{value_in};
 
 use crate::words::{integer, number};
-use crate::{Sink, WriteFailed, print_number, print_signed};
+use crate::{print_number, print_signed};
 use rbc_steps::{Grade, Level, Speed};
+use rbc_streams::{Sink, WriteFailed};
 
 /// How a kind of level stands in a line of text.
 pub trait Spelled: Level {
@@ -21,10 +24,13 @@ pub trait Spelled: Level {
         ensures { result ≡ value_in kind word.now };
 
     /// Writes the level as a word.
+    ///
+    /// # Errors
+    ///
+    /// `WriteFailed`, where the writer fails. Then a part of the word stands, from its start.
     fn print<W: Sink>(self, writer: &mut W) -> Result<(), WriteFailed>
         requires { W.failed writer.old ≡ false }
-        ensures text { WritesText (W.written writer.old) (W.written writer.new) (kind.print self) result }
-        ensures failed { W.failed writer.new ≡ is_err result };
+        ensures { Prints (W.written writer.old) (W.written writer.new) (W.failed writer.new) (kind.print self) result };
 
     /// The text is of these levels.
     ghost same_levels: { kind.levels ≡ Self.levels };

@@ -1,23 +1,27 @@
-ghost use Rattle.std.specs.Prelude.{◌≡◌, false, ℕ, List, [], ◌∷◌, ◌++◌, is_err, decimal, codes};
-ghost use Rattle.rbc_model.specs.Sessions.{WritesText};
-ghost use Rattle.rbc_model.specs.Words.{line_of};
-ghost use Rattle.rbc_model.specs.StepsReply.{fault_words, refusal_words, refusal_reply, track_line, profile_line, packet_lines};
-ghost use Rattle.rbc_words.specs.Replies.{runs_text, certified_text, reply_text};
+//! The replies of `rbc steps`, printed: nothing, a refusal, or a certificate with its packet.
 
-use crate::{Sink, Spelled, WriteFailed, print_hex, print_number, put};
+ghost use Rattle.std.specs.Prelude.{◌≡◌, false, ℕ, List, [], ◌∷◌, ◌++◌, decimal, codes};
+ghost use Rattle.rbc_model.specs.Sessions.{Prints};
+ghost use Rattle.rbc_model.specs.Words.{line_of};
+ghost use Rattle.rbc_model.specs.StepsReply.{fault_words, refusal_words, refusal_reply};
+ghost use Rattle.rbc_model.specs.StepsReply.{profile_line, packet_lines};
+ghost use Rattle.rbc_words.specs.Replies.{runs_text, track_text, certified_text, reply_text};
+
+use crate::{Spelled, print_hex, print_number};
 use rbc_model::{LineFault, StepsRefusal};
 use rbc_steps::{Grade, Profile, Runs, Speed};
+use rbc_streams::{Sink, WriteFailed, put};
 
 /// A track with a profile of it, what the profile loses, and the packet that holds it.
 #[derive(Drop)]
 pub struct Certified<V: Spelled> {
-    /// How many steps the packet may have.
+    /// How many steps the packet may have, 1 to 31.
     pub limit: usize,
     /// The track.
     pub track: Runs<V>,
     /// The profile.
     pub profile: Profile<V>,
-    /// What the profile loses, over all metres.
+    /// What the profile loses, summed over all metres: km/h, or per mille.
     pub loss: u64,
     /// The packet.
     pub packet: Vec<u8>,
@@ -25,7 +29,7 @@ pub struct Certified<V: Spelled> {
 
 /// The reply to a line.
 #[derive(Drop)]
-pub enum Reply {
+pub enum StepsReply {
     /// The line has no reply.
     Nothing,
     /// The line is refused.
@@ -37,23 +41,26 @@ pub enum Reply {
 }
 
 /// Writes a reply to a line.
-pub fn print<W: Sink>(reply: &Reply, writer: &mut W) -> Result<(), WriteFailed>
+///
+/// # Errors
+///
+/// `WriteFailed`, where the writer fails. Then a part of the text stands, from its start.
+pub fn print<W: Sink>(reply: &StepsReply, writer: &mut W) -> Result<(), WriteFailed>
     requires { W.failed writer.old ≡ false }
-    ensures text { WritesText (W.written writer.old) (W.written writer.new) (reply_text reply.now) result }
-    ensures failed { W.failed writer.new ≡ is_err result }
+    ensures { Prints (W.written writer.old) (W.written writer.new) (W.failed writer.new) (reply_text reply.now) result }
 {
     match reply {
-        Reply::Nothing => Ok(()),
-        Reply::Refused(refusal) => print_refusal(*refusal, writer),
-        Reply::Speed(certified) => print_certified(certified, writer),
-        Reply::Grade(certified) => print_certified(certified, writer),
+        StepsReply::Nothing => Ok(()),
+        StepsReply::Refused(refusal) => print_refusal(*refusal, writer),
+        StepsReply::Speed(certified) => print_certified(certified, writer),
+        StepsReply::Grade(certified) => print_certified(certified, writer),
     }
 }
 
 fn print_refusal<W: Sink>(refusal: StepsRefusal, writer: &mut W) -> Result<(), WriteFailed>
     requires { W.failed writer.old ≡ false }
-    ensures text { WritesText (W.written writer.old) (W.written writer.new) (refusal_reply refusal) result }
-    ensures failed { W.failed writer.new ≡ is_err result }
+    ensures { Prints (W.written writer.old) (W.written writer.new) (W.failed writer.new)
+        (refusal_reply refusal) result }
 {
     put(writer, b"refused ")?;
     print_cause(refusal, writer)
@@ -61,8 +68,8 @@ fn print_refusal<W: Sink>(refusal: StepsRefusal, writer: &mut W) -> Result<(), W
 
 fn print_cause<W: Sink>(refusal: StepsRefusal, writer: &mut W) -> Result<(), WriteFailed>
     requires { W.failed writer.old ≡ false }
-    ensures text { WritesText (W.written writer.old) (W.written writer.new) (line_of (refusal_words refusal)) result }
-    ensures failed { W.failed writer.new ≡ is_err result }
+    ensures { Prints (W.written writer.old) (W.written writer.new) (W.failed writer.new)
+        (line_of (refusal_words refusal)) result }
 {
     match refusal {
         StepsRefusal::BadLine(fault) => print_fault(fault, writer),
@@ -74,8 +81,8 @@ fn print_cause<W: Sink>(refusal: StepsRefusal, writer: &mut W) -> Result<(), Wri
 
 fn print_fault<W: Sink>(fault: LineFault, writer: &mut W) -> Result<(), WriteFailed>
     requires { W.failed writer.old ≡ false }
-    ensures text { WritesText (W.written writer.old) (W.written writer.new) (line_of (fault_words fault)) result }
-    ensures failed { W.failed writer.new ≡ is_err result }
+    ensures { Prints (W.written writer.old) (W.written writer.new) (W.failed writer.new)
+        (line_of (fault_words fault)) result }
 {
     match fault {
         LineFault::Overlong => put(writer, b"Overlong\n"),
@@ -90,8 +97,8 @@ fn print_fault<W: Sink>(fault: LineFault, writer: &mut W) -> Result<(), WriteFai
 /// Writes the number at the end of a line, behind what it is.
 fn print_last<W: Sink>(name: &[u8], number: u64, writer: &mut W) -> Result<(), WriteFailed>
     requires { W.failed writer.old ≡ false }
-    ensures text { WritesText (W.written writer.old) (W.written writer.new) (name.now ++ (decimal number ++ 10 ∷ [])) result }
-    ensures failed { W.failed writer.new ≡ is_err result }
+    ensures { Prints (W.written writer.old) (W.written writer.new) (W.failed writer.new)
+        (name.now ++ (decimal number ++ 10 ∷ [])) result }
 {
     put(writer, name)?;
     print_number(number, writer)?;
@@ -103,8 +110,8 @@ fn print_certified<V: Spelled, W: Sink>(
     writer: &mut W,
 ) -> Result<(), WriteFailed>
     requires { W.failed writer.old ≡ false }
-    ensures text { WritesText (W.written writer.old) (W.written writer.new) (certified_text V.kind certified.now) result }
-    ensures failed { W.failed writer.new ≡ is_err result }
+    ensures { Prints (W.written writer.old) (W.written writer.new) (W.failed writer.new)
+        (certified_text V.kind certified.now) result }
 {
     print_track(certified.limit, &certified.track, writer)?;
     print_profile(&certified.profile, certified.loss, writer)?;
@@ -117,15 +124,22 @@ fn print_track<V: Spelled, W: Sink>(
     writer: &mut W,
 ) -> Result<(), WriteFailed>
     requires { W.failed writer.old ≡ false }
-    ensures text { WritesText (W.written writer.old) (W.written writer.new)
-        (track_line V.kind (record { limit = limit; runs = track.now.steps; end = track.now.end })) result }
-    ensures failed { W.failed writer.new ≡ is_err result }
+    ensures { Prints (W.written writer.old) (W.written writer.new) (W.failed writer.new)
+        (track_text V.kind limit track.now) result }
+{
+    print_command::<V, W>(limit, writer)?;
+    print_line_end(track.runs(), b" end ", u64::from(track.end()), writer)
+}
+
+/// Writes the command for such levels, and the limit of steps behind it.
+fn print_command<V: Spelled, W: Sink>(limit: usize, writer: &mut W) -> Result<(), WriteFailed>
+    requires { W.failed writer.old ≡ false }
+    ensures { Prints (W.written writer.old) (W.written writer.new) (W.failed writer.new)
+        (V.kind.command ++ (32 ∷ decimal limit)) result }
 {
     put(writer, V::command())?;
     put(writer, b" ")?;
-    print_number(limit as u64, writer)?;
-    print_runs(track.runs(), writer)?;
-    print_last(b" end ", u64::from(track.end()), writer)
+    print_number(limit as u64, writer)
 }
 
 fn print_profile<V: Spelled, W: Sink>(
@@ -134,18 +148,32 @@ fn print_profile<V: Spelled, W: Sink>(
     writer: &mut W,
 ) -> Result<(), WriteFailed>
     requires { W.failed writer.old ≡ false }
-    ensures text { WritesText (W.written writer.old) (W.written writer.new) (profile_line V.kind profile.now.steps loss) result }
-    ensures failed { W.failed writer.new ≡ is_err result }
+    ensures { Prints (W.written writer.old) (W.written writer.new) (W.failed writer.new)
+        (profile_line V.kind profile.now.steps loss) result }
 {
     put(writer, b"steps")?;
-    print_runs(profile.steps(), writer)?;
-    print_last(b" loss ", loss, writer)
+    print_line_end(profile.steps(), b" loss ", loss, writer)
+}
+
+/// Writes the end of a line: runs or steps, and the number at its end behind what it is.
+fn print_line_end<V: Spelled, W: Sink>(
+    runs: &[(u32, V)],
+    name: &[u8],
+    number: u64,
+    writer: &mut W,
+) -> Result<(), WriteFailed>
+    requires { W.failed writer.old ≡ false }
+    ensures { Prints (W.written writer.old) (W.written writer.new) (W.failed writer.new)
+        (runs_text V.kind runs.now ++ (name.now ++ (decimal number ++ 10 ∷ []))) result }
+{
+    print_runs(runs, writer)?;
+    print_last(name, number, writer)
 }
 
 fn print_packet<W: Sink>(packet: &[u8], writer: &mut W) -> Result<(), WriteFailed>
     requires { W.failed writer.old ≡ false }
-    ensures text { WritesText (W.written writer.old) (W.written writer.new) (packet_lines packet.now) result }
-    ensures failed { W.failed writer.new ≡ is_err result }
+    ensures { Prints (W.written writer.old) (W.written writer.new) (W.failed writer.new)
+        (packet_lines packet.now) result }
 {
     put(writer, b"packet ")?;
     print_hex(packet, writer)?;
@@ -155,8 +183,8 @@ fn print_packet<W: Sink>(packet: &[u8], writer: &mut W) -> Result<(), WriteFaile
 /// Writes runs or steps (start, value), each behind a space.
 fn print_runs<V: Spelled, W: Sink>(runs: &[(u32, V)], writer: &mut W) -> Result<(), WriteFailed>
     requires { W.failed writer.old ≡ false }
-    ensures text { WritesText (W.written writer.old) (W.written writer.new) (runs_text V.kind runs.now) result }
-    ensures failed { W.failed writer.new ≡ is_err result }
+    ensures { Prints (W.written writer.old) (W.written writer.new) (W.failed writer.new)
+        (runs_text V.kind runs.now) result }
 {
     for run in runs {
         print_run(run.0, run.1, writer)?;
@@ -166,8 +194,8 @@ fn print_runs<V: Spelled, W: Sink>(runs: &[(u32, V)], writer: &mut W) -> Result<
 
 fn print_run<V: Spelled, W: Sink>(start: u32, value: V, writer: &mut W) -> Result<(), WriteFailed>
     requires { W.failed writer.old ≡ false }
-    ensures text { WritesText (W.written writer.old) (W.written writer.new) (32 ∷ (decimal start ++ 58 ∷ V.kind.print value)) result }
-    ensures failed { W.failed writer.new ≡ is_err result }
+    ensures { Prints (W.written writer.old) (W.written writer.new) (W.failed writer.new)
+        (32 ∷ (decimal start ++ 58 ∷ V.kind.print value)) result }
 {
     put(writer, b" ")?;
     print_number(u64::from(start), writer)?;

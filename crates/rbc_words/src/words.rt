@@ -1,3 +1,5 @@
+//! Lines of text: their words, and the numbers among these.
+
 ghost use Rattle.std.specs.Prelude.{◌≡◌, ◌==◌, ◌<◌, ◌≤◌, not, ◌^◌, [], ◌∷◌, MatchOption, IfSome, length};
 ghost use Rattle.std.specs.List.{position_or_len, before_first, after_first};
 ghost use Rattle.rbc_model.specs.Words.{without_return, words_of, is_blank, is_text, number_in, integer_in};
@@ -34,7 +36,8 @@ fn length_before(text: &[u8], mark: u8) -> usize
 
 /// The first word of a text, and what follows it. Words stand between spaces.
 pub fn next_word(text: &[u8]) -> Option<(&[u8], &[u8])>
-    ensures words { MatchOption result (words_of text.now ≡ []) (λ found. words_of text.now ≡ found.0.now ∷ words_of found.1.now) }
+    ensures words { MatchOption result (words_of text.now ≡ [])
+        (λ found. words_of text.now ≡ found.0.now ∷ words_of found.1.now) }
     ensures shorter { IfSome result (λ found. length found.1.now < length text.now) }
 {
     let words = &text[leading_spaces(text)..];
@@ -108,29 +111,16 @@ mod tests {
 
     #[test]
     fn words(rt: HostRuntime) -> Result<(), Fail> {
-        let (first, rest) = next_word(b"  one  two ").ok_or("it has a first word")?;
+        let (first, rest) = next_word(b"  one  0:1:2 ").ok_or("it has a first word")?;
         let (second, rest) = next_word(rest).ok_or("it has a second word")?;
         assert_eq!(rt; first, b"one".as_slice());
-        assert_eq!(rt; second, b"two".as_slice());
+        assert!(rt; matches!(around_colon(second), (b"0", b"1:2")));
+        assert!(rt; matches!(around_colon(first), (b"one", b"")));
         assert!(rt; next_word(rest).is_none());
-        Ok(())
-    }
-
-    #[test]
-    fn lines(rt: HostRuntime) {
         assert_eq!(rt; without_return(b"go\r\r"), b"go\r".as_slice());
-        assert_eq!(rt; without_return(b"\rgo"), b"\rgo".as_slice());
-        assert!(rt; is_blank(b"  #go"));
-        assert!(rt; !is_blank(b"  go #"));
-        assert!(rt; is_text(b" ~"));
-        assert!(rt; !is_text(b"\x7f"));
-    }
-
-    #[test]
-    fn colons(rt: HostRuntime) {
-        assert!(rt; matches!(around_colon(b"0:1:2"), (b"0", b"1:2")));
-        assert!(rt; matches!(around_colon(b"01"), (b"01", b"")));
-        assert!(rt; matches!(around_colon(b"0:"), (b"0", b"")));
+        assert!(rt; is_blank(b"  #go") && !is_blank(b"  go #"));
+        assert!(rt; is_text(b" ~") && !is_text(b"\x7f"));
+        Ok(())
     }
 
     #[test]

@@ -1,7 +1,5 @@
-use crate::{
-    GroupPart, LegName, LinkPart, Name, Parts, RoutePart, Section, StepLimit, Track, TrackFault,
-};
-use rbc_model::{Direction, GroupName, RouteId, SectionId, Table, TrackRefusal};
+use crate::{GroupPart, LegName, LinkPart, Name, Parts, RoutePart, Section, StepLimit, Track};
+use rbc_model::{Direction, GroupName, OrMemory, RouteId, SectionId, Table, TrackRefusal};
 use rbc_steps::{Grade, Runs, Speed};
 use std::alloc::Global;
 use std::process::Abort;
@@ -72,7 +70,7 @@ fn add_group(
     nominal: Direction,
 ) {
     let group = GroupPart {
-        name: GroupName { country: 5, number },
+        name: GroupName::new(5, number).expect(rt, "an identity"),
         section: name(rt, section),
         offset,
         nominal,
@@ -144,7 +142,7 @@ fn balloon(rt: &impl Abort, alloc: Global) -> Parts {
 
 fn refusal(alloc: Global, parts: Parts) -> Option<TrackRefusal> {
     match Track::new(alloc, parts) {
-        Err(TrackFault::Refused(refusal)) => Some(refusal),
+        Err(OrMemory::Refused(refusal)) => Some(refusal),
         _ => None,
     }
 }
@@ -160,10 +158,7 @@ fn names_are_looked_up(rt: HostRuntime) {
     );
     assert!(rt; track.route(name(&rt, "Back")) == Some(RouteId::new(2)));
     let group = track
-        .group(GroupName {
-            country: 5,
-            number: 18,
-        })
+        .group(GroupName::new(5, 18).expect(&rt, "an identity"))
         .expect(&rt, "a group");
     assert!(rt; group.section == SectionId::new(1) && group.offset == 100);
     assert!(rt; group.nominal == Direction::Falling);
@@ -261,7 +256,6 @@ fn groups_are_refused(rt: HostRuntime) {
         ),
         (18, "S1", 1001, Some(TrackRefusal::BadGroup(2))),
         (18, "S2", 5, Some(TrackRefusal::BadGroup(2))),
-        (16383, "S1", 5, Some(TrackRefusal::BadGroup(2))),
     ] {
         let mut parts = single(&rt, alloc);
         add_group(&rt, &mut parts, number, section, offset, Direction::Rising);

@@ -1,8 +1,8 @@
 use Rattle.std.proofs.Common.{sym, ap, ◌∙◌, true}
 use Rattle.rbc_model.specs.Messages.{bytes_of_fields}
 use Rattle.rbc_model.specs.Kinds.{speed_kind}
-use Rattle.rbc_words.specs.Asked.{request_view}
-use Rattle.rbc.proofs.Certifying.{certified}
+use Rattle.rbc_words.specs.StepsLines.{request_view}
+use Rattle.rbc.proofs.CertifyingLemmas.{certified}
 use Rattle.rbc.proofs.answers.certify_speeds.Goals as goal
 
 pub returns : goal.returns

@@ -2,7 +2,7 @@ use Rattle.std.proofs.Common.{arith, ◌≡◌, ◌-◌, sym, ◌∙◌, refl, a
 use Rattle.std.proofs.lemmas.Option.{slice_get_read}
 use Rattle.rbc_model.specs.PriceTables.{cost}
 use Rattle.rbc_reduce.specs.Stretches.{price_over}
-use Rattle.rbc_reduce.proofs.Stretches.{IsJoined, before_first, joined_kept, joined_lower, before_next, joined_cost, floor_falls, price_within, floor_within, written_more, bound_more}
+use Rattle.rbc_reduce.proofs.StretchLemmas.{IsJoined, before_first, joined_kept, joined_lower, before_next, joined_cost, floor_falls, price_within, floor_within, written_more, bound_more}
 use Rattle.rbc_reduce.proofs.costs.costs_from.Goals as goal
 use Rattle.rbc_reduce.proofs.costs.costs_from.Goals.{then-not-is_at_most, else-not-is_at_most}
 

@@ -1,7 +1,7 @@
 use Rattle.std.proofs.Common.{ℕ, ◌≡◌, ◌≤◌, ◌<◌, ◌-◌, ◌*◌, get_or}
 use Rattle.std.specs.List.{slice_get}
 use Rattle.rbc_model.specs.PriceTables.{cost}
-use Rattle.rbc_reduce.proofs.Stretches.{IsBefore}
+use Rattle.rbc_reduce.proofs.StretchLemmas.{IsBefore}
 use Rattle.rbc_reduce.proofs.costs.costs_from.Given as goal
 
 abbrev pub invariant-loop-x : goal.invariant-loop-x

@@ -1,6 +1,6 @@
 use Rattle.std.proofs.Common.{arith, ◌-◌, sym, refl}
 use Rattle.std.proofs.lemmas.Option.{slice_get_read}
-use Rattle.rbc_reduce.proofs.Stretches.{price_over-more, in_range_at, below_at}
+use Rattle.rbc_reduce.proofs.StretchLemmas.{price_over-more, in_range_at, below_at}
 use Rattle.rbc_reduce.proofs.costs.price_of.Goals as goal
 
 pub price-price-requires : goal.price-price-requires

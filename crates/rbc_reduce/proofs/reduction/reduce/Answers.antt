@@ -1,8 +1,8 @@
 use Rattle.std.proofs.Common.{arith, ◌≡◌, ◌<◌, ◌≤◌, ℕ, length, ap, sym, ◌∙◌, subst, true, min, Ok}
 use Rattle.rbc_model.specs.Profiles.{Fits, loss, value_at, is_within}
-use Rattle.rbc_reduce.proofs.Best.{IsFewestBest, IsLedBack, best_for_track}
-use Rattle.rbc_reduce.proofs.Covers.{made_of, made_is, made_ok}
-use Rattle.rbc_reduce.proofs.Rows.{reached_by_best}
+use Rattle.rbc_reduce.proofs.BestLemmas.{IsFewestBest, IsLedBack, best_for_track}
+use Rattle.rbc_reduce.proofs.CoverLemmas.{made_of, made_is, made_ok}
+use Rattle.rbc_reduce.proofs.RowLemmas.{reached_by_best}
 use Rattle.rbc_reduce.proofs.reduction.reduce.Given.{Over}
 use Rattle.rbc_reduce.proofs.reduction.reduce.Goals as goal
 use Rattle.rbc_reduce.proofs.reduction.reduce.Goals.{After-new}
@@ -10,8 +10,8 @@ use Rattle.rbc_reduce.proofs.reduction.reduce.Goals.{After-new}
 pub fill-requires-clause-some : goal.fill-requires-clause-some
 fill-requires-clause-some g c κs within = omega (arith, c.in_ok-values.ensures.some, ap length c.deref.ensures.value)
 
-pub fill-requires-clause-short : goal.fill-requires-clause-short
-fill-requires-clause-short g c κs within = omega (arith, c.in_ok-values.ensures.short, ap length c.deref.ensures.value)
+pub fill-requires-clause-within_limit : goal.fill-requires-clause-within_limit
+fill-requires-clause-within_limit g c κs within = omega (arith, c.in_ok-values.ensures.within_limit, ap length c.deref.ensures.value)
 
 pub steps_of-requires-clause-reached : goal.steps_of-requires-clause-reached
 steps_of-requires-clause-reached g c κs within =
@@ -41,7 +41,7 @@ made_here g c =
     let few : length c.in_ok-steps.steps.items ≤ c.args.limit = omega (arith, ap length c.deref-2.ensures.value, c.fewest-count.ensures.rows, c.in_ok-rows.ensures.rows, c.in_ok-steps.ensures.count) in
     let covers = rw c.deref-3.ensures.value at c.in_ok-steps.ensures.covers in
     made_of g.V.Level.levels c.args.limit c.args.track.now.end (value_at c.args.track.now.steps) c.in_ok-values.values.items c.in_ok-steps.steps.items _ _ c.new.result level.lawful
-    c.in_ok-values.ensures.in_range c.in_ok-values.ensures.some c.in_ok-values.ensures.short c.in_ok-values.ensures.metres c.in_ok-values.ensures.values c.requires.few few covers
+    c.in_ok-values.ensures.in_range c.in_ok-values.ensures.some c.in_ok-values.ensures.within_limit c.in_ok-values.ensures.metres c.in_ok-values.ensures.values c.requires.few few covers
     c.deref-5.ensures.value c.end.ensures.end c.new.ensures
 
 pub unreachable-requires : goal.unreachable-requires

@@ -1,6 +1,6 @@
 use Rattle.std.proofs.Common.{arith, ◌+◌, ◌<◌, ◌≤◌}
 use Rattle.rbc_reduce.specs.Rows.{price_at}
-use Rattle.rbc_reduce.proofs.Rows.{by_count}
+use Rattle.rbc_reduce.proofs.RowLemmas.{by_count}
 use Rattle.rbc_reduce.proofs.table.fewest.Goals as goal
 
 pub returns-clause-least : goal.returns-clause-least

@@ -6,7 +6,7 @@ use Rattle.std.specs.List.{slice_get}
 use Rattle.rbc_model.specs.PriceTables.{cost}
 use Rattle.rbc_reduce.specs.declared.table.Cell.{Cell}
 use Rattle.rbc_reduce.specs.Rows.{AreWide, IsTable, cell_at, price_at, relaxed}
-use Rattle.rbc_reduce.proofs.Rows.{table_after, reached_after}
+use Rattle.rbc_reduce.proofs.RowLemmas.{table_after, reached_after}
 use Rattle.rbc_reduce.proofs.table.fill.Goals as goal
 
 pub loop-from-preserved : goal.loop-from-preserved
@@ -31,7 +31,7 @@ loop-from-preserved g c =
       ap length rows_are ∙ count ∙ i.0,
       ap length costs_are ∙ sym (ap length costs_now) ∙ width,
       rw rows_are table,
-      λ to some low high. rw rows_are (reached_after c.loop-from.from costs old new cells metres to (omega arith) i.2.wide c.requires.short
+      λ to some low high. rw rows_are (reached_after c.loop-from.from costs old new cells metres to (omega arith) i.2.wide c.requires.within_limit
           (λ h. i.3 to h low high) (λ h. c.costs_from.ensures.bound to h high) low high),
     )
 

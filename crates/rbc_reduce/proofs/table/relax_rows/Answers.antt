@@ -5,7 +5,7 @@ use Rattle.std.proofs.lemmas.List.{with_items_is}
 use Rattle.std.proofs.lemmas.Option.{slice_get_read}
 use Rattle.rbc_reduce.specs.declared.table.Cell.{Cell}
 use Rattle.rbc_reduce.specs.Rows.{price_at, relaxed}
-use Rattle.rbc_reduce.proofs.Rows.{wide_set, cells_set, rest_set, price_read, cells_past}
+use Rattle.rbc_reduce.proofs.RowLemmas.{wide_set, cells_set, rest_set, price_read, cells_past}
 use Rattle.rbc_reduce.proofs.table.relax_rows.Goals as goal
 
 pub loop-j-preserved : goal.loop-j-preserved

@@ -1,6 +1,6 @@
 use Rattle.std.proofs.Common.{arith, ◌≡◌, ◌++◌, ◌∷◌, []}
 use Rattle.rbc_model.specs.Profiles.{value_at}
-use Rattle.rbc_reduce.proofs.Metres.{values_more, in_range_more, track_some}
+use Rattle.rbc_reduce.proofs.MetreLemmas.{values_more, in_range_more, track_some}
 use Rattle.rbc_reduce.proofs.values.values_of.Goals as goal
 
 pub loop-x-preserved : goal.loop-x-preserved

@@ -1,6 +1,6 @@
 use Rattle.std.proofs.Common.{leb, rules}
 use Rattle.std.proofs.lemmas.List.Sorted.{IsPartitionPoint-from_clause, IsPartitionedBy-leb}
-use Rattle.rbc_steps.proofs.Places.{starts_sorted, some_begun, value_begun}
+use Rattle.rbc_steps.proofs.PlaceLemmas.{starts_sorted, some_begun, value_begun}
 use Rattle.rbc_steps.proofs.rows.at.Goals as goal
 
 pub overflow_sub-result : goal.overflow_sub-result

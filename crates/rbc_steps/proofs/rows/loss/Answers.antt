@@ -1,5 +1,5 @@
 use Rattle.std.proofs.Common.{ℕ, ◌<◌, ◌≤◌, refl, arith}
-use Rattle.rbc_steps.proofs.Stretches.{holds_first, ahead, moved, value_there, loss-stretch, within_here, summed}
+use Rattle.rbc_steps.proofs.StretchLemmas.{holds_first, ahead, moved, value_there, loss-stretch, within_here, summed}
 use Rattle.rbc_steps.proofs.rows.loss.Goals as goal
 
 pub loop-from-init : goal.loop-from-init

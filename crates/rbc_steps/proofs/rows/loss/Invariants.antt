@@ -1,6 +1,6 @@
 use Rattle.std.proofs.Common.{◌≡◌, ◌≤◌, ◌*◌, ◌-◌}
 use Rattle.rbc_model.specs.Profiles.{value_at, loss}
-use Rattle.rbc_steps.proofs.Stretches.{Holds}
+use Rattle.rbc_steps.proofs.StretchLemmas.{Holds}
 use Rattle.rbc_steps.proofs.rows.loss.Given as goal
 
 abbrev pub invariant-loop-from : goal.invariant-loop-from

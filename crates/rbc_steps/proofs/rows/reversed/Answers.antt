@@ -1,6 +1,6 @@
 use Rattle.std.proofs.Common.{◌≡◌, suc, ◌+◌, ◌-◌, ◌<◌, ◌++◌, ◌∷◌, [], length, drop, get_or, arith, ap, subst, sym, ◌∙◌}
 use Rattle.rbc_steps.specs.Mirrored.{mirrored}
-use Rattle.rbc_steps.proofs.Turned.{mirrored_more}
+use Rattle.rbc_steps.proofs.TurnedLemmas.{mirrored_more}
 use Rattle.rbc_steps.proofs.rows.reversed.Goals as goal
 
 pub loop-index-preserved : goal.loop-index-preserved

@@ -1,9 +1,9 @@
 use Rattle.std.proofs.Common.{◌∙◌}
-use Rattle.rbc_steps.proofs.Orders.{same_by_order}
+use Rattle.rbc_steps.proofs.OrderLemmas.{same_by_order}
 use Rattle.rbc_steps.proofs.rows.same.Goals as goal
 
-pub returns : goal.returns
-returns g c =
+pub returns-clause-same : goal.returns-clause-same
+returns-clause-same g c =
     let a = c.args.a in
     let b = c.args.b in
     let order = g.met.V.Ord g.world.𝓛 g.world.𝓜 g.world.𝓡 ((λ s x. x), (λ x. x), (λ x. x), λ x. x) in

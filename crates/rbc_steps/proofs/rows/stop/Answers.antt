@@ -1,9 +1,9 @@
 use Rattle.std.proofs.Common.{◌≡◌, ◌<◌, ◌+◌, length, get_or, arith, ap}
-use Rattle.rbc_steps.proofs.Places.{below_end}
+use Rattle.rbc_steps.proofs.PlaceLemmas.{below_end}
 use Rattle.rbc_steps.proofs.rows.stop.Goals as goal
 
-pub returns-in-Some-clause-near : goal.returns-in-Some-clause-near
-returns-in-Some-clause-near g c =
+pub returns-in-Some-clause-before_end : goal.returns-in-Some-clause-before_end
+returns-in-Some-clause-before_end g c =
     let h = c.in-Some.ensures.lookup in
     let rows = c.args.rows.now in
     let next = c.in-Some.next.now in

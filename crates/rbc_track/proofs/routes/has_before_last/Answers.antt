@@ -2,7 +2,7 @@ use Rattle.std.proofs.Common.{◌∙◌, sym, ap}
 use Rattle.std.specs.List.{list_any}
 use Rattle.rbc_model.specs.Tracks.{leg_eq}
 use Rattle.rbc_model.specs.SoundTracks.{but_last}
-use Rattle.rbc_track.proofs.RouteLaws.{but_last-append}
+use Rattle.rbc_track.proofs.RouteLemmas.{but_last-append}
 use Rattle.rbc_track.proofs.routes.has_before_last.Goals as goal
 
 pub returns-in-Some : goal.returns-in-Some

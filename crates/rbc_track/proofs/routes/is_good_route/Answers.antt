@@ -1,6 +1,6 @@
 use Rattle.std.proofs.Common.{arith}
 use Rattle.std.proofs.lemmas.Bool.Decides.{nat_tests}
-use Rattle.rbc_track.proofs.RouteLaws.{entered}
+use Rattle.rbc_track.proofs.RouteLemmas.{entered}
 use Rattle.rbc_track.proofs.routes.is_good_route.Goals as goal
 
 pub returns-in-Some : goal.returns-in-Some

@@ -4,7 +4,7 @@ use Rattle.toml.specs.View.{view}
 use Rattle.rbc_model.specs.TrackFile.{pair_of}
 use Rattle.rbc_trackfile.specs.TomlFile.{toml_document}
 use Rattle.rbc_trackfile.specs.Told.{pair_sort, list_sort}
-use Rattle.rbc_trackfile.proofs.Items.{is_list, is_no_list}
+use Rattle.rbc_trackfile.proofs.ItemLemmas.{is_list, is_no_list}
 use Rattle.rbc_trackfile.proofs.values.pair_in.Goals as goal
 
 pub returns-in-Some : goal.returns-in-Some

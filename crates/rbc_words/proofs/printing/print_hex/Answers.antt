@@ -1,16 +1,26 @@
-use Rattle.rbc_words.proofs.HexText.{hex_of-split}
-use Rattle.rbc_lines.proofs.Writing.{writes_then, writes_stopped}
+use Rattle.std.proofs.Common.{Ok, sym, ◌∙◌}
+use Rattle.rbc_words.proofs.HexTextLemmas.{hex_of-split, hex_of-none}
+use Rattle.rbc_words.proofs.PrintingLemmas.{prints_nothing, prints_then, prints_stopped}
 use Rattle.rbc_words.proofs.printing.print_hex.Goals as goal
 
-pub returns-in_err-print_piece-clause-text : goal.returns-in_err-print_piece-clause-text
-returns-in_err-print_piece-clause-text g c =
+pub returns-in_err-print_piece : goal.returns-in_err-print_piece
+returns-in_err-print_piece g c =
+    let piece = c.in_err-print_piece.ensures in
     let pieces = hex_of-split _ _ _ _ c.split_at.ensures.front c.split_at.ensures.back in
-    c.loop-rest.invariant.whole _ _ (writes_stopped _ _ _ _ _ _ c.in_err-print_piece.ensures.text pieces c.from_residual.ensures.0)
+    c.loop-rest.invariant.whole _ _ _
+    (prints_stopped _ _ _ _ _ _ _ piece.text piece.failed pieces c.from_residual.ensures.0)
 
 pub loop-rest-preserved : goal.loop-rest-preserved
 loop-rest-preserved g c =
+    let piece = c.in_ok-print_piece.ensures in
     let pieces = hex_of-split _ _ _ _ c.split_at.ensures.front c.split_at.ensures.back in
     record {
-      going = c.in_ok-print_piece.ensures.failed;
-      whole = λ end r rest. c.loop-rest.invariant.whole end r (writes_then _ _ end _ _ _ r c.in_ok-print_piece.ensures.text pieces rest);
+      going = piece.failed;
+      whole = λ end failed r rest. c.loop-rest.invariant.whole end failed r
+          (prints_then _ _ end failed _ _ _ r piece.text pieces rest);
     }
+
+pub returns : goal.returns
+returns g c =
+    let none_left = hex_of-none c.loop-rest.rest.now (sym c.is_empty.ensures ∙ c.loop-rest-test.false) in
+    c.loop-rest.invariant.whole _ _ (Ok tt) (prints_nothing _ _ _ none_left c.loop-rest.invariant.going)

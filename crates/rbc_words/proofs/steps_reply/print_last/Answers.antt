@@ -1,12 +1,12 @@
 use Rattle.std.proofs.Common.{rules}
-use Rattle.rbc_lines.proofs.Writing.{writes_then, writes_stopped}
+use Rattle.rbc_words.proofs.PrintingLemmas.{prints_then, prints_stopped, prints_last}
 use Rattle.rbc_words.proofs.steps_reply.print_last.Goals as goal
 
-pub returns-in_err-put-clause-text : goal.returns-in_err-put-clause-text
-returns-in_err-put-clause-text g c = search (rules, writes_then, writes_stopped)
+pub returns-in_err-put : goal.returns-in_err-put
+returns-in_err-put g c = search (rules, prints_then, prints_stopped, prints_last)
 
-pub returns-in_err-print_number-clause-text : goal.returns-in_err-print_number-clause-text
-returns-in_err-print_number-clause-text g c = search (rules, writes_then, writes_stopped)
+pub returns-in_err-print_number : goal.returns-in_err-print_number
+returns-in_err-print_number g c = search (rules, prints_then, prints_stopped, prints_last)
 
-pub returns-clause-text : goal.returns-clause-text
-returns-clause-text g c = search (rules, writes_then, writes_stopped)
+pub returns : goal.returns
+returns g c = search (rules, prints_then, prints_stopped, prints_last)

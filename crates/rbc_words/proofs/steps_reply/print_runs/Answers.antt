@@ -1,25 +1,30 @@
-use Rattle.std.proofs.Common.{sym, subst, Ok}
-use Rattle.std.specs.Io.KnownBytes.{Appends}
-use Rattle.std.proofs.KnownBytes.{Appends-nil}
-use Rattle.rbc_words.proofs.LineTexts.{runs_text-next, runs_text-end}
-use Rattle.rbc_lines.proofs.Writing.{writes_then, writes_stopped}
+use Rattle.std.proofs.Common.{Ok}
+use Rattle.rbc_words.proofs.LineTextLemmas.{runs_text-next, runs_text-end}
+use Rattle.rbc_words.proofs.PrintingLemmas.{prints_nothing, prints_then, prints_stopped}
 use Rattle.rbc_words.proofs.steps_reply.print_runs.Goals as goal
 
-pub returns-in_err-print_run-clause-text : goal.returns-in_err-print_run-clause-text
-returns-in_err-print_run-clause-text g c =
-    let next = runs_text-next g.V.Spelled.kind c.args.runs.now c.loop-run.run-index c.run-item.result c.loop-run-test.true c.run-item.is in
-    c.loop-run.invariant.whole _ _ (writes_stopped _ _ _ _ _ _ c.in_err-print_run.ensures.text next c.from_residual.ensures.0)
+pub returns-in_err-print_run : goal.returns-in_err-print_run
+returns-in_err-print_run g c =
+    let run = c.in_err-print_run.ensures in
+    let loop = c.loop-run in
+    let item = c.run-item in
+    let next = runs_text-next g.V.Spelled.kind c.args.runs.now loop.run-index item.result c.loop-run-test.true item.is in
+    loop.invariant.whole _ _ _ (prints_stopped _ _ _ _ _ _ _ run.text run.failed next c.from_residual.ensures.0)
 
 pub loop-run-preserved : goal.loop-run-preserved
 loop-run-preserved g c =
-    let next = runs_text-next g.V.Spelled.kind c.args.runs.now c.loop-run.run-index c.run-item.result c.loop-run-test.true c.run-item.is in
+    let run = c.in_ok-print_run.ensures in
+    let loop = c.loop-run in
+    let item = c.run-item in
+    let next = runs_text-next g.V.Spelled.kind c.args.runs.now loop.run-index item.result c.loop-run-test.true item.is in
     record {
-      going = c.in_ok-print_run.ensures.failed;
-      whole = λ end r rest. c.loop-run.invariant.whole end r (writes_then _ _ end _ _ _ r c.in_ok-print_run.ensures.text next rest);
+      going = run.failed;
+      whole = λ end failed r rest. loop.invariant.whole end failed r
+          (prints_then _ _ end failed _ _ _ r run.text next rest);
     }
 
-pub returns-clause-text : goal.returns-clause-text
-returns-clause-text g c =
-    let now = g.W.Sink.written c.loop-run.writer in
-    c.loop-run.invariant.whole now (Ok tt)
-    (subst (Appends now now) (sym (runs_text-end g.V.Spelled.kind c.args.runs.now c.loop-run.run-index c.loop-run-test.false)) (Appends-nil now))
+pub returns : goal.returns
+returns g c =
+    let loop = c.loop-run in
+    let none_left = runs_text-end g.V.Spelled.kind c.args.runs.now loop.run-index c.loop-run-test.false in
+    loop.invariant.whole _ _ (Ok tt) (prints_nothing _ _ _ none_left loop.invariant.going)

@@ -1,39 +1,16 @@
 use Rattle.std.proofs.Common.{refl, ◌∙◌}
-use Rattle.rbc_lines.proofs.Writing.{writes_then, writes_stopped}
-use Rattle.rbc_words.proofs.LineTexts.{track_line-is}
+use Rattle.rbc_words.proofs.LineTextLemmas.{track_text-is}
+use Rattle.rbc_words.proofs.PrintingLemmas.{prints_then, prints_stopped}
 use Rattle.rbc_words.proofs.steps_reply.print_track.Goals as goal
 
-pub returns-in_err-put-clause-text : goal.returns-in_err-put-clause-text
-returns-in_err-put-clause-text g c =
-    let whole = track_line-is g.V.Spelled.kind (record { limit = c.args.limit; runs = c.args.track.now.steps; end = c.args.track.now.end }) _ _ _ c.command.ensures refl refl in
-    writes_stopped _ _ _ _ _ _ c.in_err-put.ensures.text whole c.from_residual.ensures.0
+pub returns-in_err-print_command : goal.returns-in_err-print_command
+returns-in_err-print_command g c =
+    let command = c.in_err-print_command.ensures in
+    let whole = track_text-is g.V.Spelled.kind c.args.limit c.args.track.now _ _ refl refl in
+    prints_stopped _ _ _ _ _ _ _ command.text command.failed whole c.from_residual.ensures.0
 
-pub returns-in_err-put-2-clause-text : goal.returns-in_err-put-2-clause-text
-returns-in_err-put-2-clause-text g c =
-    let whole = track_line-is g.V.Spelled.kind (record { limit = c.args.limit; runs = c.args.track.now.steps; end = c.args.track.now.end }) _ _ _ c.command.ensures refl refl in
-    writes_then _ _ _ _ _ _ _ c.in_ok-put.ensures.text whole
-    (writes_stopped _ _ _ _ _ _ c.in_err-put-2.ensures.text refl c.from_residual-in_err-put-2.ensures.0)
-
-pub returns-in_err-print_number-clause-text : goal.returns-in_err-print_number-clause-text
-returns-in_err-print_number-clause-text g c =
-    let whole = track_line-is g.V.Spelled.kind (record { limit = c.args.limit; runs = c.args.track.now.steps; end = c.args.track.now.end }) _ _ _ c.command.ensures refl refl in
-    writes_then _ _ _ _ _ _ _ c.in_ok-put.ensures.text whole
-    (writes_then _ _ _ _ _ _ _ c.in_ok-put-2.ensures.text refl
-    (writes_stopped _ _ _ _ _ _ c.in_err-print_number.ensures.text refl c.from_residual-in_err-print_number.ensures.0))
-
-pub returns-in_err-print_runs-clause-text : goal.returns-in_err-print_runs-clause-text
-returns-in_err-print_runs-clause-text g c =
-    let whole = track_line-is g.V.Spelled.kind (record { limit = c.args.limit; runs = c.args.track.now.steps; end = c.args.track.now.end }) _ _ _ c.command.ensures c.runs.ensures.runs refl in
-    writes_then _ _ _ _ _ _ _ c.in_ok-put.ensures.text whole
-    (writes_then _ _ _ _ _ _ _ c.in_ok-put-2.ensures.text refl
-    (writes_then _ _ _ _ _ _ _ c.in_ok-print_number.ensures.text refl
-    (writes_stopped _ _ _ _ _ _ c.in_err-print_runs.ensures.text refl c.from_residual-in_err-print_runs.ensures.0)))
-
-pub returns-clause-text : goal.returns-clause-text
-returns-clause-text g c =
-    let whole = track_line-is g.V.Spelled.kind (record { limit = c.args.limit; runs = c.args.track.now.steps; end = c.args.track.now.end }) _ _ _ c.command.ensures c.runs.ensures.runs (c.from.ensures ∙ c.end.ensures.end) in
-    writes_then _ _ _ _ _ _ _ c.in_ok-put.ensures.text whole
-    (writes_then _ _ _ _ _ _ _ c.in_ok-put-2.ensures.text refl
-    (writes_then _ _ _ _ _ _ _ c.in_ok-print_number.ensures.text refl
-    (writes_then _ _ _ _ _ _ _ c.in_ok-print_runs.ensures.text refl
-    c.print_last.ensures.text)))
+pub returns : goal.returns
+returns g c =
+    let same_end = c.from.ensures ∙ c.end.ensures.end in
+    let whole = track_text-is g.V.Spelled.kind c.args.limit c.args.track.now _ _ c.runs.ensures.runs same_end in
+    prints_then _ _ _ _ _ _ _ _ c.in_ok-print_command.ensures.text whole c.print_line_end.ensures

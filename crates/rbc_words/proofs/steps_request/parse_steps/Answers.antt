@@ -1,5 +1,5 @@
 use Rattle.rbc_model.specs.Words.{words_of}
-use Rattle.rbc_words.proofs.Ranges.{read_in_range}
+use Rattle.rbc_words.proofs.RangeLemmas.{read_in_range}
 use Rattle.rbc_words.proofs.steps_request.parse_steps.Goals as goal
 
 pub returns-clause-in_range : goal.returns-clause-in_range

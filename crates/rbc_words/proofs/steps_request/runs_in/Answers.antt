@@ -3,7 +3,7 @@ use Rattle.std.specs.Result.{is_ok}
 use Rattle.rbc_model.specs.declared.places.Format.TheVariants.{Near}
 use Rattle.rbc_model.specs.Words.{words_of}
 use Rattle.rbc_model.specs.StepsText.{runs_in}
-use Rattle.rbc_words.proofs.Requests.{IsSoFar, pushed, one_more}
+use Rattle.rbc_words.proofs.RequestLemmas.{IsSoFar, pushed, one_more}
 use Rattle.rbc_words.proofs.steps_request.runs_in.Goals.{then-refused, else-refused}
 use Rattle.rbc_words.proofs.steps_request.runs_in.Goals as goal
 

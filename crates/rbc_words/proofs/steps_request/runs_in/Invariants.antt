@@ -2,7 +2,7 @@ use Rattle.std.proofs.Common.{◌+◌, ◌≤◌, ◌∷◌, length}
 use Rattle.rbc_model.specs.declared.places.Format.TheVariants.{Near}
 use Rattle.rbc_model.specs.Words.{words_of}
 use Rattle.rbc_model.specs.StepsText.{runs_in}
-use Rattle.rbc_words.proofs.Requests.{IsSoFar}
+use Rattle.rbc_words.proofs.RequestLemmas.{IsSoFar}
 use Rattle.rbc_words.proofs.steps_request.runs_in.Given as goal
 
 abbrev pub invariant-loop-last : goal.invariant-loop-last

@@ -3,7 +3,7 @@ use Rattle.std.proofs.lemmas.Iterator.{YieldsList-from_slice}
 use Rattle.std.proofs.lemmas.Iterator.Search.{position_from_yields_List}
 use Rattle.std.specs.Option.{unwrap_or}
 use Rattle.std.specs.List.{position}
-use Rattle.rbc_words.proofs.FirstWord.{place_or_end}
+use Rattle.rbc_words.proofs.FirstWordLemmas.{place_or_end}
 use Rattle.rbc_words.proofs.words.length_before.Goals as goal
 
 pub returns-clause-value : goal.returns-clause-value

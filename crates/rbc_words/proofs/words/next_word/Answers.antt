@@ -1,6 +1,6 @@
 use Rattle.std.proofs.Common.{refl, arith}
 use Rattle.std.proofs.lemmas.Grind.{common_steps}
-use Rattle.rbc_words.proofs.FirstWord.{no_word, one_word}
+use Rattle.rbc_words.proofs.FirstWordLemmas.{no_word, one_word}
 use Rattle.rbc_words.proofs.words.next_word.Goals as goal
 
 pub returns-then-is_empty-clause-words : goal.returns-then-is_empty-clause-words

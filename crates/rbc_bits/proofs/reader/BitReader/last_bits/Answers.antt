@@ -1,6 +1,6 @@
 use Rattle.std.proofs.Common.{◌^◌, ◌<◌, length, nat_lt, if◌then◌else◌, Some, None, List, Bool, ap, ◌∙◌}
 use Rattle.rbc_model.specs.Bits.{number_of}
-use Rattle.rbc_bits.proofs.Taken.{last_left}
+use Rattle.rbc_bits.proofs.TakingLemmas.{last_left}
 use Rattle.rbc_bits.proofs.reader.BitReader.last_bits.Goals as goal
 
 pub returns : goal.returns

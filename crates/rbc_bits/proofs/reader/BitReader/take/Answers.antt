@@ -2,8 +2,8 @@ use Rattle.std.proofs.Common.{◌≡◌, ◌+◌, ◌-◌, ◌/◌, ◌^◌, ◌
 use Rattle.std.proofs.Math.Nat.{pow-le-pow_right}
 use Rattle.std.proofs.lemmas.Nat.{shr_below, one_shl}
 use Rattle.rbc_model.specs.Bits.{bits_of, byte_bits}
-use Rattle.rbc_bits.proofs.Cuts.{length-byte_bits, joined_number, joined_number-below}
-use Rattle.rbc_bits.proofs.Taken.{begun_byte, taken_value, left_bits, length_left}
+use Rattle.rbc_bits.proofs.CutLemmas.{length-byte_bits, joined_number, joined_number-below}
+use Rattle.rbc_bits.proofs.TakingLemmas.{begun_byte, taken_value, left_bits, length_left}
 use Rattle.rbc_bits.proofs.reader.BitReader.take.Goals as goal
 
 pub returns-in_default-clause-short : goal.returns-in_default-clause-short
@@ -39,8 +39,8 @@ returns-clause-value c =
     let whole : c.args.width + left ≡ c.loop-filled.filled = omega arith in
     taken_value c.args.width left c.loop-filled.pending (byte_bits c.loop-filled.bytes.now) c.args.self.now (rw whole c.loop-filled.invariant.pending) (rw whole c.loop-filled.invariant.bits)
 
-pub returns-clause-narrow : goal.returns-clause-narrow
-returns-clause-narrow c =
+pub returns-clause-fits : goal.returns-clause-fits
+returns-clause-fits c =
     let left = c.loop-filled.filled - c.args.width in
     let whole : c.args.width + left ≡ c.loop-filled.filled = omega arith in
     shr_below c.loop-filled.pending c.args.width left (rw whole c.loop-filled.invariant.pending)

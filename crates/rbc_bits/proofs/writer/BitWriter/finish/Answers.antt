@@ -1,7 +1,7 @@
 use Rattle.std.proofs.Common.{◌≡◌, ◌-◌, ◌*◌, ◌^◌, ◌%◌, ◌<◌, ◌++◌, ◌∷◌, [], true, is_ok, arith, ap, sym, ◌∙◌}
 use Rattle.std.proofs.lemmas.Nat.{shl_whole}
 use Rattle.rbc_model.specs.Bits.{bits_of, byte_bits, bytes_of, padded_bits}
-use Rattle.rbc_bits.proofs.Cuts.{bytes_within, bytes_of-whole, bytes_of-filled}
+use Rattle.rbc_bits.proofs.CutLemmas.{bytes_within, bytes_of-whole, bytes_of-filled}
 use Rattle.rbc_bits.proofs.writer.BitWriter.finish.Goals as goal
 
 pub returns-then-self-gt0 : goal.returns-then-self-gt0

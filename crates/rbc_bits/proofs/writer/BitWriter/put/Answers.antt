@@ -1,7 +1,7 @@
 use Rattle.std.proofs.Common.{◌≡◌, ◌+◌, ◌-◌, ◌^◌, ◌<◌, ◌++◌, true, is_ok, arith, ap, sym, ◌∙◌, append_assoc}
 use Rattle.std.proofs.lemmas.Nat.{shr_below, one_shl, mod_below, pow_pos}
 use Rattle.rbc_model.specs.Bits.{bits_of, byte_bits}
-use Rattle.rbc_bits.proofs.Cuts.{whole_byte, bits_of-joined, joined_number, joined_number-below}
+use Rattle.rbc_bits.proofs.CutLemmas.{whole_byte, bits_of-joined, joined_number, joined_number-below}
 use Rattle.rbc_bits.proofs.writer.BitWriter.put.Goals as goal
 
 pub loop-filled-init : goal.loop-filled-init

@@ -1,6 +1,7 @@
 use Rattle.std.proofs.Common.{◌≡◌, ◌*◌, ◌%◌, ◌^◌, ◌≤◌, ◌∙◌, ap, sym, arith}
-use Rattle.rbc_rows.specs.PowerLevels.{powers, greatest_within}
-use Rattle.rbc_rows.proofs.PowerLaws.{range_of, power_floor}
+use Rattle.rbc_powers.specs.PowerLevels.{powers, greatest_within}
+use Rattle.rbc_powers.specs.PowerLaws.{range_of}
+use Rattle.rbc_powers.proofs.PowerLemmas.{power_floor}
 use Rattle.rbc_powers.proofs.power.PowerLevel.floor.Goals as goal
 
 pub returns : goal.returns

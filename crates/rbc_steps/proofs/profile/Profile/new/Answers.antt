@@ -1,5 +1,5 @@
 use Rattle.std.proofs.Common.{sym, ◌∙◌}
-use Rattle.rbc_steps.proofs.Made.{profile_made}
+use Rattle.rbc_steps.proofs.MadeLemmas.{profile_made}
 use Rattle.rbc_steps.proofs.profile.Profile.new.Goals as goal
 
 pub invariant_of-result : goal.invariant_of-result

@@ -1,6 +1,6 @@
 use Rattle.std.proofs.Common.{◌∙◌, ap, map}
 use Rattle.std.specs.Prelude.{neg_ℤ}
-use Rattle.rbc_steps.proofs.Negated.{track_negated}
+use Rattle.rbc_steps.proofs.NegatedLemmas.{track_negated}
 use Rattle.rbc_steps.proofs.runs.Runs+Grade.negated.Goals as goal
 
 pub invariant_of-result : goal.invariant_of-result

@@ -1,8 +1,8 @@
 use Rattle.std.proofs.Common.{◌≡◌, true, subst, ap, ◌∙◌}
 use Rattle.std.specs.List.{list_all}
 use Rattle.rbc_model.specs.Profiles.{value_at, starts_of, rises_from_zero, are_inside}
-use Rattle.rbc_steps.proofs.Joined.{value_at-joined}
-use Rattle.rbc_steps.proofs.Made.{track_made}
+use Rattle.rbc_steps.proofs.JoinedLemmas.{value_at-joined}
+use Rattle.rbc_steps.proofs.MadeLemmas.{track_made}
 use Rattle.rbc_steps.proofs.runs.Runs.new.Goals as goal
 
 pub invariant_of-result : goal.invariant_of-result

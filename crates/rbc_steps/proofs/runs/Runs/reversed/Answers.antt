@@ -1,6 +1,6 @@
 use Rattle.std.proofs.Common.{◌∙◌, ap}
 use Rattle.rbc_steps.specs.Mirrored.{mirrored}
-use Rattle.rbc_steps.proofs.Turned.{turned}
+use Rattle.rbc_steps.proofs.TurnedLemmas.{turned}
 use Rattle.rbc_steps.proofs.runs.Runs.reversed.Goals as goal
 
 pub invariant_of-result : goal.invariant_of-result

@@ -1,4 +1,4 @@
-use Rattle.rbc_track.proofs.LinkKeyLaws.{found_there, found_back}
+use Rattle.rbc_track.proofs.LinkKeyLemmas.{found_there, found_back}
 use Rattle.rbc_track.proofs.links.Links.linked.Goals as goal
 
 pub returns-then-contains : goal.returns-then-contains

@@ -1,4 +1,4 @@
-use Rattle.rbc_track.proofs.LinkKeyLaws.{one_more}
+use Rattle.rbc_track.proofs.LinkKeyLemmas.{one_more}
 use Rattle.rbc_track.proofs.links.Links.push.Goals as goal
 
 pub invariant_of-self-in-Ok : goal.invariant_of-self-in-Ok

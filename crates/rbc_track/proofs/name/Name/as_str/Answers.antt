@@ -1,6 +1,6 @@
 use Rattle.std.proofs.Common.{List, ℕ, subst, sym}
 use Rattle.std.specs.Str.{IsUtf8}
-use Rattle.rbc_track.proofs.Keeping.{name_utf8}
+use Rattle.rbc_track.proofs.KeepingLemmas.{name_utf8}
 use Rattle.rbc_track.proofs.name.Name.as_str.Goals as goal
 
 pub returns-in-Err : goal.returns-in-Err

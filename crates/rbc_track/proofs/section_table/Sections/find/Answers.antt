@@ -1,6 +1,6 @@
 use Rattle.std.proofs.Common.{◌≡◌, List, Some, bytes_eq, position, ap, sym, ◌∙◌}
 use Rattle.rbc_model.specs.Tracks.{Section}
-use Rattle.rbc_track.proofs.Finding.{position-named}
+use Rattle.rbc_track.proofs.FindingLemmas.{position-named}
 use Rattle.rbc_track.proofs.section_table.Sections.find.Goals as goal
 
 pub returns-in_err-index : goal.returns-in_err-index

@@ -1,11 +1,13 @@
-use Rattle.std.proofs.Common.{All, ◌≡◌, [], take, drop, map}
-use Rattle.rbc_model.specs.SoundTracks.{first_refusal, section_refusal}
+use Rattle.std.proofs.Common.{All, ◌≡◌, take, drop, map}
+use Rattle.rbc_model.specs.SoundTracks.{section_refusal}
+use Rattle.rbc_track.specs.Making.{sound_sections}
 use Rattle.rbc_track.specs.Tables.{IsSectionInForm}
+use Rattle.rbc_track.proofs.JudgingLemmas.{judged_from}
 use Rattle.rbc_track.proofs.section_table.Sections.new.Given as goal
 
 abbrev pub invariant-loop-earlier : goal.invariant-loop-earlier
 invariant-loop-earlier l = record {
-  left : first_refusal section_refusal (take l.earlier l.section-items) (drop l.earlier l.section-items) ≡ first_refusal section_refusal [] l.section-items;
+  so_far : judged_from section_refusal (take l.earlier l.section-items) (drop l.earlier l.section-items) ≡ sound_sections l.section-items;
   named : l.names ≡ map (λ section. section.name) (take l.earlier l.section-items);
   form : All IsSectionInForm (take l.earlier l.section-items);
 }

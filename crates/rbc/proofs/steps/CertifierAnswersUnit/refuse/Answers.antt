@@ -1,0 +1,12 @@
+use Rattle.rbc_model.specs.declared.refusals.LineFault.TheVariants.{Overlong}
+use Rattle.rbc_model.specs.declared.refusals.StepsRefusal.TheVariants.{BadLine}
+use Rattle.rbc_model.specs.StepsReply.{refusal_reply}
+use Rattle.rbc.proofs.OverlongLemmas.{overlong_refused}
+use Rattle.rbc.proofs.steps.CertifierAnswersUnit.refuse.Goals as goal
+
+pub returns : goal.returns
+returns g c = (
+  refusal_reply (BadLine Overlong),
+  overlong_refused,
+  record { text = c.print.ensures.text; failed = c.print.ensures.failed },
+)

@@ -1,5 +1,0 @@
-mod Buffers
-mod Feeds
-pub mod Lines
-mod Pieces
-pub mod Writing

@@ -1,0 +1,165 @@
+//! The packet of a profile, for each kind of level: packet 21 of gradients, and packet 27 of speeds.
+
+ghost use Rattle.std.specs.Prelude.{◌≡◌, ◌≤◌, ◌<◌, ◌-◌, ◌^◌, ◌∷◌, ◌++◌};
+ghost use Rattle.std.specs.Prelude.{OnOk, IfOk, IsTrue};
+ghost use Rattle.rbc_model.specs.declared.limits.TheConstants.{FARTHEST_END, MOST_STEPS};
+ghost use Rattle.rbc_model.specs.Messages.{bytes_of_fields, direction_of};
+ghost use Rattle.rbc_packet.specs.Fields.{bits_of_fields};
+ghost use Rattle.rbc_packet.specs.Layouts.{ReadsProfile, end_at, profile_at, profile_head, steps_at};
+ghost use Rattle.rbc_packet.specs.Reads.{Reads};
+
+use crate::encoded::Encoded;
+use crate::field_reader::{any_field, expect, field_from_to, fixed_field, positive_field};
+use crate::fields::{METRES, direction_of, put_fields};
+use crate::packet_15::Frame;
+use rbc_bits::{BitReader, BitWriter};
+use rbc_model::limits::MOST_STEPS;
+use rbc_model::{Fault, FieldName, Memory};
+use rbc_steps::Profile;
+use std::alloc::Global;
+
+/// A profile's packet alone, filled up with zeros to whole bytes. It holds in the group's nominal direction or against it. The profile ends
+/// at 32,000 m or before, so distances are in metres (Q_SCALE 1).
+///
+/// # Errors
+///
+/// [`Memory`] where there is none for the bytes.
+pub fn write_profile<V: Encoded>(
+    alloc: Global,
+    profile: &Profile<V>,
+    nominal: bool,
+) -> Result<Vec<u8>, Memory>
+    requires { profile.now.end ≤ FARTHEST_END }
+    ensures { IfOk result (λ bytes.
+        bytes.items ≡ bytes_of_fields (V.packet nominal profile.now.end profile.now.steps)) }
+{
+    let mut bits = BitWriter::new(alloc);
+    put_profile(&mut bits, profile, nominal)?;
+    Ok(bits.finish())
+}
+
+/// A profile's packet behind the bits so far. Where memory runs out, some of it may stand.
+pub(crate) fn put_profile<V: Encoded>(
+    bits: &mut BitWriter,
+    profile: &Profile<V>,
+    nominal: bool,
+) -> Result<(), Memory>
+    requires { profile.now.end ≤ FARTHEST_END }
+    ensures { OnOk result (bits.new ≡ bits.old
+        ++ bits_of_fields (V.packet nominal profile.now.end profile.now.steps)) }
+{
+    let steps = profile.steps();
+    put_head(bits, direction_of(nominal), steps[0].1, steps.len() as u32)?;
+    let mut from = 0;
+    for (start, value) in &steps[1..] {
+        put_step(bits, *start - from, *value)?;
+        from = *start;
+    }
+    put_end::<V>(bits, profile.end() - from)
+}
+
+/// What stands before the later ones of so many steps.
+fn put_head<V: Encoded>(
+    bits: &mut BitWriter,
+    direction: u32,
+    first: V,
+    steps: u32,
+) -> Result<(), Memory>
+    requires direction { direction < 2 ^ 2 }
+    requires steps { steps ≤ MOST_STEPS }
+    ensures { OnOk result (bits.new ≡ bits.old ++ bits_of_fields (profile_head V.layout direction first steps)) }
+{
+    put_fields(
+        bits,
+        &[
+            (FieldName::NID_PACKET, V::number()),
+            (FieldName::Q_DIR, direction),
+            (FieldName::L_PACKET, V::packet_bits(steps)),
+            (FieldName::Q_SCALE, METRES),
+            (V::distance(), 0),
+        ],
+    )?;
+    first.put_value(bits)?;
+    put_fields(bits, &[(FieldName::N_ITER, steps)])
+}
+
+/// A later step: so many metres on, this value.
+fn put_step<V: Encoded>(bits: &mut BitWriter, distance: u32, value: V) -> Result<(), Memory>
+    requires { distance < 2 ^ 15 }
+    ensures { OnOk result (bits.new ≡ bits.old
+        ++ bits_of_fields ((V.layout.distance, distance) ∷ V.layout.value_fields value)) }
+{
+    put_fields(bits, &[(V::distance(), distance)])?;
+    value.put_value(bits)
+}
+
+/// The end element: so many metres on, the profile ends.
+fn put_end<V: Encoded>(bits: &mut BitWriter, distance: u32) -> Result<(), Memory>
+    requires { distance < 2 ^ 15 }
+    ensures { OnOk result (bits.new ≡ bits.old
+        ++ bits_of_fields ((V.layout.distance, distance) ∷ V.layout.mark_fields)) }
+{
+    put_fields(bits, &[(V::distance(), distance)])?;
+    V::put_mark(bits)
+}
+
+/// Reads a profile's packet, of an authority with this frame. Its distances are in metres (Q_SCALE 1).
+///
+/// # Errors
+///
+/// The first fault of a field, or [`Fault::Length`] where the packet's length does not fit its number of steps.
+pub(crate) fn read_profile<V: Encoded>(
+    bits: &mut BitReader,
+    frame: &Frame,
+) -> Result<Profile<V>, Fault>
+    requires { frame.now.end ≤ FARTHEST_END }
+    ensures { ReadsProfile (profile_at V.layout (direction_of frame.now.nominal) frame.now.end)
+        frame.now.end bits.old bits.new result }
+{
+    fixed_field(bits, FieldName::NID_PACKET, V::number())?;
+    fixed_field(bits, FieldName::Q_DIR, direction_of(frame.nominal))?;
+    let said = any_field(bits, FieldName::L_PACKET)?;
+    fixed_field(bits, FieldName::Q_SCALE, METRES)?;
+    fixed_field(bits, V::distance(), 0)?;
+    let first = V::read_value(bits)?;
+    let count = positive_field(bits, FieldName::N_ITER)?;
+    expect(said == V::packet_bits(count), Fault::Length)?;
+    read_steps(bits, first, count as usize, frame.end)
+}
+
+/// Reads the later ones of so many steps, and the end element: the profile of them up to the end, whose first value is read already.
+fn read_steps<V: Encoded>(
+    bits: &mut BitReader,
+    first: V,
+    count: usize,
+    end: u32,
+) -> Result<Profile<V>, Fault>
+    requires some { 0 < count }
+    requires room { count ≤ MOST_STEPS }
+    requires in_metres { end ≤ FARTHEST_END }
+    requires expressible { IsTrue (V.levels.is_expressible first) }
+    ensures { ReadsProfile (steps_at V.layout end first (count - 1)) end bits.old bits.new result }
+{
+    let mut steps = [(0, first); MOST_STEPS];
+    let mut from = 0;
+    for index in 1..count {
+        let distance = positive_field(bits, V::distance())?;
+        from += distance;
+        steps[index] = (from, V::read_value(bits)?);
+    }
+    read_end::<V>(bits, from, end)?;
+    match Profile::new(&steps[..count], end) {
+        Ok(profile) => Ok(profile),
+        Err(_) => unreachable!(),
+    }
+}
+
+/// Reads the end element, behind a step that starts at `from`: it lies at the end.
+fn read_end<V: Encoded>(bits: &mut BitReader, from: u32, end: u32) -> Result<(), Fault>
+    ensures reads { Reads (end_at V.layout end from) bits.old bits.new result }
+    ensures before { OnOk result (from < end) }
+{
+    let left = end.saturating_sub(from);
+    field_from_to(bits, V::distance(), left.max(1), left)?;
+    V::read_mark(bits)
+}

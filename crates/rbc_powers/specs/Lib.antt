@@ -1,0 +1,2 @@
+pub mod PowerLevels
+pub mod PowerLaws

@@ -1,0 +1,45 @@
+//! What answers the lines of a session.
+
+ghost use Rattle.std.specs.Prelude.{◌≡◌, ◌<◌, ℕ, List, length, false};
+ghost use Rattle.rbc_model.specs.declared.limits.TheConstants.{LONGEST_LINE};
+ghost use Rattle.rbc_model.specs.Sessions.{Prints};
+
+use rbc_streams::{Sink, WriteFailed};
+use std::alloc::Global;
+
+/// Answers lines, one after the other, with the help of a `C`.
+pub trait Answers<C> {
+    /// What a line changes. It is only spoken of: no value of it is made.
+    type State;
+
+    /// The state now.
+    ghost state: { Self → Self.State };
+
+    /// In a state a line is answered by a reply, and the next state follows.
+    ghost answers: { Self.State → List ℕ → List ℕ → Self.State → Type 0 };
+
+    /// Prints the reply to a line, which has no line feed. The session hands it on.
+    ///
+    /// # Errors
+    /// The writer failed. The line is answered all the same: the state is the next one.
+    fn answer<W: Sink>(
+        &mut self,
+        alloc: Global,
+        help: &C,
+        line: &[u8],
+        writer: &mut W,
+    ) -> Result<(), WriteFailed>
+        requires { W.failed writer.old ≡ false }
+        ensures { (reply : List ℕ) × answers (state self.old) line.now reply (state self.new)
+            × Prints (W.written writer.old) (W.written writer.new) (W.failed writer.new) reply result };
+
+    /// Prints the reply to a line that is too long, whatever it says.
+    ///
+    /// # Errors
+    /// The writer failed, as above.
+    fn refuse<W: Sink>(&mut self, help: &C, writer: &mut W) -> Result<(), WriteFailed>
+        requires { W.failed writer.old ≡ false }
+        ensures { (reply : List ℕ)
+            × ((line : List ℕ) → LONGEST_LINE < length line → answers (state self.old) line reply (state self.new))
+            × Prints (W.written writer.old) (W.written writer.new) (W.failed writer.new) reply result };
+}

@@ -1,0 +1,5 @@
+mod BufferLemmas
+mod LineFeedLemmas
+pub mod LineLemmas
+mod PieceLemmas
+pub mod WritingLemmas

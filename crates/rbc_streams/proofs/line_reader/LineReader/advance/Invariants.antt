@@ -1,0 +1,19 @@
+use Rattle.std.proofs.Common.{◌≡◌, ◌+◌, ◌≤◌, ℕ, List, ◌++◌, true, false, [], ◌-◌, length, take}
+use Rattle.std.specs.Io.KnownBytes.{Consumes}
+use Rattle.rbc_streams.specs.LineReading.{HasNoLineFeed, KnowsEnd}
+use Rattle.rbc_streams.proofs.line_reader.LineReader.advance.Given as goal
+
+abbrev pub invariant-loop-step : goal.invariant-loop-step
+invariant-loop-step g l = record {
+  within : l.searched ≤ length l.self.pending;
+  none_yet : HasNoLineFeed (take l.searched l.self.pending);
+  works : g.R.Source.failed l.reader ≡ false;
+  longest : l.self.longest ≡ l.fn.self.longest;
+  reads : (taken : List ℕ) × Consumes (g.R.Source.left l.fn.reader) (g.R.Source.left l.reader) taken
+      × (l.fn.self.ended ≡ true → taken ≡ []) × (l.self.pending ≡ l.fn.self.pending ++ taken);
+  knows : KnowsEnd l.fn.self (g.R.Source.left l.fn.reader) → KnowsEnd l.self (g.R.Source.left l.reader);
+  stays : l.fn.self.ended ≡ true → l.self.ended ≡ true;
+}
+
+abbrev pub decreases-loop-step : goal.decreases-loop-step
+decreases-loop-step g l = l.self.longest + 1 - length l.self.pending

@@ -1,0 +1,66 @@
+-- Reading line by line: what a reader of lines holds, and what comes of a step to the next line.
+use Rattle.std.specs.Prelude.{◌≡◌, ◌≢◌, ℕ, Bool, true, false, ◌+◌, ◌<◌, ◌≤◌, List, [], ◌∷◌, ◌++◌, length, take, Option, Result, MatchResult, ◌⊎◌}
+use Rattle.std.specs.List.{All}
+use Rattle.std.specs.Io.KnownBytes.{IsAtEnd}
+use Rattle.rbc_streams.specs.declared.line_reader.Advance.{Advance}
+use Rattle.rbc_streams.specs.declared.line_reader.Advance.TheVariants.{Line, Overlong, End}
+
+-- the line read last, the bytes that came and were not yet given as a line, how many bytes a line may have, and whether the input was seen to end
+pub record LineReading : Type 0 where
+  pub line : List ℕ
+  pub pending : List ℕ
+  pub longest : ℕ
+  pub ended : Bool
+
+-- before anything is read
+abbrev pub at_start : ℕ → LineReading
+at_start longest = record { line = []; pending = []; longest = longest; ended = false }
+
+-- no byte is a line feed
+abbrev pub HasNoLineFeed : List ℕ → Type 0
+HasNoLineFeed bytes = All (λ byte. byte ≢ 10) bytes
+
+-- the input is nothing but this line, without a line feed, and ended there
+pub record IsLastLine (input : List ℕ) (now : LineReading) : Type 0 where
+  pub whole : input ≡ now.line
+  pub some : 0 < length now.line
+  pub over : now.ended ≡ true
+  pub none_left : now.pending ≡ []
+
+-- The first line of the input was read. It ends with a line feed, which is no part of it, or with the input.
+pub record GivesLine (input : List ℕ) (now : LineReading) : Type 0 where
+  pub one_line : HasNoLineFeed now.line
+  pub within : length now.line ≤ now.longest
+  pub rest : (input ≡ now.line ++ 10 ∷ now.pending) ⊎ IsLastLine input now
+
+-- no line was read, and all of the input is pending
+pub record KeepsInput (input : List ℕ) (now : LineReading) : Type 0 where
+  pub input_pends : now.pending ≡ input
+  pub no_line : now.line ≡ []
+
+-- the first line of the input has more bytes than a line may have
+pub record IsOverlong (input : List ℕ) (longest : ℕ) : Type 0 where
+  pub long : longest < length input
+  pub no_end : HasNoLineFeed (take (longest + 1) input)
+
+-- What a step to the next line did. The input is what was pending before it, and what it read.
+abbrev pub Steps : List ℕ → LineReading → Advance → Type 0
+Steps input now Line = GivesLine input now
+Steps input now Overlong = KeepsInput input now × IsOverlong input now.longest
+Steps input now End = KeepsInput input now × (input ≡ []) × (now.ended ≡ true)
+
+-- the same of a step that may fail: then nothing that came is lost
+abbrev pub Advances : {E : Type 0} → List ℕ → LineReading → Result Advance E → Type 0
+Advances input now result = MatchResult result (Steps input now) (λ _. KeepsInput input now)
+
+-- The input is seen to end only where nothing is left to read.
+abbrev pub KnowsEnd : LineReading → Option (List ℕ) → Type 0
+KnowsEnd now left = now.ended ≡ true → IsAtEnd left
+
+-- how the line and the pending bytes lie in a buffer of this size
+pub record IsInOrder (size line_start line_end start end longest : ℕ) : Type 0 where
+  pub line_ordered : line_start ≤ line_end
+  pub line_within : line_end ≤ size
+  pub ordered : start ≤ end
+  pub within : end ≤ size
+  pub room : longest < size

@@ -1,8 +1,0 @@
-use Rattle.std.proofs.Common.{◌≡◌, drop}
-use Rattle.rbc_model.specs.Profiles.{starts_of}
-use Rattle.rbc_model.specs.SoundTracks.{are_long}
-use Rattle.rbc_track.proofs.Lasting.{are_apart}
-use Rattle.rbc_track.proofs.steps.are_long.Given as goal
-
-abbrev pub invariant-loop-next : goal.invariant-loop-next
-invariant-loop-next g l = are_apart l.end l.start (starts_of (drop l.next-index l.later)) ≡ are_long l.end l.runs

@@ -1,0 +1,101 @@
+-- The lines of a reply as the pieces that are printed one behind another.
+use Rattle.std.proofs.Common.{◌≡◌, ℕ, List, [], ◌∷◌, ◌++◌, refl, sym, ap, ◌∙◌, append_assoc, append-nil, drop, get_or, length, ◌<◌, ◌≤◌, ◌+◌, suc, add-one, drop-cons}
+use Rattle.std.proofs.lemmas.List.{at_drop_all}
+use Rattle.std.specs.Prelude.{codes, decimal}
+use Rattle.std.specs.List.{flat_map, join_with_byte}
+use Rattle.std.proofs.lemmas.Grind.{flat_map-append}
+use Rattle.rbc_model.specs.declared.refusals.LineFault.TheVariants.{Overlong, NotText, Command, Words, Number, Name}
+use Rattle.rbc_model.specs.declared.refusals.StepsRefusal.{StepsRefusal}
+use Rattle.rbc_model.specs.declared.refusals.StepsRefusal.TheVariants.{BadLine, NotRising, OutOfRange, Memory}
+use Rattle.rbc_model.specs.Kinds.{Kind}
+use Rattle.rbc_model.specs.Profiles.{StepFunction}
+use Rattle.rbc_model.specs.StepsReply.{profile_line, packet_lines, refusal_reply, refusal_words, run_words}
+use Rattle.rbc_model.specs.Words.{line_of, hex_of}
+use Rattle.rbc_words.specs.Replies.{runs_text, track_text, certified_text}
+use Rattle.rbc_words.specs.declared.steps_reply.Certified.{Certified}
+
+-- a word behind a space
+abbrev spaced : List ℕ → List ℕ
+spaced word = 32 ∷ word
+
+-- words of which each but the first stands behind a space
+join_spaced : (word : List ℕ) (words : List (List ℕ)) → join_with_byte 32 (word ∷ words) ≡ word ++ flat_map spaced words
+join_spaced word [] = sym (append-nil word)
+join_spaced word (next ∷ words) = ap (λ l. word ++ (32 ∷ l)) (join_spaced next words)
+
+-- runs as words behind spaces
+spaced_runs : {V : Type 0} (kind : Kind V) (runs : List (ℕ × V)) → flat_map spaced (run_words kind runs) ≡ runs_text kind runs
+spaced_runs kind [] = refl
+spaced_runs kind ((start, value) ∷ runs) = ap (λ l. 32 ∷ ((decimal start ++ 58 ∷ kind.print value) ++ l)) (spaced_runs kind runs)
+
+-- a line of runs behind a word, and of a number behind its name
+line_of_runs : {V : Type 0} (kind : Kind V) (runs : List (ℕ × V)) (word name number : List ℕ)
+    → line_of (word ∷ (run_words kind runs ++ (name ∷ number ∷ []))) ≡ word ++ (runs_text kind runs ++ (32 ∷ (name ++ 32 ∷ (number ++ 10 ∷ []))))
+line_of_runs kind runs word name number =
+    let last : List (List ℕ) = name ∷ number ∷ [] in
+    ap (λ l. l ++ 10 ∷ []) (join_spaced word (run_words kind runs ++ last) ∙ ap (λ l. word ++ l) (flat_map-append spaced (run_words kind runs) last ∙ ap (λ l. l ++ flat_map spaced last) (spaced_runs kind runs)))
+    ∙ append_assoc word (runs_text kind runs ++ flat_map spaced last) (10 ∷ [])
+    ∙ ap (λ l. word ++ l) (append_assoc (runs_text kind runs) (flat_map spaced last) (10 ∷ []))
+    ∙ ap (λ l. word ++ (runs_text kind runs ++ (32 ∷ l))) (append_assoc name (32 ∷ (number ++ [])) (10 ∷ []) ∙ ap (λ l. name ++ (32 ∷ (l ++ 10 ∷ []))) (append-nil number))
+
+-- the pieces of a track's line: its command and limit, and its runs and its end
+pub track_text-is : {V : Type 0} (kind : Kind V) (limit : ℕ) (track : StepFunction V) (runs : List (ℕ × V)) (end : ℕ)
+    → runs ≡ track.steps → end ≡ track.end
+    → track_text kind limit track
+    ≡ (kind.command ++ (32 ∷ decimal limit)) ++ (runs_text kind runs ++ (codes " end " ++ (decimal end ++ 10 ∷ [])))
+track_text-is {V} kind limit track runs end same_runs same_end =
+    let words = run_words kind track.steps ++ (codes "end" ∷ decimal track.end ∷ []) in
+    let behind : List (ℕ × V) → ℕ → List ℕ = λ rs e. runs_text kind rs ++ (codes " end " ++ (decimal e ++ 10 ∷ [])) in
+    append_assoc kind.command (32 ∷ join_with_byte 32 (decimal limit ∷ words)) (10 ∷ [])
+    ∙ ap (λ l. kind.command ++ (32 ∷ l)) (line_of_runs kind track.steps (decimal limit) (codes "end") (decimal track.end))
+    ∙ sym (append_assoc kind.command (32 ∷ decimal limit) (behind track.steps track.end))
+    ∙ ap (λ rs. (kind.command ++ (32 ∷ decimal limit)) ++ behind rs track.end) (sym same_runs)
+    ∙ ap (λ e. (kind.command ++ (32 ∷ decimal limit)) ++ behind runs e) (sym same_end)
+
+-- the pieces of a profile's line
+pub profile_line-is : {V : Type 0} (kind : Kind V) (steps runs : List (ℕ × V)) (loss : ℕ) → runs ≡ steps
+    → profile_line kind steps loss ≡ codes "steps" ++ (runs_text kind runs ++ (codes " loss " ++ (decimal loss ++ 10 ∷ [])))
+profile_line-is kind steps runs loss same =
+    line_of_runs kind steps (codes "steps") (codes "loss") (decimal loss)
+    ∙ ap (λ rs. codes "steps" ++ (runs_text kind rs ++ (codes " loss " ++ (decimal loss ++ 10 ∷ [])))) (sym same)
+
+-- the lines of a certificate
+pub certified_text-is : {V : Type 0} (kind : Kind V) (certified : Certified V) (packet : List ℕ) → packet ≡ certified.packet.items
+    → certified_text kind certified
+    ≡ track_text kind certified.limit certified.track
+    ++ (profile_line kind certified.profile.steps certified.loss ++ packet_lines packet)
+certified_text-is kind certified packet same =
+    let track = track_text kind certified.limit certified.track in
+    let profile = profile_line kind certified.profile.steps certified.loss in
+    append_assoc track profile (packet_lines certified.packet.items) ∙ ap (λ bytes. track ++ (profile ++ packet_lines bytes)) (sym same)
+
+-- the pieces of a run
+pub run_text-is : {V : Type 0} (kind : Kind V) (start number : ℕ) (value : V) → number ≡ start
+    → 32 ∷ (decimal start ++ 58 ∷ kind.print value) ≡ codes " " ++ (decimal number ++ (codes ":" ++ kind.print value))
+run_text-is kind start number value same = ap (λ n. 32 ∷ (decimal n ++ 58 ∷ kind.print value)) (sym same)
+
+-- the first of the runs that are left, and those behind it
+pub runs_text-next : {V : Type 0} (kind : Kind V) (runs : List (ℕ × V)) (index : ℕ) (run : ℕ × V) → index < length runs → run ≡ get_or runs index run
+    → runs_text kind (drop index runs) ≡ (32 ∷ (decimal run.0 ++ 58 ∷ kind.print run.1)) ++ runs_text kind (drop (index + 1) runs)
+runs_text-next {V} kind runs index run inside same =
+    ap (runs_text kind) (drop-cons runs index run inside)
+    ∙ ap (λ (first : ℕ × V). (32 ∷ (decimal first.0 ++ 58 ∷ kind.print first.1)) ++ runs_text kind (drop (suc index) runs)) (sym same)
+    ∙ ap (λ i. (32 ∷ (decimal run.0 ++ 58 ∷ kind.print run.1)) ++ runs_text kind (drop i runs)) (sym (add-one index))
+
+-- no run is left
+pub runs_text-end : {V : Type 0} (kind : Kind V) (runs : List (ℕ × V)) (index : ℕ) → length runs ≤ index → runs_text kind (drop index runs) ≡ []
+runs_text-end kind runs index past = at_drop_all (runs_text kind) runs index past
+
+pub packet_lines-is : (packet : List ℕ) → packet_lines packet ≡ codes "packet " ++ (hex_of packet ++ codes "\ndone\n")
+packet_lines-is packet = ap (λ l. codes "packet " ++ l) (append_assoc (hex_of packet) (10 ∷ []) (codes "done\n"))
+
+pub refusal_reply-is : (refusal : StepsRefusal) → refusal_reply refusal ≡ codes "refused " ++ line_of (refusal_words refusal)
+refusal_reply-is (BadLine Overlong) = refl
+refusal_reply-is (BadLine NotText) = refl
+refusal_reply-is (BadLine Command) = refl
+refusal_reply-is (BadLine Words) = refl
+refusal_reply-is (BadLine (Number word)) = refl
+refusal_reply-is (BadLine (Name word)) = refl
+refusal_reply-is NotRising = refl
+refusal_reply-is OutOfRange = refl
+refusal_reply-is Memory = refl

@@ -1,0 +1,65 @@
+-- The words of a request, one after the other.
+use Rattle.std.proofs.Common.{◌≡◌, ℕ, ◌+◌, Bool, true, false, not, cond, List, [], ◌∷◌, ◌++◌, Result, Ok, Err, refl, sym, ap, ◌∙◌, append_assoc, nat_le, length}
+use Rattle.std.specs.Result.{result_err}
+use Rattle.rbc_model.specs.declared.limits.TheConstants.{MOST_STEPS}
+use Rattle.rbc_model.specs.declared.places.Format.TheVariants.{Near}
+use Rattle.rbc_model.specs.declared.refusals.LineFault.{LineFault}
+use Rattle.rbc_model.specs.declared.refusals.LineFault.TheVariants.{Number}
+use Rattle.rbc_model.specs.Results.{is_from_to, allowed_value, ◌>>=◌}
+use Rattle.rbc_model.specs.Words.{number_in}
+use Rattle.rbc_model.specs.Kinds.{Kind}
+use Rattle.rbc_model.specs.StepsText.{StepsRequest, run_in_word, runs_in, request_in}
+
+-- a request with these runs before its own
+abbrev pub with_runs : {V : Type 0} → List (ℕ × V) → Result (StepsRequest V) LineFault → Result (StepsRequest V) LineFault
+with_runs front read = read >>= λ request. Ok (record request { runs = front ++ request.runs })
+
+-- All words read as those left do, with the runs so far in front; where memory was refused, these are lost, but no fault.
+pub record IsSoFar {V : Type 0} (all left : Result (StepsRequest V) LineFault) (refused : Bool) (front : List (ℕ × V)) : Type 0 where
+  pub kept : refused ≡ false → all ≡ with_runs front left
+  pub faults : result_err all ≡ result_err left
+
+no_runs : {V : Type 0} (read : Result (StepsRequest V) LineFault) → read ≡ with_runs [] read
+no_runs (Ok request) = refl
+no_runs (Err fault) = refl
+
+pub none_so_far : {V : Type 0} (all : Result (StepsRequest V) LineFault) → IsSoFar all all false []
+none_so_far all = record { kept = λ e. no_runs all; faults = refl }
+
+regroup : {V : Type 0} (front : List (ℕ × V)) (run : ℕ × V) (read : Result (StepsRequest V) LineFault)
+    → with_runs front (read >>= λ rest. Ok (record rest { runs = run ∷ rest.runs })) ≡ with_runs (front ++ run ∷ []) read
+regroup front run (Ok request) = ap (λ runs. Ok (record request { runs = runs })) (sym (append_assoc front (run ∷ []) request.runs))
+regroup front run (Err fault) = refl
+
+same_fault : {V : Type 0} (run : ℕ × V) (read : Result (StepsRequest V) LineFault) → result_err (read >>= λ rest. Ok (record rest { runs = run ∷ rest.runs })) ≡ result_err read
+same_fault run (Ok request) = refl
+same_fault run (Err fault) = refl
+
+-- what a push that is not refused leaves
+pub pushed : {T : Type 0} (fits refused : Bool) (front more : List T) (x : T) → fits ≡ not refused → more ≡ cond fits (front ++ x ∷ []) front → refused ≡ false → more ≡ front ++ x ∷ []
+pushed true refused front more x e h ok = h
+pushed false true front more x e h ok = absurd (cc)
+pushed false false front more x e h ok = absurd (cc)
+
+module _ {V : Type 0} (kind : Kind V) (limit i : ℕ) (word next : List ℕ) (all : Result (StepsRequest V) LineFault) where
+  -- one more run
+  pub one_more : (last : List ℕ) (words : List (List ℕ)) (refused still : Bool) (front more : List (ℕ × V)) (run : ℕ × V) → Ok run ≡ run_in_word kind i word
+      → (still ≡ false → (refused ≡ false) × (more ≡ front ++ run ∷ []))
+      → IsSoFar all (runs_in kind Near limit i (word ∷ next ∷ last ∷ words)) refused front
+      → IsSoFar all (runs_in kind Near limit (i + 1) (next ∷ last ∷ words)) still more
+  one_more last words refused still front more run e pushed so_far =
+      let rest = runs_in kind Near limit (i + 1) (next ∷ last ∷ words) in
+      let step : runs_in kind Near limit i (word ∷ next ∷ last ∷ words) ≡ (rest >>= λ rest. Ok (record rest { runs = run ∷ rest.runs })) = ap (λ found. found >>= λ run. rest >>= λ rest. Ok (record rest { runs = run ∷ rest.runs })) (sym e) in
+      record {
+        kept = λ ok. so_far.kept (pushed ok).0 ∙ ap (with_runs front) step ∙ regroup front run rest ∙ ap (λ runs. with_runs runs rest) (sym (pushed ok).1);
+        faults = so_far.faults ∙ ap result_err step ∙ same_fault run rest;
+      }
+
+-- the words of a request behind its limit are read as its runs and its end
+pub behind_limit : {V : Type 0} (kind : Kind V) (words : List (List ℕ)) (first : List ℕ) (rest : List (List ℕ)) (limit : ℕ) → words ≡ first ∷ rest → nat_le 3 (length rest) ≡ true
+    → Ok limit ≡ allowed_value (is_from_to 1 MOST_STEPS) (Number 2) (number_in first) → request_in kind Near words ≡ runs_in kind Near limit 3 rest
+behind_limit kind words first [] limit e long read = absurd (cc)
+behind_limit kind words first (a ∷ []) limit e long read = absurd (cc)
+behind_limit kind words first (a ∷ b ∷ []) limit e long read = absurd (cc)
+behind_limit kind words first (a ∷ b ∷ c ∷ more) limit e long read =
+    ap (request_in kind Near) e ∙ ap (λ found. found >>= λ limit. runs_in kind Near limit 3 (a ∷ b ∷ c ∷ more)) (sym read)
