@@ -12,7 +12,8 @@ pub enum Task<'a> {
     Run(&'a str),
 }
 
-/// Reads the command line, whose first word is the program's name. A line that asks for help is an error whose exit code is 0.
+/// Reads the command line, whose first word is the program's name. A line that asks for help is an error whose exit
+/// code is 0.
 pub fn read<'a>(alloc: Global, words: &'a [String]) -> Result<Task<'a>, Error> {
     let steps = Command::new(alloc, "steps").about(
         "Answers each request on standard input with a best profile of few steps, its loss and its packet",

@@ -35,7 +35,8 @@ pub enum Failure {
 }
 
 impl Failure {
-    /// The program's exit status: 0 after help, 2 for a command line, 3 for a track, 4 for a session's fault and 5 for want of memory.
+    /// The program's exit status: 0 after help, 2 for a command line, 3 for a track, 4 for a session's fault and 5
+    /// for want of memory.
     pub fn status(&self) -> u8
         ensures { result ≡ status_of self.now }
     {

@@ -77,7 +77,8 @@ impl<'a> BitReader<'a> {
         Ok((pending >> filled) as u32)
     }
 
-    /// The number that the bits left spell, 0 to 127, where they are fewer than eight; none where they are eight or more.
+    /// The number that the bits left spell, 0 to 127, where they are fewer than eight; none where they are eight or
+    /// more.
     pub fn last_bits(&self) -> Option<u8>
         ensures { result ≡ (if nat_lt (length self.now) 8 then Some (number_of self.now) else None) }
     {

@@ -13,8 +13,9 @@ use rbc_model::limits::FARTHEST_END;
 use rbc_steps::{Grade, Profile, Speed};
 use std::marker::Model;
 
-/// What message 3 says to one train: the time of its report, the balise group that distances count from, whether the train runs in that
-/// group's nominal direction, how far it may run, at which speeds and over which gradients (ERA SUBSET-026 3.6.0, section 3.8).
+/// What message 3 says to one train: the time of its report, the balise group that distances count from, whether the
+/// train runs in that group's nominal direction, how far it may run, at which speeds and over which gradients (ERA
+/// SUBSET-026 3.6.0, section 3.8).
 #[derive(Drop)]
 pub struct Authority {
     time: u32,
@@ -39,8 +40,9 @@ impl Model for Authority {
 }
 
 impl Authority {
-    /// The authority with these parts: `time` is that of the train's report, in the train's own count, and `nominal` whether the train runs
-    /// in the group's nominal direction. None where the profiles do not end at one metre, or where that lies beyond 32,000 m.
+    /// The authority with these parts: `time` is that of the train's report, in the train's own count, and `nominal`
+    /// whether the train runs in the group's nominal direction. None where the profiles do not end at one metre, or
+    /// where that lies beyond 32,000 m.
     pub fn new(
         time: u32,
         group: Group,
@@ -69,7 +71,8 @@ impl Authority {
         self.time
     }
 
-    /// The balise group that distances count from: its country or region (NID_C) is 0 to 1,023, its number there (NID_BG) 0 to 16,382.
+    /// The balise group that distances count from: its country or region (NID_C) is 0 to 1,023, its number there
+    /// (NID_BG) 0 to 16,382.
     pub fn group(&self) -> Group
         ensures group { result ≡ self.now.group }
         ensures country { result.country ≤ LAST_COUNTRY }

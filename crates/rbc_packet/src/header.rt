@@ -1,5 +1,5 @@
-//! What stands before the packets of message 3 (ERA SUBSET-026 3.6.0, chapter 8): the message's number and length, the time of the train's
-//! report and the balise group. No acknowledgement is asked for.
+//! What stands before the packets of message 3 (ERA SUBSET-026 3.6.0, chapter 8): the message's number and length,
+//! the time of the train's report and the balise group. No acknowledgement is asked for.
 
 ghost use Rattle.std.specs.Prelude.{◌≡◌, ◌<◌, ◌^◌, ◌++◌, OnOk};
 ghost use Rattle.rbc_model.specs.Messages.{message_length};
@@ -59,8 +59,8 @@ fn message_length(authority: &Authority) -> u32
 ///
 /// # Errors
 ///
-/// The first fault of a field. Where the message says that it is longer than its bytes, it is [`Fault::Short`], and where they go on behind
-/// it, [`Fault::Extra`].
+/// The first fault of a field. Where the message says that it is longer than its bytes, it is [`Fault::Short`], and
+/// where they go on behind it, [`Fault::Extra`].
 pub(crate) fn read_header(bits: &mut BitReader, bytes: usize) -> Result<Header, Fault>
     ensures { ReadsAs header_view (header_at bytes) bits.old bits.new result }
 {

@@ -1,5 +1,5 @@
-//! The radio message 3, a movement authority (ERA SUBSET-026 3.6.0, chapter 8), written and read; and two of its packets (chapter 7) alone,
-//! the gradient profile and the static speed profile.
+//! The radio message 3, a movement authority (ERA SUBSET-026 3.6.0, chapter 8), written and read; and two of its
+//! packets (chapter 7) alone, the gradient profile and the static speed profile.
 #![tactic(auto)]
 
 mod authority;
@@ -19,7 +19,7 @@ pub use message::{read_message, write_message};
 pub use packet_21::write_grade;
 pub use packet_27::write_speed;
 pub use profile::write_profile;
-pub use rbc_model::GroupName as Group;
+pub use rbc_model::{Fault, FieldName, GroupName as Group, Memory};
 
 #[cfg(test)]
 mod tests;

@@ -38,8 +38,9 @@ pub fn write_message(alloc: Global, authority: &Authority) -> Result<Vec<u8>, Me
 ///
 /// # Errors
 ///
-/// The first fault, in the order in which the message stands. Of each field it is [`Fault::Short`] where its bits are missing, and where its
-/// value is not allowed [`Fault::Number`] of a message or packet, and [`Fault::Field`] of any other field. Between them come
+/// The first fault, in the order in which the message stands. Of each field it is [`Fault::Short`] where its bits are
+/// missing, and where its value is not allowed [`Fault::Number`] of a message or packet, and [`Fault::Field`] of any
+/// other field. Between them come
 ///
 /// 1. behind the message's length, [`Fault::Short`] where it says more bytes than there are, and [`Fault::Extra`] where it says fewer;
 /// 2. behind packet 15's length, [`Fault::Length`] where it is not 66 bits;

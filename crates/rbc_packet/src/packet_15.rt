@@ -1,5 +1,6 @@
-//! Packet 15, the level 2 movement authority (ERA SUBSET-026 3.6.0, chapter 7). It has one section, which ends where the authority does, with
-//! target speed 0 there, and no time-out, timers, danger point or overlap. Distances are in metres (Q_SCALE 1).
+//! Packet 15, the level 2 movement authority (ERA SUBSET-026 3.6.0, chapter 7). It has one section, which ends where
+//! the authority does, with target speed 0 there, and no time-out, timers, danger point or overlap. Distances are in
+//! metres (Q_SCALE 1).
 
 ghost use Rattle.std.specs.Prelude.{◌≡◌, ◌≤◌, ◌++◌, OnOk, IfOk};
 ghost use Rattle.rbc_model.specs.declared.limits.TheConstants.{FARTHEST_END};

@@ -21,8 +21,8 @@ use rbc_model::{Fault, FieldName, Memory};
 use rbc_steps::{Grade, Profile};
 use std::alloc::Global;
 
-/// Packet 21, the gradient profile, alone and filled up with zeros to whole bytes. It holds in the group's nominal direction or against it.
-/// The profile ends at 32,000 m or before, so distances are in metres (Q_SCALE 1).
+/// Packet 21, the gradient profile, alone and filled up with zeros to whole bytes. It holds in the group's nominal
+/// direction or against it. The profile ends at 32,000 m or before, so distances are in metres (Q_SCALE 1).
 ///
 /// # Errors
 ///

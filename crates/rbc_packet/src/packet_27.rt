@@ -21,8 +21,8 @@ use rbc_model::{Fault, FieldName, Memory};
 use rbc_steps::{Profile, Speed};
 use std::alloc::Global;
 
-/// Packet 27, the static speed profile, alone and filled up with zeros to whole bytes. It holds in the group's nominal direction or against
-/// it. The profile ends at 32,000 m or before, so distances are in metres (Q_SCALE 1).
+/// Packet 27, the static speed profile, alone and filled up with zeros to whole bytes. It holds in the group's
+/// nominal direction or against it. The profile ends at 32,000 m or before, so distances are in metres (Q_SCALE 1).
 ///
 /// # Errors
 ///
@@ -51,8 +51,8 @@ pub(crate) fn read_packet_27(bits: &mut BitReader, frame: &Frame) -> Result<Prof
     read_profile(bits, frame)
 }
 
-/// Speeds stand in packet 27 in steps of 5 km/h (V_STATIC), 5 to 600 km/h, with no distinction of the train's front (Q_FRONT 0) and no train
-/// categories (N_ITER 0).
+/// Speeds stand in packet 27 in steps of 5 km/h (V_STATIC), 5 to 600 km/h, with no distinction of the train's front
+/// (Q_FRONT 0) and no train categories (N_ITER 0).
 impl Encoded for Speed {
     ghost packet = { packet_27 };
 

@@ -18,8 +18,8 @@ use rbc_model::{Fault, FieldName, Memory};
 use rbc_steps::Profile;
 use std::alloc::Global;
 
-/// A profile's packet alone, filled up with zeros to whole bytes. It holds in the group's nominal direction or against it. The profile ends
-/// at 32,000 m or before, so distances are in metres (Q_SCALE 1).
+/// A profile's packet alone, filled up with zeros to whole bytes. It holds in the group's nominal direction or
+/// against it. The profile ends at 32,000 m or before, so distances are in metres (Q_SCALE 1).
 ///
 /// # Errors
 ///
@@ -127,7 +127,8 @@ pub(crate) fn read_profile<V: Encoded>(
     read_steps(bits, first, count as usize, frame.end)
 }
 
-/// Reads the later ones of so many steps, and the end element: the profile of them up to the end, whose first value is read already.
+/// Reads the later ones of so many steps, and the end element: the profile of them up to the end, whose first value
+/// is read already.
 fn read_steps<V: Encoded>(
     bits: &mut BitReader,
     first: V,

@@ -97,8 +97,8 @@ const CASES: [Case; 5] = [
     },
 ];
 
-/// 31 speeds, 1,000 m each and 5 km/h faster each, and 31 gradients, which begin 1 m later and are 10 per mille steeper each, from 150
-/// downhill, up to 32,000 m against the nominal direction of the last group.
+/// 31 speeds, 1,000 m each and 5 km/h faster each, and 31 gradients, which begin 1 m later and are 10 per mille
+/// steeper each, from 150 downhill, up to 32,000 m against the nominal direction of the last group.
 const LONGEST: [u8; 234] = [
     0x03, 0x3a, 0xbf, 0xff, 0xff, 0xff, 0xdf, 0xff, 0xff, 0xc1, 0xe0, 0x10, 0x90, 0x1f, 0xf8, 0x3e,
     0x80, 0x00, 0xa8, 0x31, 0xe4, 0x00, 0x02, 0x5b, 0xe0, 0xfa, 0x51, 0x80, 0xfa, 0x10, 0x40, 0xfa,

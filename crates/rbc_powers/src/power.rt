@@ -1,3 +1,5 @@
+//! A third kind of level, of which a message has the powers of two.
+
 ghost use Rattle.std.specs.Prelude.{ℕ, ◌≡◌, ◌↔◌, IsSome, IfSome};
 ghost use Rattle.rbc_model.specs.Levels.{IsInRange};
 ghost use Rattle.rbc_powers.specs.PowerLevels.{power_levels};

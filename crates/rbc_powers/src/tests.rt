@@ -1,3 +1,5 @@
+//! The generic crates at all three kinds of level.
+
 ghost use Rattle.std.specs.Prelude.{◌≡◌};
 
 use crate::Power;
@@ -76,7 +78,8 @@ fn walk_track<V: Level>(rt: &(impl Abort + AllocGlobal), low: V, high: V) {
     assert_eq!(rt; back.end(), 30);
 }
 
-/// Puts tracks behind one another: one of the last level, one that begins with it, one that does not, and one that is too long.
+/// Puts tracks behind one another: one of the last level, one that begins with it, one that does not, and one that is
+/// too long.
 fn append_tracks<V: Level>(rt: &(impl Abort + AllocGlobal), low: V, high: V) {
     let mut track = track_of(rt, low, high, &[(0, false), (20, true)], 30);
     let one = track_of(rt, low, high, &[(0, true)], 5);

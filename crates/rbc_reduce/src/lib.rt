@@ -11,6 +11,7 @@ mod table;
 mod traceback;
 mod values;
 
+pub use rbc_model::Memory;
 pub use reduction::{Reduced, reduce};
 
 #[cfg(test)]

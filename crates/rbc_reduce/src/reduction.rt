@@ -19,11 +19,15 @@ pub struct Reduced<V: Level> {
     pub loss: u64,
 }
 
-/// The profile of 1 to `limit` steps that loses least against the track: no profile of at most `limit` steps that is
-/// above the track at no metre loses less, with cuts at any metre. `Memory` is the only error.
+/// The profile of 1 to `limit` steps that loses least: no profile of at most `limit` steps that stays at or below the
+/// track loses less, wherever it is cut.
 ///
 /// Of the profiles that lose as little it has the fewest steps. Of those that have as few, its starts, read from the
 /// last one backwards, come first: this is tested, and no clause says it.
+///
+/// # Errors
+///
+/// [`Memory`] where there is none for the table.
 pub fn reduce<V: Level>(alloc: Global, track: &Runs<V>, limit: usize) -> Result<Reduced<V>, Memory>
     requires some { 1 ≤ limit }
     requires few { limit ≤ MOST_STEPS }

@@ -31,7 +31,14 @@ impl<V: Level> Model for Profile<V> {
 }
 
 impl<V: Level> Profile<V> {
-    /// The profile that the rows (start, value) make up to the end, in metres.
+    /// The profile that the rows (start, value) make up to the end, in metres. It takes no memory.
+    ///
+    /// # Errors
+    ///
+    /// - `Empty`: there is no row.
+    /// - `NotRising`: the first start is not 0, or the starts do not rise.
+    /// - `OutOfRange`: a start is not below the end, the end is above 100,000 m, or there are more than 31 rows.
+    /// - `NotExpressible`: a message has no such value.
     pub fn new(rows: &[(u32, V)], end: u32) -> Result<Profile<V>, ProfileFault>
         ensures { result ≡ profile_of V.levels end rows.now }
     {

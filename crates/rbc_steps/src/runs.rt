@@ -32,6 +32,12 @@ impl<V: Level> Model for Runs<V> {
 
 impl<V: Level> Runs<V> {
     /// The track that the rows (start, value) make up to the end, in metres. Neighbours with one value are joined.
+    ///
+    /// # Errors
+    ///
+    /// - `Empty`: there is no row.
+    /// - `NotRising`: the first start is not 0, or the starts do not rise.
+    /// - `OutOfRange`: a start is not below the end, or the end is above 100,000 m.
     pub fn new(mut rows: Vec<(u32, V)>, end: u32) -> Result<Runs<V>, RunsFault>
         ensures track { result ≡ runs_of V.levels end rows.items }
         ensures values { IfOk result (λ r. (x : ℕ) → value_at r.steps x ≡ value_at rows.items x) }
@@ -76,6 +82,10 @@ impl<V: Level> Runs<V> {
     }
 
     /// The metres at which the level changes: the starts of the runs, and the end.
+    ///
+    /// # Errors
+    ///
+    /// [`Memory`] where there is none for the list.
     pub fn breaks(&self, alloc: Global) -> Result<Vec<u32>, Memory>
         ensures { IfOk result (λ metres. metres.items ≡ starts_of self.now.steps ++ self.now.end ∷ []) }
     {
@@ -84,6 +94,11 @@ impl<V: Level> Runs<V> {
     }
 
     /// Puts another track behind this one, which stays as it is after an error.
+    ///
+    /// # Errors
+    ///
+    /// - `OutOfRange`: the two together are longer than 100,000 m.
+    /// - `Memory`, unless the other track only goes on with this one's last level.
     pub fn append(&mut self, other: &Runs<V>) -> Result<(), AppendFault>
         ensures follows { IfOk result (λ _. Follows self.old other.now self.new) }
         ensures track { IsTrackFunction V.levels self.new.end self.new.steps }
@@ -107,6 +122,10 @@ impl<V: Level> Runs<V> {
     }
 
     /// The track run the other way.
+    ///
+    /// # Errors
+    ///
+    /// [`Memory`] where there is none for the runs.
     pub fn reversed(&self, alloc: Global) -> Result<Runs<V>, Memory>
         ensures back { IfOk result (λ r. Reverses self.now r) }
         ensures track { IfOk result (λ r. IsTrackFunction V.levels r.end r.steps) }
@@ -121,6 +140,10 @@ impl<V: Level> Runs<V> {
 
 impl Runs<Grade> {
     /// The track with each gradient negated: uphill is downhill.
+    ///
+    /// # Errors
+    ///
+    /// [`Memory`] where there is none for the runs.
     pub fn negated(&self, alloc: Global) -> Result<Runs<Grade>, Memory>
         ensures end { IfOk result (λ r. r.end ≡ self.now.end) }
         ensures runs { IfOk result (λ r. r.steps ≡ map (λ run. (run.0, neg_ℤ run.1)) self.now.steps) }

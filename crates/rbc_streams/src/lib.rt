@@ -8,7 +8,7 @@ mod streams;
 mod whole;
 
 pub use line_reader::{Advance, LineReader};
-pub use rbc_model::SessionFault;
+pub use rbc_model::{Memory, SessionFault};
 pub use retried::Retried;
 pub use stream::Stream;
 pub use streams::{ReadFailed, Sink, Source, WriteFailed, put};

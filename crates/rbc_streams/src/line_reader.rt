@@ -82,8 +82,8 @@ impl LineReader {
         &self.buffer[self.line_start..self.line_end]
     }
 
-    /// Whether a further byte comes. Reads only if no byte is pending, and lets the last line go then. An input that was
-    /// seen to end is not read again.
+    /// Whether a further byte comes. Reads only if no byte is pending, and lets the last line go then. An input that
+    /// was seen to end is not read again.
     ///
     /// # Errors
     /// The reader failed.

@@ -1,3 +1,5 @@
+//! The balise groups of a track, each found by its identity.
+
 ghost use Rattle.std.specs.Prelude.{◌≡◌, ◌<◌, [], ◌∷◌, ◌++◌, not, false, find, Err, OnOk};
 ghost use Rattle.std.specs.List.{list_any};
 ghost use Rattle.rbc_model.specs.Tracks.{group_name_eq};

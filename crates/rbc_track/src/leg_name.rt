@@ -1,3 +1,5 @@
+//! Legs as they are written.
+
 ghost use Rattle.std.specs.Prelude.{◌≡◌, Some};
 ghost use Rattle.rbc_model.specs.Names.{leg_in, leg_text, direction_in};
 

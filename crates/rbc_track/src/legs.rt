@@ -1,3 +1,5 @@
+//! Legs of a track.
+
 ghost use Rattle.std.specs.Prelude.{◌≡◌, nat_lt};
 ghost use Rattle.rbc_model.specs.Tracks.{leg_eq, reverse_leg};
 

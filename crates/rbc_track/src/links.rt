@@ -1,3 +1,5 @@
+//! Links, each found by a look-up.
+
 ghost use Rattle.std.specs.Prelude.{◌≡◌, [], ◌∷◌, ◌++◌, length, is_ok, if◌then◌else◌};
 ghost use Rattle.std.specs.List.{list_any};
 ghost use Rattle.rbc_model.specs.Tracks.{Track, joins};
@@ -94,7 +96,8 @@ impl Links {
         }
     }
 
-    /// Whether a train may run from the one leg onto the other: by a link, or by one from the other's reverse to the first one's reverse.
+    /// Whether a train may run from the one leg onto the other: by a link, or by one from the other's reverse to the
+    /// first one's reverse.
     pub(crate) fn linked(&self, from: Leg, to: Leg) -> bool
         ensures { result ≡ list_any (joins from to) self.now }
     {
@@ -118,8 +121,8 @@ impl Links {
         }
     }
 
-    /// Whether the link may stand behind these in a track of so many sections: its legs are of two of the sections, and no link joins
-    /// them yet.
+    /// Whether the link may stand behind these in a track of so many sections: its legs are of two of the sections,
+    /// and no link joins them yet.
     pub(crate) fn is_good(&self, sections: usize, link: Link) -> bool
         ensures { (track : Track) → length track.sections ≡ sections → result ≡ is_good_link track self.now link }
     {

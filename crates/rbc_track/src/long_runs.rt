@@ -1,3 +1,5 @@
+//! How long a speed or a gradient lasts.
+
 ghost use Rattle.std.specs.Prelude.{◌≡◌, ◌+◌, nat_le};
 ghost use Rattle.rbc_model.specs.SoundTracks.{are_long, has_long_runs};
 ghost use Rattle.rbc_model.specs.declared.limits.TheConstants.{SHORTEST_RUN};

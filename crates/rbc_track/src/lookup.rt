@@ -1,3 +1,5 @@
+//! Names and identities, each found by a look-up.
+
 ghost use Rattle.std.specs.Prelude.{◌≡◌, [], ◌∷◌, ◌++◌, not, false, position, bytes_eq, IfOk, OnErr, if◌then◌else◌};
 ghost use Rattle.std.specs.List.{list_any};
 ghost use Rattle.rbc_model.specs.Tracks.{group_name_eq};

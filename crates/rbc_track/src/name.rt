@@ -1,3 +1,5 @@
+//! Names of sections and routes.
+
 ghost use Rattle.std.specs.Prelude.{◌≡◌, Some, IsTrue, bytes_eq};
 ghost use Rattle.std.specs.List.{list_all};
 ghost use Rattle.std.specs.Cmp.{partial_equiv_from_equiv};
@@ -15,7 +17,8 @@ use std::{fmt, str};
 #[cfg(test)]
 mod tests;
 
-/// The name of a section or a route: 1 to 16 bytes of `A` to `Z`, `a` to `z`, `0` to `9` and `_`. It is kept in place and takes no memory.
+/// The name of a section or a route: 1 to 16 bytes of `A` to `Z`, `a` to `z`, `0` to `9` and `_`. It is kept in place
+/// and takes no memory.
 #[derive(Clone, Copy)]
 pub struct Name {
     bytes: [u8; LONGEST_NAME],

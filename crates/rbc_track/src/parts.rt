@@ -1,3 +1,5 @@
+//! The parts that a track is made of.
+
 use crate::{LegName, Name, Section, StepLimit};
 use rbc_model::{Direction, GroupName};
 use std::marker::Model;
@@ -19,7 +21,8 @@ impl Model for LinkPart {
     ghost inverse = { λ l. record { from = l.from; to = l.to } };
 }
 
-/// A balise group: its identity, its section, how many metres from the section's start it stands, and its nominal direction.
+/// A balise group: its identity, its section, how many metres from the section's start it stands, and its nominal
+/// direction.
 #[derive(Clone, Copy, Debug)]
 pub struct GroupPart {
     pub name: GroupName,

@@ -1,3 +1,5 @@
+//! Parts with their sections by number.
+
 ghost use Rattle.std.specs.Prelude.{◌≡◌, map, IfOk};
 ghost use Rattle.rbc_model.specs.TrackParts.{leg_of, link_of, group_of, route_of};
 

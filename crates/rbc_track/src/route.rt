@@ -1,3 +1,5 @@
+//! A route.
+
 ghost use Rattle.std.specs.Prelude.{◌≡◌};
 
 use crate::Name;

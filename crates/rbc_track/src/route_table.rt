@@ -1,3 +1,5 @@
+//! The routes of a track, each found by its name.
+
 ghost use Rattle.std.specs.Prelude.{◌≡◌, [], ◌∷◌, ◌++◌, not, false, bytes_eq, length, position, Err, OnOk};
 ghost use Rattle.std.specs.List.{list_any};
 ghost use Rattle.rbc_model.specs.Answers.{AnswersOrMemory};

@@ -1,3 +1,5 @@
+//! Which legs make a route.
+
 ghost use Rattle.std.specs.Prelude.{◌≡◌, ℕ, List, length, nat_lt, ◌==◌};
 ghost use Rattle.std.specs.List.{list_any, list_all};
 ghost use Rattle.rbc_model.specs.Tracks.{Track, leg_eq};
@@ -8,9 +10,9 @@ use crate::links::Links;
 use rbc_model::limits::MOST_LEGS;
 use rbc_model::{Leg, SectionId};
 
-/// Whether a track of these links and so many sections may have a route of these legs, entered from the leg `after` if there is one: it has
-/// 1 to 64 legs of the track's sections, none of one section with another, each linked to the next, and is entered from a leg that is
-/// linked to its first one and is none of its legs but perhaps the last.
+/// Whether a track of these links and so many sections may have a route of these legs, entered from the leg `after`
+/// if there is one: it has 1 to 64 legs of the track's sections, none of one section with another, each linked to the
+/// next, and is entered from a leg that is linked to its first one and is none of its legs but perhaps the last.
 pub(crate) fn is_good_route(
     links: &Links,
     sections: usize,
@@ -75,7 +77,8 @@ fn are_linked(links: &Links, legs: &[Leg]) -> bool
     true
 }
 
-/// Whether a route may be entered from the leg: it is linked to the first leg, and is none of the legs but perhaps the last.
+/// Whether a route may be entered from the leg: it is linked to the first leg, and is none of the legs but perhaps
+/// the last.
 fn is_good_entry(links: &Links, legs: &[Leg], after: &Leg) -> bool
     ensures { (track : Track) → track.links ≡ links.now → result ≡ is_good_entry track legs.now after.now }
 {

@@ -1,3 +1,5 @@
+//! The sections of a track, each found by its name.
+
 ghost use Rattle.std.specs.Prelude.{All, ◌≡◌, [], ◌∷◌, ◌++◌, not, false, bytes_eq, length, position, Err, IfOk, OnOk};
 ghost use Rattle.std.specs.List.{list_any};
 ghost use Rattle.rbc_model.specs.Answers.{AnswersOrMemory};

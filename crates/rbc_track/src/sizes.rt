@@ -1,3 +1,5 @@
+//! How many entries the tables of a track may have.
+
 ghost use Rattle.std.specs.Prelude.{◌≡◌, nat_le, Ok, Err, if◌then◌else◌};
 ghost use Rattle.rbc_model.specs.declared.tracks.TrackRefusal.TheVariants.{TooMany};
 ghost use Rattle.rbc_track.specs.Making.{sizes_of};

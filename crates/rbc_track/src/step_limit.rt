@@ -1,3 +1,5 @@
+//! How many steps a profile may have.
+
 ghost use Rattle.std.specs.Prelude.{◌≡◌, ◌≤◌, Some, None, if◌then◌else◌};
 ghost use Rattle.rbc_model.specs.Results.{is_from_to};
 ghost use Rattle.rbc_model.specs.declared.limits.TheConstants.{MOST_STEPS};

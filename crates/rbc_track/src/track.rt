@@ -1,3 +1,5 @@
+//! A track, and what it is asked for.
+
 ghost use Rattle.std.specs.Prelude.{◌≡◌, ◌<◌, ◌≤◌, length, slice_get, option_map, Some, Err, IfSome, IfErr};
 ghost use Rattle.rbc_model.specs.Tracks.{section_named, route_named, group_named, is_linked};
 ghost use Rattle.rbc_model.specs.SoundTracks.{IsInForm, IsSound, size_refusal};
@@ -23,8 +25,8 @@ use std::marker::Model;
 #[cfg(test)]
 mod tests;
 
-/// A track: sections with their speeds and gradients, links between their legs, balise groups and routes. Names and links are found by
-/// look-ups.
+/// A track: sections with their speeds and gradients, links between their legs, balise groups and routes. Names and
+/// links are found by look-ups.
 #[derive(Drop)]
 pub struct Track {
     speed_steps: usize,
@@ -43,12 +45,13 @@ impl Model for Track {
 
     ghost view = { λ t. track_with t.speed_steps t.grade_steps t.sections t.links t.groups t.routes };
 
-    ghost invariant = { λ t. IsSoundInForm (track_with t.speed_steps t.grade_steps t.sections t.links t.groups t.routes) };
+    ghost invariant = { λ t.
+        IsSoundInForm (track_with t.speed_steps t.grade_steps t.sections t.links t.groups t.routes) };
 }
 
 impl Track {
-    /// The track that the parts make, or the first reason why they make none. Sizes are judged before all else, and then sections, links,
-    /// groups and routes, one entry after the other.
+    /// The track that the parts make, or the first reason why they make none. Sizes are judged before all else, and
+    /// then sections, links, groups and routes, one entry after the other.
     ///
     /// # Errors
     ///
@@ -62,7 +65,8 @@ impl Track {
     /// `Memory` may come in place of all but the first line.
     pub fn new(alloc: Global, parts: Parts) -> Result<Track, OrMemory<TrackRefusal>>
         ensures track { AnswersOrMemory result (track_of (parts_view parts)) }
-        ensures sizes { IfSome (size_refusal (resolved (parts_view parts))) (λ refusal. result ≡ Err (Refused refusal)) }
+        ensures sizes { IfSome (size_refusal (resolved (parts_view parts)))
+            (λ refusal. result ≡ Err (Refused refusal)) }
     {
         Track::made(alloc, parts)
     }

@@ -25,7 +25,8 @@ pub(crate) struct FileEntry<'a> {
 impl<'a> FileEntry<'a> {
     /// The entry of this table and this number.
     pub(crate) fn new(table: FileTable, number: usize, members: &'a Table) -> FileEntry<'a>
-        ensures { entry_view result ≡ record { table = table; number = number; members = member_list (table_view members.now) } }
+        ensures { entry_view result
+            ≡ record { table = table; number = number; members = member_list (table_view members.now) } }
     {
         FileEntry {
             table,
@@ -82,7 +83,8 @@ impl<'a> FileEntry<'a> {
 
     /// The number, if it is `low` to `high`.
     fn number_from_to(self, key: Key, number: i64, low: u32, high: u32) -> Result<u32, FileFault>
-        ensures told { result ≡ or_fault (Range self.entry.table self.entry.number key) (number_from_to low high number) }
+        ensures told { result
+            ≡ or_fault (Range self.entry.table self.entry.number key) (number_from_to low high number) }
         ensures low { IfOk result (λ number. low ≤ number) }
         ensures high { IfOk result (λ number. number ≤ high) }
     {
@@ -101,7 +103,8 @@ impl<'a> FileEntry<'a> {
         low: u32,
         high: u32,
     ) -> Result<u32, FileFault>
-        ensures told { result ≡ in_form_told as_integer (number_from_to low high) (entry_view self.entry) key (view value.now) }
+        ensures told { result
+            ≡ in_form_told as_integer (number_from_to low high) (entry_view self.entry) key (view value.now) }
         ensures low { IfOk result (λ number. low ≤ number) }
         ensures high { IfOk result (λ number. number ≤ high) }
     {

@@ -93,7 +93,8 @@ fn top_keys<'a>(top: FileEntry<'a>) -> Result<TopKeys<'a>, FileFault>
 fn top_parts(alloc: Global, top: FileEntry) -> Result<Parts, OrMemory<FileFault>>
     ensures told { AnswersAs parts_view result (top_told (entry_view top.entry)) }
     ensures keys { IfErr (keys_told (entry_view top.entry)) (λ fault. result ≡ Err (Refused fault)) }
-    ensures order { IfOk (keys_told (entry_view top.entry)) (λ _. AreInKeyOrder (member_list (table_view top.entry.members.now))) }
+    ensures order { IfOk (keys_told (entry_view top.entry))
+        (λ _. AreInKeyOrder (member_list (table_view top.entry.members.now))) }
 {
     let keys = top_keys(top)?;
     top.only(alloc, &TOP_KEYS)?;
@@ -124,8 +125,10 @@ fn top_parts(alloc: Global, top: FileEntry) -> Result<Parts, OrMemory<FileFault>
 /// `Memory` may come in place of all but the first line.
 pub fn read_parts(alloc: Global, table: &Table) -> Result<Parts, OrMemory<FileFault>>
     ensures parts { AnswersAs parts_view result (parts_at toml_document (top_of (table_view table.now))) }
-    ensures keys { IfErr (keys_at toml_document (top_of (table_view table.now))) (λ fault. result ≡ Err (Refused fault)) }
-    ensures order { IfOk (keys_at toml_document (top_of (table_view table.now))) (λ _. AreInKeyOrder (member_list (table_view table.now))) }
+    ensures keys { IfErr (keys_at toml_document (top_of (table_view table.now)))
+        (λ fault. result ≡ Err (Refused fault)) }
+    ensures order { IfOk (keys_at toml_document (top_of (table_view table.now)))
+        (λ _. AreInKeyOrder (member_list (table_view table.now))) }
 {
     top_parts(alloc, FileEntry::new(FileTable::Top, 1, table))
 }
@@ -134,8 +137,8 @@ pub fn read_parts(alloc: Global, table: &Table) -> Result<Parts, OrMemory<FileFa
 ///
 /// # Errors
 ///
-/// `Refused` with the file's first fault: `Toml`, then those of `read_parts`, and then `Track` with the refusal of `Track::new`.
-/// `Memory` may come in place of a fault.
+/// `Refused` with the file's first fault: `Toml`, then those of `read_parts`, and then `Track` with the refusal of
+/// `Track::new`. `Memory` may come in place of a fault.
 pub fn read(alloc: Global, text: &[u8]) -> Result<Track, OrMemory<FileFault>>
     ensures { AnswersOrMemory result (track_told text.now) }
 {

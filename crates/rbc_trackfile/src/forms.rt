@@ -110,7 +110,8 @@ impl<'a> FileEntry<'a> {
 
     /// The step limit that a value is, 1 to 31.
     fn step_limit_in(self, key: Key, value: &Value) -> Result<StepLimit, FileFault>
-        ensures { result ≡ in_form_told as_integer (number_from_to 1 MOST_STEPS) (entry_view self.entry) key (view value.now) }
+        ensures { result
+            ≡ in_form_told as_integer (number_from_to 1 MOST_STEPS) (entry_view self.entry) key (view value.now) }
     {
         let steps = self.number_in(key, value, 1, MOST_STEPS as u32)?;
         Ok(StepLimit::new(steps as usize).unwrap())
@@ -119,7 +120,8 @@ impl<'a> FileEntry<'a> {
     /// The step limit at a key, 1 to 31; an absent key stands for 31.
     #[tactic(auto, unfolding(crate::specs::Told::optional_told))]
     pub(crate) fn step_limit(self, key: Key) -> Result<StepLimit, FileFault>
-        ensures { result ≡ optional_told as_integer (number_from_to 1 MOST_STEPS) MOST_STEPS (entry_view self.entry) key }
+        ensures { result
+            ≡ optional_told as_integer (number_from_to 1 MOST_STEPS) MOST_STEPS (entry_view self.entry) key }
     {
         match self.value(key) {
             Some(value) => self.step_limit_in(key, value),

@@ -35,7 +35,8 @@ impl<'a> FileEntry<'a> {
     /// The values of the list that a value is, all of the sort.
     #[tactic(auto, unfolding(crate::specs::Told::values_told))]
     fn values_in(self, sort: Sort, key: Key, value: &'a Value) -> Result<&'a [Value], FileFault>
-        ensures { Tells (λ values. map view values.now) result (values_told sort (entry_view self.entry) key (view value.now)) }
+        ensures { Tells (λ values. map view values.now) result
+            (values_told sort (entry_view self.entry) key (view value.now)) }
     {
         let Some(values) = value.as_array() else {
             return Err(self.wrong(key));

@@ -12,4 +12,4 @@ mod tests;
 mod values;
 
 pub use file::{parse, read, read_parts};
-pub use rbc_model::{FileFault, key_text};
+pub use rbc_model::{FileFault, OrMemory, key_text};

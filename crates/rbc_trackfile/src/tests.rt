@@ -1,3 +1,5 @@
+//! Track files, and files with one fault each.
+
 use crate::{FileFault, parse, read, read_parts};
 use rbc_model::{Direction, OrMemory};
 use rbc_track::Parts;

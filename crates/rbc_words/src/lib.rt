@@ -8,6 +8,7 @@ mod steps_request;
 mod words;
 
 pub use printing::{print_hex, print_number, print_signed};
+pub use rbc_model::{LineFault, OrMemory, StepsRefusal};
 pub use rbc_streams::{Advance, LineReader, SessionFault, Sink, Source, Stream, WriteFailed};
 pub use spelled::Spelled;
 pub use steps_reply::{Certified, StepsReply, print};

@@ -12,7 +12,8 @@ const MESSAGE: [u8; 39] = [
     0x05, 0x00, 0x08, 0x3e, 0x8f, 0xe0, 0x00,
 ];
 
-/// What comes of it where any one of so many bits is another, from its first bit to its last: a fault, or another authority.
+/// What comes of it where any one of so many bits is another, from its first bit to its last: a fault, or another
+/// authority.
 const ONE_BIT: [(usize, Option<Fault>); 45] = [
     // The header.
     (8, Some(Fault::Number)),

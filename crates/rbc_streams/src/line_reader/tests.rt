@@ -1,3 +1,5 @@
+//! Lines from readers that give few bytes at a time.
+
 ghost use Rattle.std.specs.Prelude.{None};
 
 use super::*;

@@ -1,3 +1,5 @@
+//! Names that are, and that are none.
+
 use crate::{LegName, Name};
 use std::test::Fail;
 

@@ -1,3 +1,5 @@
+//! Tracks of the worked examples, and parts that make none.
+
 use crate::{GroupPart, LegName, LinkPart, Name, Parts, RoutePart, Section, StepLimit, Track};
 use rbc_model::{Direction, GroupName, OrMemory, RouteId, SectionId, Table, TrackRefusal};
 use rbc_steps::{Grade, Runs, Speed};
