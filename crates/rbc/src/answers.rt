@@ -45,7 +45,11 @@ fn certify_speeds(
 {
     let StepsRequest { limit, runs, end } = request;
     let track = Runs::new(runs, end)?;
-    let Reduced { profile, loss } = reduce(alloc, &track, limit)?;
+    let Reduced {
+        profile,
+        loss,
+        prices: _,
+    } = reduce(alloc, &track, limit)?;
     let packet = write_speed(alloc, &profile, true)?;
     Ok(Certified {
         limit,
@@ -68,7 +72,11 @@ fn certify_grades(
 {
     let StepsRequest { limit, runs, end } = request;
     let track = Runs::new(runs, end)?;
-    let Reduced { profile, loss } = reduce(alloc, &track, limit)?;
+    let Reduced {
+        profile,
+        loss,
+        prices: _,
+    } = reduce(alloc, &track, limit)?;
     let packet = write_grade(alloc, &profile, true)?;
     Ok(Certified {
         limit,

@@ -1,7 +1,5 @@
-pub mod StretchLemmas
-pub mod RowLemmas
-pub mod CoverLemmas
-pub mod MetreLemmas
-pub mod LossLemmas
+pub mod BreakLemmas
 pub mod LowestLemmas
-pub mod BestLemmas
+pub mod RowLemmas
+pub mod ReadBackLemmas
+pub mod ProfileLemmas

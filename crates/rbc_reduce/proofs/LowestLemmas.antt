@@ -1,112 +1,323 @@
--- No steps that fit lose less than what their stretches cost.
-use Rattle.std.proofs.Common.{◌≡◌, refl, ap, arith, subst, ℕ, zero, suc, ◌+◌, ◌-◌, ◌<◌, ◌≤◌, Bool, true, false, ◌&&◌, List, [], ◌∷◌, length, Option, Some, None, nat_lt, IsTrue, if◌then◌else◌}
-use Rattle.std.specs.List.{list_all, slice_get}
-use Rattle.std.proofs.lemmas.Bool.{ltb-true}
-use Rattle.rbc_model.specs.Levels.{Levels, IsInRange, IsAtMost, IsLawful, is_below}
-use Rattle.rbc_model.specs.Profiles.{value_at, starts_of, rises_above, is_within, price_at}
-use Rattle.rbc_model.specs.PriceTables.{lower_of, least_value, cost}
-use Rattle.rbc_model.proofs.CountingLemmas.{both_of}
-use Rattle.rbc_steps.proofs.JoinedLemmas.{rises_split, all_split}
-use Rattle.rbc_reduce.specs.Stretches.{AreInRange, IsBelowAll, price_over, first_start, stretch_costs}
-use Rattle.rbc_reduce.proofs.StretchLemmas.{in_range_at, least_in_range, least_below, least_lower}
-use Rattle.rbc_reduce.proofs.LossLemmas.{sum_at_most, value_here, value_later, step_losses}
+-- The least value over a row of runs, and what a step with its floor costs there.
+use Rattle.std.proofs.Common.{◌≡◌, refl, ap, sym, ◌∙◌, arith, subst, ℕ, zero, suc, ◌+◌, ◌-◌, ◌*◌, ◌<◌, ◌≤◌, ◌⊎◌, inl, inr, Bool, true, false, List, length, get_or, set, Some, if◌then◌else◌}
+use Rattle.std.specs.List.{slice_get}
+use Rattle.std.proofs.Math.Nat.{mul-le-mul_left}
+use Rattle.std.proofs.lemmas.List.{get_or-set_other}
+use Rattle.std.proofs.lemmas.Grind.{get_or-set_at}
+use Rattle.rbc_model.specs.Levels.{Levels, IsInRange, IsAtMost, IsLawful}
+use Rattle.rbc_model.specs.Profiles.{StepFunction, IsTrackFunction, value_at, price_at, sum_below}
+use Rattle.rbc_model.specs.PriceTables.{least_value, cost}
+use Rattle.rbc_table_laws.proofs.SumLemmas.{sum_from}
+use Rattle.rbc_table_laws.proofs.BreakLemmas.{covered_of}
+use Rattle.rbc_table_laws.proofs.LeastLemmas.{IsLeast, least_between, cost_is, in_range_at}
+use Rattle.rbc_reduce.specs.Breaks.{AreBreaks, IsLowest, IsBelowAll, lost_below, cost_between}
+use Rattle.rbc_reduce.proofs.BreakLemmas.{read_of}
 
-module _ {V : Type 0} (levels : Levels V) (values : List V) where
-  below_either : (given a b m : V) (test : Bool) → (if test then a else b) ≡ m → IsAtMost levels given a → IsAtMost levels given b → IsAtMost levels given m
-  below_either given a b m true e below_a below_b = subst (λ v. IsAtMost levels given v) e below_a
-  below_either given a b m false e below_a below_b = subst (λ v. IsAtMost levels given v) e below_b
+-- a sum of equal numbers
+sum_of_same : (count c : ℕ) (f : ℕ → ℕ) → ((x : ℕ) → x < count → f x ≡ c) → sum_below count f ≡ count * c
+sum_of_same zero c f same = omega arith
+sum_of_same (suc count) c f same =
+    let before = sum_of_same count c f (λ x h. same x (omega arith)) in
+    let here = same count (omega arith) in
+    omega arith
 
-  below_lower : (given m : V) (o p : Option V) → lower_of levels o p ≡ Some m
-      → ((a : V) → o ≡ Some a → IsAtMost levels given a) → ((b : V) → p ≡ Some b → IsAtMost levels given b) → IsAtMost levels given m
-  below_lower given m None p e below_a below_b = below_b m e
-  below_lower given m (Some a) None e below_a below_b = below_a m e
-  below_lower given m (Some a) (Some b) e below_a below_b =
-      let same : (if levels.at_most a b then a else b) ≡ m = cc in
-      below_either given a b m (levels.at_most a b) same (below_a a refl) (below_b b refl)
+module _ {V : Type 0} (track : StepFunction V) (breaks : List ℕ) (are : AreBreaks track breaks) where
+  -- the breaks rise
+  pub in_order : (i count : ℕ) → i + count ≤ length track.steps → get_or breaks i 0 ≤ get_or breaks (i + count) 0
+  in_order i zero h = let same : get_or breaks (i + zero) 0 ≡ get_or breaks i 0 = ap (λ k. get_or breaks k 0) (omega arith) in omega arith
+  in_order i (suc count) h =
+      let before = in_order i count (omega arith) in
+      let up = are.rise (i + count) (omega arith) in
+      let same : get_or breaks (i + suc count) 0 ≡ get_or breaks (i + count + 1) 0 = ap (λ k. get_or breaks k 0) (omega arith) in
+      omega arith
 
-  -- what is below all is below the least
-  below_least : (from count : ℕ) (given m : V) → IsBelowAll levels values from count given → least_value levels (slice_get values) from count ≡ Some m → IsAtMost levels given m
-  below_least from zero given m below e = absurd (cc)
-  below_least from (suc count) given m below e =
-      below_lower given m (least_value levels (slice_get values) from count) (slice_get values (from + count)) e
-      (λ a least. below_least from count given a (λ x v h there. below x v (omega arith) there) least)
-      (λ b there. below count b (omega arith) there)
+  pub rises_to : (i j : ℕ) → i ≤ j → j ≤ length track.steps → get_or breaks i 0 ≤ get_or breaks j 0
+  rises_to i j h inside =
+      let there = in_order i (j - i) (omega arith) in
+      let same : get_or breaks (i + (j - i)) 0 ≡ get_or breaks j 0 = ap (λ k. get_or breaks k 0) (omega arith) in
+      omega arith
 
-  module _ (lawful : IsLawful levels) (in_range : AreInRange levels values) where
-    -- of two values that may be given the higher one loses no more
-    price_rises : (v low high : V) (test : Bool) → levels.at_most high low ≡ test → IsInRange levels v → IsInRange levels low → IsInRange levels high
-        → IsAtMost levels low high → IsAtMost levels high v → levels.price v high ≤ levels.price v low
-    price_rises v low high true e rv rl rh below above =
-        let same : high ≡ low = lawful.ordered.antisymmetric high low rh rl e below in
-        let prices : levels.price v high ≡ levels.price v low = ap (levels.price v) same in
+  pub up_to_end : (i : ℕ) → i ≤ length track.steps → get_or breaks i 0 ≤ track.end
+  up_to_end i h = let up = rises_to i (length track.steps) h (omega arith) in let last = are.last in omega arith
+
+module _ {V : Type 0} (levels : Levels V) (track : StepFunction V) (breaks : List ℕ) where
+  -- The least value from a break up to another, and what its floor loses, from the same break or from a later one.
+  pub record IsScanned (i from to : ℕ) (least : V) (price : ℕ) : Type 0 where
+    pub lowest : IsLowest levels track (get_or breaks i 0) (get_or breaks to 0) least
+    pub lost : lost_below levels track (levels.floor least) (get_or breaks from 0) + price ≡ lost_below levels track (levels.floor least) (get_or breaks to 0)
+    pub bound : get_or breaks from 0 * 1000000 + price ≤ get_or breaks to 0 * 1000000
+
+module _ {V : Type 0} (levels : Levels V) (lawful : IsLawful levels) (track : StepFunction V) (function : IsTrackFunction levels track.end track.steps)
+    (breaks : List ℕ) (are : AreBreaks track breaks) where
+  range_at : (x : ℕ) (v : V) → x < track.end → value_at track.steps x ≡ Some v → IsInRange levels v
+  range_at x v h there = in_range_at levels track.end (value_at track.steps) lawful (covered_of levels lawful track.end track.steps function) x v h there
+
+  -- the run of an index
+  module _ (i : ℕ) (run : ℕ × V) (there : slice_get track.steps i ≡ Some run) where
+    inside : i < length track.steps
+    inside = (read_of track.steps i run there).0
+
+    ends_inside : get_or breaks (i + 1) 0 ≤ track.end
+    ends_inside = let h = inside in up_to_end track breaks are (i + 1) (omega arith)
+
+    same_value : (x : ℕ) (v : V) → get_or breaks i 0 ≤ x → x < get_or breaks (i + 1) 0 → value_at track.steps x ≡ Some v → run.1 ≡ v
+    same_value x v low high e = let f = are.flat i x run there low high in cc
+
+    pub run_in_range : IsInRange levels run.1
+    run_in_range =
+        let h = inside in
+        let up = are.rise i h in
+        let end = ends_inside in
+        range_at (get_or breaks i 0) run.1 (omega arith) (are.flat i (get_or breaks i 0) run there (omega arith) up)
+
+    -- what one value loses on it
+    pub lost_on : (given : V) → lost_below levels track given (get_or breaks i 0) + (get_or breaks (i + 1) 0 - get_or breaks i 0) * levels.price run.1 given
+        ≡ lost_below levels track given (get_or breaks (i + 1) 0)
+    lost_on given =
+        let up = are.rise i inside in
+        let from = get_or breaks i 0 in
+        let to = get_or breaks (i + 1) 0 in
+        let price : ℕ → ℕ = λ y. price_at levels (value_at track.steps y) (Some given) in
+        let split = sum_from from to price (omega arith) in
+        let on = sum_of_same (to - from) (levels.price run.1 given) (λ x. price (from + x))
+        (λ x h. ap (λ o. price_at levels o (Some given)) (are.flat i (from + x) run there (omega arith) (omega arith))) in
         omega arith
-    price_rises v low high false e rv rl rh below above =
-        let strictly : is_below levels low high ≡ true = rw (below, e) refl in
-        let falls = lawful.price_falls v low high rv rl rh strictly above in
+
+    at_most_value : (v : V) → run.1 ≡ v → IsAtMost levels run.1 v
+    at_most_value v e = subst (λ w. IsAtMost levels run.1 w) e (lawful.ordered.reflexive run.1 run_in_range)
+
+    pub lowest_here : IsLowest levels track (get_or breaks i 0) (get_or breaks (i + 1) 0) run.1
+    lowest_here =
+        let up = are.rise i inside in
+        record {
+          place = get_or breaks i 0;
+          low = omega arith;
+          high = up;
+          there = are.flat i (get_or breaks i 0) run there (omega arith) up;
+          below = λ x v low high e. at_most_value v (same_value x v low high e);
+        }
+
+    before_or_after : (x y : ℕ) → (x < y) ⊎ (y ≤ x)
+    before_or_after x y = grind arith
+
+    lower : (a b : V) → IsInRange levels a → IsInRange levels b → levels.at_most a b ≡ false → IsAtMost levels b a
+    lower a b ra rb e = elim (lawful.ordered.total a b ra rb) [ inl h ↦ absurd (cc) | inr h ↦ h ]
+
+    -- the run before is no lower, or it is
+    pub lowest_more : (to : ℕ) (least now : V) (test : Bool) → levels.at_most least run.1 ≡ test → to ≤ track.end
+        → IsLowest levels track (get_or breaks (i + 1) 0) to least → (test ≡ true → now ≡ least) → (test ≡ false → now ≡ run.1)
+        → IsLowest levels track (get_or breaks i 0) to now
+    lowest_more to least now true e end l kept fallen =
+        let up = are.rise i inside in
+        let low = l.low in
+        rw (kept refl) (record {
+          place = l.place;
+          low = omega arith;
+          high = l.high;
+          there = l.there;
+          below = λ x v from below at. elim (before_or_after x (get_or breaks (i + 1) 0)) [
+            | inl h ↦ subst (λ w. IsAtMost levels least w) (same_value x v from h at) e
+            | inr h ↦ l.below x v h below at
+          ];
+        })
+    lowest_more to least now false e end l kept fallen =
+        let up = are.rise i inside in
+        let low = l.low in
+        let high = l.high in
+        let range = range_at l.place least (omega arith) l.there in
+        let under = lower least run.1 range run_in_range e in
+        rw (fallen refl) (record {
+          place = get_or breaks i 0;
+          low = omega arith;
+          high = omega arith;
+          there = are.flat i (get_or breaks i 0) run there (omega arith) up;
+          below = λ x v from below at. elim (before_or_after x (get_or breaks (i + 1) 0)) [
+            | inl h ↦ at_most_value v (same_value x v from h at)
+            | inr h ↦ lawful.ordered.transitive run.1 least v run_in_range range (range_at x v (omega arith) at) under (l.below x v h below at)
+          ];
+        })
+
+  -- the floor of the least value may be given
+  module _ (from to : ℕ) (least : V) (end : to ≤ track.end) (l : IsLowest levels track from to least) where
+    pub least_in_range : IsInRange levels least
+    least_in_range = let high = l.high in range_at l.place least (omega arith) l.there
+
+    pub floor_in_range : IsInRange levels (levels.floor least)
+    floor_in_range = (lawful.floor_is_below least least_in_range).0
+
+    pub floor_below : IsBelowAll levels track from to (levels.floor least)
+    floor_below = λ x v low high at.
+        let floor = lawful.floor_is_below least least_in_range in
+        lawful.ordered.transitive (levels.floor least) least v floor.0 least_in_range (range_at x v (omega arith) at) floor.2 (l.below x v low high at)
+
+    least_there : IsLeast levels track.end (value_at track.steps) from (to - from)
+    least_there =
+        let low = l.low in
+        let high = l.high in
+        least_between levels track.end (value_at track.steps) lawful (covered_of levels lawful track.end track.steps function) from to (omega arith) end
+
+    same_least : (other : IsLeast levels track.end (value_at track.steps) from (to - from)) → other.least ≡ least
+    same_least other =
+        let low = l.low in
+        let high = l.high in
+        let placed = other.placed in
+        let range = range_at (from + other.place) other.least (omega arith) other.there in
+        let at : value_at track.steps (from + (l.place - from)) ≡ Some least = ap (value_at track.steps) (omega arith) ∙ l.there in
+        lawful.ordered.antisymmetric other.least least range least_in_range (other.below (l.place - from) (omega arith) least at)
+        (l.below (from + other.place) other.least (omega arith) (omega arith) other.there)
+
+    pub least_value_is : least_value levels (value_at track.steps) from (to - from) ≡ Some least
+    least_value_is = least_there.is ∙ ap Some (same_least least_there)
+
+    -- what its floor loses there is what a step costs
+    pub lowest_cost : (price : ℕ) → lost_below levels track (levels.floor least) from + price ≡ lost_below levels track (levels.floor least) to
+        → price ≡ cost levels (value_at track.steps) from to
+    lowest_cost price e =
+        let low = l.low in
+        let high = l.high in
+        let is = cost_is levels track.end (value_at track.steps) lawful (covered_of levels lawful track.end track.steps function) from to (omega arith) least_there in
+        let floors : levels.floor least_there.least ≡ levels.floor least = ap levels.floor (same_least least_there) in
+        let a : lost_below levels track (levels.floor least_there.least) from ≡ lost_below levels track (levels.floor least) from = ap (λ g. lost_below levels track g from) floors in
+        let b : lost_below levels track (levels.floor least_there.least) to ≡ lost_below levels track (levels.floor least) to = ap (λ g. lost_below levels track g to) floors in
         omega arith
 
-    metre_costs : (o : Option V) (low high : V) → IsInRange levels low → IsInRange levels high → IsAtMost levels low high
-        → ((v : V) → o ≡ Some v → IsInRange levels v × IsAtMost levels high v) → price_at levels o (Some high) ≤ price_at levels o (Some low)
-    metre_costs None low high rl rh below there = omega arith
-    metre_costs (Some v) low high rl rh below there =
-        let at = there v refl in
-        price_rises v low high (levels.at_most high low) refl at.0 rl rh below at.1
+  pub cost_at : (i i' : ℕ) → cost levels (value_at track.steps) (get_or breaks i 0) (get_or breaks i' 0) ≡ cost_between levels track i i'
+  cost_at i i' = ap (λ b. cost levels (value_at track.steps) (get_or b i 0) (get_or b i' 0)) are.are
 
-    there_is : (xs : List V) (x : ℕ) → x < length xs → (w : V) × (slice_get xs x ≡ Some w)
-    there_is [] x h = absurd (omega arith)
-    there_is (y ∷ ys) zero h = (y, refl)
-    there_is (y ∷ ys) (suc x) h = there_is ys x (omega arith)
+  -- ---- a scan of the runs backwards from a break
 
-    -- no value that may be given on a stretch loses less there than the stretch costs
-    stretch_lowest : (from to : ℕ) (given : V) → from < to → to ≤ length values → IsInRange levels given → IsTrue (levels.is_expressible given)
-        → IsBelowAll levels values from (to - from) given → cost levels (slice_get values) from to ≤ price_over levels values from (to - from) given
-    stretch_lowest from to given rises inside range expressible below =
-        let first = there_is values (from + 0) (omega arith) in
-        let lower = least_lower levels values lawful in_range from (to - from) 0 first.0 (omega arith) first.1 in
-        let least = lower.0 in
-        let least_range = least_in_range levels values lawful in_range from (to - from) least lower.1 in
-        let floor = lawful.floor_is_below least least_range in
-        let given_below = lawful.floor_is_greatest least given least_range range expressible (below_least from (to - from) given least below lower.1) in
-        let known : (x : ℕ) → x < to - from → (v : V) → slice_get values (from + x) ≡ Some v → IsInRange levels v × IsAtMost levels (levels.floor least) v =
-        λ x h v there.
-        let rv = in_range_at levels values values (from + x) v in_range there in
-        let below_v = least_below levels values lawful in_range from (to - from) least lower.1 x v h there in
-        (rv, lawful.ordered.transitive (levels.floor least) least v floor.0 least_range rv floor.2 below_v) in
-        rw lower.1 (sum_at_most (to - from) (λ x. price_at levels (slice_get values (from + x)) (Some (levels.floor least))) (λ x. price_at levels (slice_get values (from + x)) (Some given))
-        (λ x h. metre_costs (slice_get values (from + x)) given (levels.floor least) range floor.0 given_below (known x h)))
+  -- what is lost on a run
+  pub priced : (i : ℕ) (run : ℕ × V) → slice_get track.steps i ≡ Some run → (given : V) → IsInRange levels given
+      → IsBelowAll levels track (get_or breaks i 0) (get_or breaks (i + 1) 0) given → (metres price : ℕ) → metres ≡ get_or breaks (i + 1) 0 - get_or breaks i 0
+      → price ≡ levels.price run.1 given
+      → (lost_below levels track given (get_or breaks i 0) + metres * price ≡ lost_below levels track given (get_or breaks (i + 1) 0))
+      × (get_or breaks i 0 * 1000000 + metres * price ≤ get_or breaks (i + 1) 0 * 1000000)
+  priced i run there given range below metres price metres_are price_is =
+      let up = are.rise i (inside i run there) in
+      let bound = lawful.price_is_bounded run.1 given (run_in_range i run there) range
+      (below (get_or breaks i 0) run.1 (omega arith) up (are.flat i (get_or breaks i 0) run there (omega arith) up)) in
+      let product : metres * price ≤ metres * 1000000 = mul-le-mul_left metres (omega arith) in
+      let same : metres * price ≡ (get_or breaks (i + 1) 0 - get_or breaks i 0) * levels.price run.1 given = ap (λ k. k * price) metres_are ∙ ap (λ k. (get_or breaks (i + 1) 0 - get_or breaks i 0) * k) price_is in
+      let lost = lost_on i run there given in
+      (omega arith, omega arith)
 
-    -- the value that is given is no higher than the track's
-    within_there : (o p : Option V) (v given : V) → o ≡ Some v → p ≡ Some given → is_within levels o p ≡ true → IsAtMost levels given v
-    within_there o p v given e f h = rw (e, f) at h
+  -- with one run more in front, before that run's price is added
+  pub scanned_more : (i to : ℕ) (run : ℕ × V) → slice_get track.steps i ≡ Some run → to ≤ length track.steps → (least now : V) (price anew : ℕ) (test : Bool)
+      → levels.at_most least run.1 ≡ test → IsScanned levels track breaks (i + 1) (i + 1) to least price → (test ≡ true → (now ≡ least) × (anew ≡ price))
+      → (test ≡ false → (now ≡ run.1) × (lost_below levels track (levels.floor run.1) (get_or breaks (i + 1) 0) + anew ≡ lost_below levels track (levels.floor run.1) (get_or breaks to 0))
+      × (get_or breaks (i + 1) 0 * 1000000 + anew ≤ get_or breaks to 0 * 1000000))
+      → IsScanned levels track breaks i (i + 1) to now anew
+  scanned_more i to run there end least now price anew true e s kept fallen =
+      let k = kept refl in
+      let lost = s.lost in
+      let bound = s.bound in
+      let same = k.1 in
+      record {
+        lowest = lowest_more i run there (get_or breaks to 0) least now true e (up_to_end track breaks are to end) s.lowest (λ f. k.0) (λ f. absurd (cc));
+        lost = rw k.0 (omega arith);
+        bound = omega arith;
+      }
+  scanned_more i to run there end least now price anew false e s kept fallen =
+      let k = fallen refl in record {
+        lowest = lowest_more i run there (get_or breaks to 0) least now false e (up_to_end track breaks are to end) s.lowest (λ f. absurd (cc)) (λ f. k.0);
+        lost = rw k.0 k.1;
+        bound = k.2;
+      }
 
-    below_step : (to : ℕ) (step : ℕ × V) (later : List (ℕ × V)) → rises_above step.0 (starts_of later) ≡ true
-        → to ≡ first_start (length values) (starts_of later) → step.0 < to → to ≤ length values
-        → (levels.in_range step.1 && levels.is_expressible step.1) ≡ true
-        → ((x : ℕ) → step.0 ≤ x → x < length values → is_within levels (slice_get values x) (value_at (step ∷ later) x) ≡ true)
-        → cost levels (slice_get values) step.0 to ≤ price_over levels values step.0 (to - step.0) step.1
-    below_step to step later rises to_is above inside valid below =
-        let both = both_of (levels.in_range step.1) (levels.is_expressible step.1) valid in
-        stretch_lowest step.0 to step.1 above inside both.0 both.1
-        (λ x v h there. within_there (slice_get values (step.0 + x)) (value_at (step ∷ later) (step.0 + x)) v step.1 there
-        (value_here (length values) (step.0 + x) step later rises (omega arith) (omega arith)) (below (step.0 + x) (omega arith) (omega arith)))
+  -- and once it is added
+  pub scanned_on : (i to : ℕ) (least : V) (before price after : ℕ) → IsScanned levels track breaks i (i + 1) to least before
+      → lost_below levels track (levels.floor least) (get_or breaks i 0) + price ≡ lost_below levels track (levels.floor least) (get_or breaks (i + 1) 0)
+      → get_or breaks i 0 * 1000000 + price ≤ get_or breaks (i + 1) 0 * 1000000 → after ≡ before + price → IsScanned levels track breaks i i to least after
+  scanned_on i to least before price after s here bound e =
+      let lost = s.lost in
+      let behind = s.bound in
+      record { lowest = s.lowest; lost = omega arith; bound = omega arith }
 
-    -- steps that are above the track at no metre lose no less than their stretches cost
-    pub costs_lowest : (step : ℕ × V) (later : List (ℕ × V)) → rises_above step.0 (starts_of later) ≡ true
-        → list_all (λ start. nat_lt start (length values)) (starts_of (step ∷ later)) ≡ true
-        → list_all (λ s. levels.in_range s.1 && levels.is_expressible s.1) (step ∷ later) ≡ true
-        → ((x : ℕ) → step.0 ≤ x → x < length values → is_within levels (slice_get values x) (value_at (step ∷ later) x) ≡ true)
-        → stretch_costs (cost levels (slice_get values)) (length values) (starts_of (step ∷ later)) ≤ step_losses levels values (step ∷ later)
-    costs_lowest step [] rises inside valid below =
-        let first = ltb-true step.0 (length values) (all_split (λ start. nat_lt start (length values)) step.0 [] inside).0 in
-        let ok = all_split (λ s. levels.in_range s.1 && levels.is_expressible s.1) step [] valid in
-        let here = below_step (length values) step [] rises refl first (omega arith) ok.0 below in
+  -- its floor may be given on the run in front, and on those behind it
+  module _ (i from to : ℕ) (least : V) (price : ℕ) (end : to ≤ length track.steps) (s : IsScanned levels track breaks i from to least price) where
+    pub scanned_range : IsInRange levels (levels.floor least)
+    scanned_range = floor_in_range (get_or breaks i 0) (get_or breaks to 0) least (up_to_end track breaks are to end) s.lowest
+
+    pub scanned_below : IsBelowAll levels track (get_or breaks i 0) (get_or breaks to 0) (levels.floor least)
+    scanned_below = floor_below (get_or breaks i 0) (get_or breaks to 0) least (up_to_end track breaks are to end) s.lowest
+
+  pub scanned_cost : (i to : ℕ) (least : V) (price : ℕ) → to ≤ length track.steps → IsScanned levels track breaks i i to least price → price ≡ cost_between levels track i to
+  scanned_cost i to least price end s =
+      lowest_cost (get_or breaks i 0) (get_or breaks to 0) least (up_to_end track breaks are to end) s.lowest price s.lost ∙ cost_at i to
+
+  -- ---- a step that goes on to the next break
+
+  pub lowest_at : (last to : ℕ) (run : ℕ × V) → slice_get track.steps last ≡ Some run → last + 1 ≡ to → IsLowest levels track (get_or breaks last 0) (get_or breaks to 0) run.1
+  lowest_at last to run there e = subst (λ k. IsLowest levels track (get_or breaks last 0) (get_or breaks k 0) run.1) e (lowest_here last run there)
+
+  -- the lower of the least and the run in front is the least
+  pub lowest_lower : (i : ℕ) (run : ℕ × V) → slice_get track.steps i ≡ Some run → (to : ℕ) (least now : V) → to ≤ track.end
+      → IsLowest levels track (get_or breaks (i + 1) 0) to least → now ≡ (if levels.at_most least run.1 then least else run.1) → IsLowest levels track (get_or breaks i 0) to now
+  lowest_lower i run there to least now end l is =
+      lowest_more i run there to least now (levels.at_most least run.1) refl end l (λ e. is ∙ rw e refl) (λ e. is ∙ rw e refl)
+
+  module _ (from to : ℕ) (end : to ≤ track.end) (now : V) (l : IsLowest levels track from to now) where
+    -- where the last value is no higher it is the least
+    pub flat_same : (last : ℕ) (new : V) → from ≤ last → IsLowest levels track last to new → levels.at_most new now ≡ true → now ≡ new
+    flat_same last new h n e =
+        let low = n.low in
+        let high = n.high in
+        lawful.ordered.antisymmetric now new (least_in_range from to now end l) (range_at n.place new (omega arith) n.there) (l.below n.place new (omega arith) high n.there) e
+
+    -- and it was so before the run in front came in
+    pub flat_before : (behind : ℕ) (least new : V) → from ≤ behind → IsLowest levels track behind to least → IsInRange levels new → levels.at_most new now ≡ true → levels.at_most new least ≡ true
+    flat_before behind least new h b range e =
+        let low = b.low in
+        let high = b.high in
+        lawful.ordered.transitive new now least range (least_in_range from to now end l) (range_at b.place least (omega arith) b.there) e (l.below b.place least (omega arith) high b.there)
+
+    -- what its floor loses there
+    pub lost_by_floor : lost_below levels track (levels.floor now) from + cost levels (value_at track.steps) from to ≡ lost_below levels track (levels.floor now) to
+    lost_by_floor =
+        let low = l.low in
+        let high = l.high in
+        let there = least_there from to now end l in
+        let is = cost_is levels track.end (value_at track.steps) lawful (covered_of levels lawful track.end track.steps function) from to (omega arith) there in
+        let floors : levels.floor there.least ≡ levels.floor now = ap levels.floor (same_least from to now end l there) in
+        let a : lost_below levels track (levels.floor there.least) from ≡ lost_below levels track (levels.floor now) from = ap (λ g. lost_below levels track g from) floors in
+        let b : lost_below levels track (levels.floor there.least) to ≡ lost_below levels track (levels.floor now) to = ap (λ g. lost_below levels track g to) floors in
         omega arith
-    costs_lowest step (next ∷ later) rises inside valid below =
-        let s = rises_split step.0 next.0 (starts_of later) rises in
-        let rest = all_split (λ start. nat_lt start (length values)) step.0 (starts_of (next ∷ later)) inside in
-        let first = ltb-true next.0 (length values) (all_split (λ start. nat_lt start (length values)) next.0 (starts_of later) rest.1).0 in
-        let ok = all_split (λ s. levels.in_range s.1 && levels.is_expressible s.1) step (next ∷ later) valid in
-        let here = below_step next.0 step (next ∷ later) rises refl s.0 (omega arith) ok.0 below in
-        let behind = costs_lowest next later s.1 rest.1 ok.1
-        (λ x low high. subst (λ o. is_within levels (slice_get values x) o ≡ true) (value_later x step next later low) (below x (omega (arith, s.0)) high)) in
-        omega arith
+
+  -- where the last value is higher the least one stands before it
+  pub fallen_before : (last : ℕ) (run : ℕ × V) → slice_get track.steps last ≡ Some run → (from : ℕ) (now : V) → IsLowest levels track from (get_or breaks (last + 1) 0) now
+      → levels.at_most run.1 now ≡ false → IsLowest levels track from (get_or breaks last 0) now
+  fallen_before last run there from now l e =
+      let high = l.high in
+      let up = are.rise last (inside last run there) in
+      elim (before_or_after last run there l.place (get_or breaks last 0)) [
+        | inl before ↦ record {
+          place = l.place;
+          low = l.low;
+          high = before;
+          there = l.there;
+          below = λ x v low below at. l.below x v low (omega arith) at;
+        }
+        | inr after ↦
+            let same = at_most_value last run there now (same_value last run there l.place now after high l.there) in
+            absurd (cc)
+      ]
+
+-- the costs that are written, from the last one to the first
+before_or_at : (i k : ℕ) → i ≤ k → (k ≡ i) ⊎ (i + 1 ≤ k)
+before_or_at i k h = grind arith
+
+pub written_more : (costs : List ℕ) (i to price : ℕ) (f : ℕ → ℕ) → i < length costs → price ≡ f i
+    → ((k : ℕ) → i + 1 ≤ k → k < to → get_or costs k 0 ≡ f k) → (k : ℕ) → i ≤ k → k < to → get_or (set costs i price) k 0 ≡ f k
+written_more costs i to price f room here behind k low high =
+    elim (before_or_at i k low) [
+      | inl e ↦ get_or-set_at costs i k price 0 (omega arith) room ∙ here ∙ ap f (sym e)
+      | inr l ↦ get_or-set_other costs i k price 0 (omega arith) ∙ behind k l high
+    ]
+
+pub small_more : (costs : List ℕ) (i to price most : ℕ) → i < length costs → price ≤ most
+    → ((k : ℕ) → i + 1 ≤ k → k < to → get_or costs k 0 ≤ most) → (k : ℕ) → i ≤ k → k < to → get_or (set costs i price) k 0 ≤ most
+small_more costs i to price most room here behind k low high =
+    elim (before_or_at i k low) [
+      | inl e ↦ let at = get_or-set_at costs i k price 0 (omega arith) room in omega arith
+      | inr l ↦ let other = get_or-set_other costs i k price 0 (omega arith) in let b = behind k l high in omega arith
+    ]

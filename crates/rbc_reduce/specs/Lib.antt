@@ -1,3 +1,2 @@
-pub mod Stretches
+pub mod Breaks
 pub mod Rows
-pub mod Covers

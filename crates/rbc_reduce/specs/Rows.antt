@@ -1,40 +1,47 @@
--- Tables of the best steps over a track's first metres: a row for each number of steps, from 1, and in it a cell
--- for each number of metres, from 0.
-use Rattle.std.specs.Prelude.{◌≡◌, ℕ, zero, suc, ◌+◌, ◌<◌, ◌≤◌, min, List, Option, Some, nat_lt, ◌==◌, ◌&&◌, if◌then◌else◌, length, slice_get, slice_index, option_and_then}
-use Rattle.std.specs.Option.{option_map_or}
+-- Tables of prices, as they are filled column by column.
+use Rattle.std.specs.Prelude.{◌≡◌, ℕ, zero, suc, ◌+◌, ◌<◌, ◌≤◌, List, Some, length, map, slice_get, slice_index}
 use Rattle.std.specs.Global.{Vec}
-use Rattle.rbc_reduce.specs.declared.table.Cell.{Cell}
-use Rattle.rbc_reduce.specs.declared.table.TheConstants.{UNREACHED}
+use Rattle.rbc_model.specs.PriceTables.{table_at}
 
--- the cell of j + 1 steps over so many metres
-abbrev pub cell_at : List (Vec Cell) → ℕ → ℕ → Option Cell
-cell_at rows j to = option_and_then (λ row. slice_get row.items to) (slice_get rows j)
+-- the prices that rows hold
+abbrev pub prices_of : List (Vec ℕ) → List (List ℕ)
+prices_of rows = map (λ row. row.items) rows
 
--- what j steps over so many metres lose; no steps cover no metre, and lose nothing
-abbrev pub price_at : List (Vec Cell) → ℕ → ℕ → ℕ
-price_at rows zero to = if to == 0 then 0 else UNREACHED
-price_at rows (suc j) to = option_map_or (λ cell. cell.price) (cell_at rows j to) UNREACHED
+-- the price in row j and column i, both from 1
+abbrev pub price_in : List (Vec ℕ) → ℕ → ℕ → ℕ
+price_in rows j i = table_at (prices_of rows) j i
 
--- a cell, once a last step from a metre was tried, where the steps before it lose so much
-abbrev pub relaxed : ℕ → ℕ → List ℕ → ℕ → Cell → Cell
-relaxed before from costs to cell =
-    let price = min (before + slice_index costs to) UNREACHED in
-    if nat_lt from to && nat_lt price cell.price then record { price = price; cut = from } else cell
+-- the price up to a break, in a row that begins with the first break behind 0
+abbrev pub price_up_to : List ℕ → ℕ → ℕ
+price_up_to row zero = 0
+price_up_to row (suc i) = slice_index row i
 
--- each row has so many cells
-abbrev pub AreWide : ℕ → List (Vec Cell) → Type 0
-AreWide width rows = (j : ℕ) (row : Vec Cell) → slice_get rows j ≡ Some row → length row.items ≡ width
+-- each row has so many prices
+abbrev pub AreWide : ℕ → List (Vec ℕ) → Type 0
+AreWide width rows = (j : ℕ) (row : Vec ℕ) → slice_get rows j ≡ Some row → length row.items ≡ width
 
--- A table over so many metres for steps that cost so much from one metre up to another, once a last step was tried from each of the first
--- `tried` metres. A cell that is reached loses what one step less loses up to its cut, and what a step from there costs; and no step
--- that was tried makes it less.
-pub record IsTable (costs : ℕ → ℕ → ℕ) (metres tried : ℕ) (rows : List (Vec Cell)) : Type 0 where
-  pub wide : AreWide (metres + 1) rows
-  pub links : (j to : ℕ) (cell : Cell) → cell_at rows j to ≡ Some cell → cell.price < UNREACHED
-      → (cell.cut < tried) × (cell.cut < to) × (cell.price ≡ price_at rows j cell.cut + costs cell.cut to)
-  pub lowest : (j from to : ℕ) → j < length rows → from < tried → from < to → to ≤ metres
-      → price_at rows (j + 1) to ≤ price_at rows j from + costs from to
+-- The rows are equally wide, and at least so wide.
+pub record AreAsWideAs (least : ℕ) (rows : List (Vec ℕ)) : Type 0 where
+  pub width : ℕ
+  pub wide : AreWide width rows
+  pub room : least ≤ width
 
--- no cell is reached
-abbrev pub IsUnreached : ℕ → List (Vec Cell) → Type 0
-IsUnreached metres rows = AreWide (metres + 1) rows × ((j to : ℕ) (cell : Cell) → cell_at rows j to ≡ Some cell → cell.price ≡ UNREACHED)
+-- none is above what can be lost
+abbrev pub AreSmall : (ℕ → ℕ) → Type 0
+AreSmall price = (i : ℕ) → price i ≤ 100000000000
+
+-- The price is the least with one step more, from one of the breaks before `to`.
+pub record IsCheapest (before : ℕ → ℕ) (costs : List ℕ) (to price : ℕ) : Type 0 where
+  pub lowest : (i : ℕ) → i < to → price ≤ before i + slice_index costs i
+  pub from : ℕ
+  pub inside : from < to
+  pub reached : price ≡ before from + slice_index costs from
+
+-- The second rows are the first ones with the next column written, up to which a step costs so much from each break
+-- before.
+pub record IsNextColumn (before after : List (Vec ℕ)) (costs : List ℕ) : Type 0 where
+  pub count : length after ≡ length before
+  pub same : (j i : ℕ) → i < length costs → price_in after j i ≡ price_in before j i
+  pub one_step : 0 < length before → price_in after 1 (length costs) ≡ slice_index costs 0
+  pub more_steps : (j : ℕ) → 1 ≤ j → j < length before
+      → IsCheapest (price_in before j) costs (length costs) (price_in after (suc j) (length costs))

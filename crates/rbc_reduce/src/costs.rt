@@ -1,14 +1,12 @@
-//! What one step costs from a metre up to another.
-ghost use Rattle.std.specs.Prelude.{◌≡◌, ℕ, Some, ◌+◌, ◌-◌, ◌*◌, ◌<◌, ◌≤◌, length, slice_get, slice_index};
+//! What one step costs from a break up to another.
+ghost use Rattle.std.specs.Prelude.{◌≡◌, ℕ, ◌+◌, ◌-◌, ◌*◌, ◌<◌, ◌≤◌, length, slice_index, if◌then◌else◌};
 ghost use Rattle.rbc_model.specs.Levels.{IsInRange};
-ghost use Rattle.rbc_model.specs.declared.limits.TheConstants.{LONGEST_TRACK};
-ghost use Rattle.rbc_model.specs.PriceTables.{least_value, cost};
-ghost use Rattle.rbc_reduce.specs.Stretches.{AreInRange, IsBelowAll, price_over};
+ghost use Rattle.rbc_reduce.specs.Breaks.{AreBreaks, IsLowest, IsBelowAll, lost_below, cost_between};
 
-use rbc_steps::Level;
+use rbc_steps::{Level, Runs};
 
 /// Whether the one value is no higher than the other.
-fn is_at_most<V: Level>(a: V, b: V) -> bool
+pub(crate) fn is_at_most<V: Level>(a: V, b: V) -> bool
     ensures { result ≡ V.levels.at_most a b }
 {
     a.known();
@@ -16,59 +14,113 @@ fn is_at_most<V: Level>(a: V, b: V) -> bool
     a <= b
 }
 
-/// The least of the values from one metre up to another.
-pub(crate) fn least_of<V: Level>(values: &[V], from: usize, to: usize) -> V
-    requires rises { from < to }
-    requires inside { to ≤ length values.now }
-    requires in_range { AreInRange V.levels values.now }
-    ensures { least_value V.levels (slice_get values.now) from (to - from) ≡ Some result }
+/// The lower of two values.
+fn lower<V: Level>(a: V, b: V) -> V
+    ensures { result ≡ (if V.levels.at_most a b then a else b) }
 {
-    let mut least = values[from];
-    for x in from + 1..to {
-        if !is_at_most(least, values[x]) {
-            least = values[x];
+    if is_at_most(a, b) { a } else { b }
+}
+
+/// The least value from one break up to another.
+pub(crate) fn least_of<V: Level>(track: &Runs<V>, breaks: &[u32], from: usize, to: usize) -> V
+    requires breaks { AreBreaks track.now breaks.now }
+    requires rises { from < to }
+    requires inside { to ≤ length track.now.steps }
+    ensures { IsLowest V.levels track.now (slice_index breaks.now from) (slice_index breaks.now to) result }
+{
+    let runs = track.runs();
+    let mut least = runs[to - 1].1;
+    for i in (from..to - 1).rev() {
+        let here = runs[i].1;
+        if !is_at_most(least, here) {
+            least = here;
         }
     }
     least
 }
 
-/// What is lost from one metre up to another where `given` is given.
-fn price_of<V: Level>(values: &[V], from: usize, to: usize, given: V) -> u64
-    requires rises { from ≤ to }
-    requires inside { to ≤ length values.now }
-    requires within_limit { length values.now ≤ LONGEST_TRACK }
-    requires in_range { AreInRange V.levels values.now }
+/// What is lost on the run of this index where `given` is given.
+fn price_on<V: Level>(track: &Runs<V>, breaks: &[u32], index: usize, given: V) -> u64
+    requires breaks { AreBreaks track.now breaks.now }
+    requires inside { index < length track.now.steps }
     requires given_in_range { IsInRange V.levels given }
-    requires below { IsBelowAll V.levels values.now from (to - from) given }
-    ensures price { result ≡ price_over V.levels values.now from (to - from) given }
-    ensures bound { result ≤ (to - from) * 1000000 }
+    requires below { IsBelowAll V.levels track.now
+        (slice_index breaks.now index) (slice_index breaks.now (index + 1)) given }
+    ensures price { lost_below V.levels track.now given (slice_index breaks.now index) + result
+        ≡ lost_below V.levels track.now given (slice_index breaks.now (index + 1)) }
+    ensures bound { slice_index breaks.now index * 1000000 + result ≤ slice_index breaks.now (index + 1) * 1000000 }
+{
+    let metres = breaks[index + 1] - breaks[index];
+    u64::from(metres) * track.runs()[index].1.price(given)
+}
+
+/// What is lost from one break up to another where `given` is given.
+fn price_over<V: Level>(track: &Runs<V>, breaks: &[u32], from: usize, to: usize, given: V) -> u64
+    requires breaks { AreBreaks track.now breaks.now }
+    requires rises { from ≤ to }
+    requires inside { to ≤ length track.now.steps }
+    requires given_in_range { IsInRange V.levels given }
+    requires below { IsBelowAll V.levels track.now (slice_index breaks.now from) (slice_index breaks.now to) given }
+    ensures price { lost_below V.levels track.now given (slice_index breaks.now from) + result
+        ≡ lost_below V.levels track.now given (slice_index breaks.now to) }
+    ensures bound { slice_index breaks.now from * 1000000 + result ≤ slice_index breaks.now to * 1000000 }
 {
     let mut price = 0;
-    for x in from..to {
-        price += values[x].price(given);
+    for i in from..to {
+        price += price_on(track, breaks, i, given);
     }
     price
 }
 
-/// Writes what one step costs from metre `from` up to each later one.
-pub(crate) fn costs_from<V: Level>(values: &[V], from: usize, costs: &mut [u64])
-    requires inside { from < length values.now }
-    requires within_limit { length values.now ≤ LONGEST_TRACK }
-    requires in_range { AreInRange V.levels values.now }
-    requires room { length costs.old ≡ length values.now + 1 }
-    ensures costs { (to : ℕ) → from < to → to ≤ length values.now
-        → slice_index costs.new to ≡ cost V.levels (slice_get values.now) from to }
-    ensures bound { (to : ℕ) → from < to → to ≤ length values.now → slice_index costs.new to ≤ (to - from) * 1000000 }
+/// Writes what one step costs from each break before `to` up to there.
+pub(crate) fn costs_to<V: Level>(track: &Runs<V>, breaks: &[u32], to: usize, costs: &mut [u64])
+    requires breaks { AreBreaks track.now breaks.now }
+    requires some { 0 < to }
+    requires inside { to ≤ length track.now.steps }
+    requires room { to ≤ length costs.old }
+    ensures costs { (i : ℕ) → i < to → slice_index costs.new i ≡ cost_between V.levels track.now i to }
+    ensures bound { (i : ℕ) → i < to → slice_index costs.new i ≤ slice_index breaks.now to * 1000000 }
 {
-    let mut least = values[from];
-    let mut price = 0;
-    for x in from..values.len() {
-        let here = values[x];
+    let runs = track.runs();
+    let mut least = runs[to - 1].1;
+    let mut cost = price_on(track, breaks, to - 1, least.floor());
+    costs[to - 1] = cost;
+    for i in (0..to - 1).rev() {
+        let here = runs[i].1;
         if !is_at_most(least, here) {
             least = here;
-            price = price_of(values, from, x, here.floor());
+            cost = price_over(track, breaks, i + 1, to, here.floor());
         }
-        price += here.price(least.floor());
-        costs[x + 1] = price;
+        cost += price_on(track, breaks, i, least.floor());
+        costs[i] = cost;
+    }
+}
+
+/// Goes on to the next break: where `costs` has what one step costs up to the break before `to`, writes what one costs
+/// up to `to`. As far back as no run is lower than the last one the step has that one's floor; before, the least value
+/// stays as it was, and the step costs what it cost and what its floor loses on the last run.
+pub(crate) fn costs_on<V: Level>(track: &Runs<V>, breaks: &[u32], to: usize, costs: &mut [u64])
+    requires breaks { AreBreaks track.now breaks.now }
+    requires some { 0 < to }
+    requires inside { to ≤ length track.now.steps }
+    requires room { to ≤ length costs.old }
+    requires costs { (i : ℕ) → i < to - 1 → slice_index costs.old i ≡ cost_between V.levels track.now i (to - 1) }
+    requires bound { (i : ℕ) → i < to - 1 → slice_index costs.old i ≤ slice_index breaks.now (to - 1) * 1000000 }
+    ensures costs { (i : ℕ) → i < to → slice_index costs.new i ≡ cost_between V.levels track.now i to }
+    ensures bound { (i : ℕ) → i < to → slice_index costs.new i ≤ slice_index breaks.now to * 1000000 }
+{
+    let runs = track.runs();
+    let new = runs[to - 1].1;
+    let mut least = new;
+    let mut price = price_on(track, breaks, to - 1, new.floor());
+    costs[to - 1] = price;
+    for i in (0..to - 1).rev() {
+        least = lower(least, runs[i].1);
+        if is_at_most(new, least) {
+            price += price_on(track, breaks, i, new.floor());
+            costs[i] = price;
+        } else {
+            costs[i] += price_on(track, breaks, to - 1, least.floor());
+        }
     }
 }

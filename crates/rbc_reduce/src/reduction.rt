@@ -1,11 +1,12 @@
-//! The best profile of few steps.
+//! The chosen profile of few steps.
 ghost use Rattle.std.specs.Prelude.{◌≡◌, ℕ, ◌≤◌, List, IfOk, length};
-ghost use Rattle.rbc_model.specs.Profiles.{IsBestProfile, loss, value_at};
+ghost use Rattle.rbc_model.specs.Profiles.{IsBestProfile, IsChosenProfile, loss, value_at};
+ghost use Rattle.rbc_model.specs.PriceTables.{IsGreatestSoundTable};
 ghost use Rattle.rbc_model.specs.declared.limits.TheConstants.{MOST_STEPS};
+ghost use Rattle.rbc_reduce.specs.Rows.{prices_of};
 
 use crate::table;
 use crate::traceback::steps_of;
-use crate::values::values_of;
 use rbc_model::Memory;
 use rbc_steps::{Level, Profile, Runs};
 use std::alloc::Global;
@@ -17,17 +18,15 @@ pub struct Reduced<V: Level> {
     pub profile: Profile<V>,
     /// The sum over the metres of what the profile loses there.
     pub loss: u64,
+    /// The table of prices that shows that no profile loses less: a row for each number of steps from 1, and in it what
+    /// so many steps lose at least up to each break of the track, from the first break behind 0.
+    pub prices: Vec<Vec<u64>>,
 }
 
-/// The profile of 1 to `limit` steps that loses least: no profile of at most `limit` steps that stays at or below the
-/// track loses less, wherever it is cut.
-///
-/// Of the profiles that lose as little it has the fewest steps. Of those that have as few, its starts, read from the
-/// last one backwards, come first: this is tested, and no clause says it.
-///
-/// # Errors
-///
-/// [`Memory`] where there is none for the table.
+/// The profile of 1 to `limit` steps that the rules choose for the track: no profile of at most `limit` steps that is
+/// above the track at no metre loses less, with cuts at any metre. Of the profiles that lose as little it has the
+/// fewest steps, and of those that have as few, its starts, read from the last one backwards, come first. `Memory` is
+/// the only error.
 pub fn reduce<V: Level>(alloc: Global, track: &Runs<V>, limit: usize) -> Result<Reduced<V>, Memory>
     requires some { 1 ≤ limit }
     requires few { limit ≤ MOST_STEPS }
@@ -36,18 +35,26 @@ pub fn reduce<V: Level>(alloc: Global, track: &Runs<V>, limit: usize) -> Result<
     ensures fewest { IfOk result
         (λ r. (other : List (ℕ × V)) → IsBestProfile V.levels 1 limit track.now.end (value_at track.now.steps) other
         → length r.profile.steps ≤ length other) }
+    ensures chosen { IfOk result
+        (λ r. IsChosenProfile V.levels 1 limit track.now.end (value_at track.now.steps) r.profile.steps) }
     ensures end { IfOk result (λ r. r.profile.end ≡ track.now.end) }
     ensures loss { IfOk result
         (λ r. r.loss ≡ loss V.levels track.now.end (value_at track.now.steps) r.profile.steps) }
+    ensures prices { IfOk result
+        (λ r. IsGreatestSoundTable V.levels 1 limit track.now.end track.now.steps (prices_of r.prices.items)) }
 {
-    let values = values_of(alloc, track)?;
-    let rows = table::fill(alloc, &values, limit)?;
-    let count = table::fewest(&rows, values.len());
-    let steps = steps_of(alloc, &values, &rows, count)?;
-    match Profile::new(&steps, track.end()) {
+    let end = track.end();
+    let breaks = track.breaks(alloc)?;
+    let prices = table::fill(alloc, track, &breaks, limit)?;
+    let steps = steps_of(alloc, track, &breaks, &prices, limit)?;
+    match Profile::new(&steps, end) {
         Ok(profile) => {
             let loss = profile.loss(track);
-            Ok(Reduced { profile, loss })
+            Ok(Reduced {
+                profile,
+                loss,
+                prices,
+            })
         }
         Err(_) => unreachable!(),
     }

@@ -1,114 +1,85 @@
-//! The table of the best ways to cover a track's first metres.
-ghost use Rattle.std.specs.Prelude.{◌≡◌, ℕ, ◌+◌, ◌-◌, ◌*◌, ◌<◌, ◌≤◌, min, IfOk, length, slice_get, slice_index, option_map};
-ghost use Rattle.rbc_model.specs.declared.limits.TheConstants.{LONGEST_TRACK};
-ghost use Rattle.rbc_model.specs.PriceTables.{cost};
-ghost use Rattle.rbc_reduce.specs.Stretches.{AreInRange};
-ghost use Rattle.rbc_reduce.specs.Rows.{AreWide, IsTable, IsUnreached, cell_at, price_at, relaxed};
+//! The table of prices: what so many steps lose at least up to each break.
+ghost use Rattle.std.specs.Prelude.{◌≡◌, ℕ, ◌+◌, ◌<◌, ◌≤◌, IfOk, length, slice_index};
+ghost use Rattle.rbc_model.specs.PriceTables.{IsGreatestSoundTable};
+ghost use Rattle.rbc_reduce.specs.Breaks.{AreBreaks};
+ghost use Rattle.rbc_reduce.specs.Rows.{AreAsWideAs, AreSmall, AreWide, IsCheapest, IsNextColumn};
+ghost use Rattle.rbc_reduce.specs.Rows.{price_in, price_up_to, prices_of};
 
-use crate::costs::costs_from;
+use crate::costs::costs_on;
 use rbc_model::Memory;
-use rbc_steps::Level;
+use rbc_steps::{Level, Runs};
 use std::alloc::Global;
 
-/// The best way to cover a track's first metres by so many steps.
-#[derive(Clone, Copy)]
-pub(crate) struct Cell {
-    /// What it loses; `UNREACHED` where there are more steps than metres.
-    pub(crate) price: u64,
-    /// The metre at which its last step starts.
-    pub(crate) cut: u32,
-}
-
-/// Above every price.
-pub(crate) const UNREACHED: u64 = u64::MAX;
-
-/// A cell that nothing reaches for each of so many numbers of steps, from 1, and of metres, from 0.
-fn new_rows(alloc: Global, count: usize, metres: usize) -> Result<Vec<Vec<Cell>>, Memory>
-    requires { metres ≤ LONGEST_TRACK }
-    ensures { IfOk result (λ rows. (length rows.items ≡ count) × IsUnreached metres rows.items) }
+/// So many rows of so many prices.
+fn new_rows(alloc: Global, count: usize, width: usize) -> Result<Vec<Vec<u64>>, Memory>
+    ensures count { IfOk result (λ rows. length rows.items ≡ count) }
+    ensures wide { IfOk result (λ rows. AreWide width rows.items) }
+    ensures small { IfOk result (λ rows. (j : ℕ) → AreSmall (price_in rows.items j)) }
 {
-    let unreached = Cell {
-        price: UNREACHED,
-        cut: 0,
-    };
     let mut rows = Vec::with_capacity(alloc, count)?;
     for _ in 0..count {
-        rows.push(vec![in alloc; unreached; metres + 1]?)?;
+        rows.push(vec![in alloc; 0; width]?)?;
     }
     Ok(rows)
 }
 
-/// Tries one step more from metre `from` up to each later one, where the steps before it lose `before`.
-fn relax(row: &mut [Cell], before: u64, from: u32, costs: &[u64])
-    requires wide { length row.old ≡ length costs.now }
-    ensures { (to : ℕ) → slice_get row.new to ≡ option_map (relaxed before from costs.now to) (slice_get row.old to) }
+/// The least price with one step more than those `before` have, where that step costs so much from each break.
+fn cheapest(before: &[u64], costs: &[u64]) -> u64
+    requires some { 0 < length costs.now }
+    requires room { length costs.now ≤ length before.now + 1 }
+    requires small { AreSmall (price_up_to before.now) }
+    requires small_costs { AreSmall (slice_index costs.now) }
+    ensures { IsCheapest (price_up_to before.now) costs.now (length costs.now) result }
 {
-    for to in from as usize + 1..row.len() {
-        let price = before.saturating_add(costs[to]);
-        if price < row[to].price {
-            row[to] = Cell { price, cut: from };
-        }
+    let mut price = costs[0];
+    for i in 1..costs.len() {
+        price = price.min(before[i - 1] + costs[i]);
     }
+    price
 }
 
-/// Tries one step more from metre `from` in each row.
-fn relax_rows(rows: &mut [Vec<Cell>], from: u32, costs: &[u64])
-    requires wide { AreWide (length costs.now) rows.old }
-    requires inside { from < length costs.now }
-    ensures rows { length rows.new ≡ length rows.old }
-    ensures wide { AreWide (length costs.now) rows.new }
-    ensures cells { (j to : ℕ) → cell_at rows.new j to
-        ≡ option_map (relaxed (price_at rows.old j from) from costs.now to) (cell_at rows.old j to) }
+/// Writes the next column: the prices up to the break to which a step costs so much from each one before.
+fn write_column(rows: &mut [Vec<u64>], costs: &[u64])
+    requires some { 0 < length costs.now }
+    requires room { AreAsWideAs (length costs.now) rows.old }
+    requires small { (j : ℕ) → AreSmall (price_in rows.old j) }
+    requires small_costs { AreSmall (slice_index costs.now) }
+    ensures column { IsNextColumn rows.old rows.new costs.now }
+    ensures wide { (width : ℕ) → AreWide width rows.old → AreWide width rows.new }
+    ensures small { (j : ℕ) → AreSmall (price_in rows.new j) }
 {
-    let mut before = if from == 0 { 0 } else { UNREACHED };
+    let last = costs.len() - 1;
     for j in 0..rows.len() {
-        let here = rows[j][from as usize].price;
-        relax(rows[j].as_mut_slice(), before, from, costs);
-        before = here;
+        let price = if j == 0 {
+            costs[0]
+        } else {
+            cheapest(rows[j - 1].as_slice(), costs)
+        };
+        rows[j][last] = price;
     }
 }
 
-/// The table of the best ways to cover the values' first metres: a row for each number of steps from 1 to `limit`,
-/// but no more rows than there are metres, and in it a cell for each number of metres from 0.
+/// The table of prices: a row for each number of steps from 1 to `limit`, but no more rows than there are runs, and in
+/// it a price for each break but the first.
 pub(crate) fn fill<V: Level>(
     alloc: Global,
-    values: &[V],
+    track: &Runs<V>,
+    breaks: &[u32],
     limit: usize,
-) -> Result<Vec<Vec<Cell>>, Memory>
-    requires some { 0 < length values.now }
-    requires within_limit { length values.now ≤ LONGEST_TRACK }
-    requires in_range { AreInRange V.levels values.now }
+) -> Result<Vec<Vec<u64>>, Memory>
+    requires breaks { AreBreaks track.now breaks.now }
     requires limit { 1 ≤ limit }
-    ensures rows { IfOk result (λ rows. length rows.items ≡ min limit (length values.now)) }
     ensures table { IfOk result
-        (λ rows. IsTable (cost V.levels (slice_get values.now)) (length values.now) (length values.now) rows.items) }
-    ensures reached { IfOk result (λ rows. price_at rows.items 1 (length values.now) < UNREACHED) }
+        (λ rows. IsGreatestSoundTable V.levels 1 limit track.now.end track.now.steps (prices_of rows.items)) }
+    ensures wide { IfOk result (λ rows. AreWide (length track.now.steps) rows.items) }
+    ensures small { IfOk result (λ rows. (j : ℕ) → AreSmall (price_in rows.items j)) }
 {
-    let metres = values.len();
-    let mut rows = new_rows(alloc, limit.min(metres), metres)?;
-    let mut costs = vec![in alloc; 0u64; metres + 1]?;
-    for from in 0..metres {
-        costs_from(values, from, costs.as_mut_slice());
-        relax_rows(rows.as_mut_slice(), from as u32, costs.as_slice());
+    let runs = track.runs().len();
+    let mut rows = new_rows(alloc, limit.min(runs), runs)?;
+    let mut costs = vec![in alloc; 0; runs]?;
+    for last in 0..runs {
+        costs_on(track, breaks, last + 1, costs.as_mut_slice());
+        write_column(rows.as_mut_slice(), &costs[..last + 1]);
     }
     Ok(rows)
-}
-
-/// The number of steps, from 1, that lose least over so many metres in these rows, and the least such number.
-pub(crate) fn fewest(rows: &[Vec<Cell>], metres: usize) -> usize
-    requires some { 0 < length rows.now }
-    requires wide { AreWide (metres + 1) rows.now }
-    ensures some { 1 ≤ result }
-    ensures rows { result ≤ length rows.now }
-    ensures least { (j : ℕ) → 1 ≤ j → j ≤ length rows.now
-        → price_at rows.now result metres ≤ price_at rows.now j metres }
-    ensures fewest { (j : ℕ) → 1 ≤ j → j < result → price_at rows.now result metres < price_at rows.now j metres }
-{
-    let mut best = 0;
-    for j in 1..rows.len() {
-        if rows[j][metres].price < rows[best][metres].price {
-            best = j;
-        }
-    }
-    best + 1
 }

@@ -2,8 +2,10 @@
 ghost use Rattle.std.specs.Prelude.{◌≤◌};
 ghost use Rattle.rbc_model.specs.declared.limits.TheConstants.{MOST_STEPS};
 
+mod metres;
+
 use crate::reduce;
-use rbc_steps::{Grade, Runs, Speed};
+use rbc_steps::{Grade, Level, Runs, Speed};
 use std::process::Abort;
 
 /// Reduces the speeds of `rows` to at most `limit` steps, and writes out the profile and its loss.
@@ -119,4 +121,64 @@ fn keeps_what_a_packet_has_room_for(rt: HostRuntime) {
         one_too_many.as_str(),
         alternating_steps(&rt, 29, "3100:105 loss 500").as_str()
     );
+}
+
+/// The track's value at each of its metres.
+fn values_of<V: Level>(rt: &(impl Abort + AllocGlobal), track: &Runs<V>) -> Vec<V> {
+    let mut values = Vec::new(rt.alloc());
+    for x in 0..track.end() {
+        values.push(track.at(x)).expect(rt, "memory");
+    }
+    values
+}
+
+/// Numbers that look thrown at random.
+fn thrown(seed: u32) -> [u32; 6] {
+    let mut numbers = [seed; 6];
+    let mut state = seed;
+    for i in 0..6 {
+        state = state.wrapping_mul(1_664_525).wrapping_add(1_013_904_223);
+        numbers[i] = state / 65_536;
+    }
+    numbers
+}
+
+#[test]
+fn loses_no_more_than_by_metres(rt: HostRuntime) {
+    for seed in 0..200 {
+        let mut speeds = Vec::new(rt.alloc());
+        let mut grades = Vec::new(rt.alloc());
+        let mut start = 0u32;
+        for number in thrown(seed) {
+            let speed = Speed::new(5 + (number % 40) as u16).expect(&rt, "a speed");
+            speeds.push((start, speed)).expect(&rt, "memory");
+            let grade = Grade::new((number % 7) as i16 - 3).expect(&rt, "a gradient");
+            grades.push((start, grade)).expect(&rt, "memory");
+            start = start.saturating_add(1 + number / 64 % 3);
+        }
+        let limit = 1 + seed as usize % 4;
+        let track = Runs::new(speeds, start).expect(&rt, "a track");
+        let reduced = reduce(rt.alloc(), &track, limit).expect(&rt, "memory");
+        let values = values_of(&rt, &track);
+        assert_eq!(rt; reduced.loss, metres::least_loss(values.as_slice(), limit));
+        let track = Runs::new(grades, start).expect(&rt, "a track");
+        let reduced = reduce(rt.alloc(), &track, limit).expect(&rt, "memory");
+        let values = values_of(&rt, &track);
+        assert_eq!(rt; reduced.loss, metres::least_loss(values.as_slice(), limit));
+        let last = reduced.prices.last().and_then(|row| row.last());
+        assert!(rt; last.is_some_and(|price| *price == reduced.loss));
+    }
+}
+
+/// As many runs as a line of 4,096 bytes holds: single metres, level and rising in turn.
+#[test]
+fn reduces_the_longest_line(rt: HostRuntime) {
+    let mut rows = Vec::new(rt.alloc());
+    for start in 0..698 {
+        let grade = Grade::new((start % 2) as i16).expect(&rt, "a gradient");
+        rows.push((start, grade)).expect(&rt, "memory");
+    }
+    let track = Runs::new(rows, 698).expect(&rt, "a track");
+    let reduced = reduce(rt.alloc(), &track, 31).expect(&rt, "memory");
+    assert_eq!(rt; reduced.loss, 334);
 }

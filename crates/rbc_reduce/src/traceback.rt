@@ -1,43 +1,97 @@
-//! The steps to which the table's cuts lead back.
-ghost use Rattle.std.specs.Prelude.{◌≡◌, ◌<◌, ◌≤◌, IfOk, length, slice_get};
-ghost use Rattle.rbc_model.specs.Profiles.{starts_of};
-ghost use Rattle.rbc_model.specs.declared.limits.TheConstants.{LONGEST_TRACK};
-ghost use Rattle.rbc_model.specs.PriceTables.{cost};
-ghost use Rattle.rbc_reduce.specs.Stretches.{AreInRange, stretch_costs};
-ghost use Rattle.rbc_reduce.specs.Rows.{IsTable, price_at};
-ghost use Rattle.rbc_reduce.specs.Covers.{Covers};
+//! The profile that is read off the table, from its last column backwards.
+ghost use Rattle.std.specs.Prelude.{◌≡◌, ◌≢◌, ℕ, ◌+◌, ◌<◌, ◌≤◌, IfOk, length, slice_index};
+ghost use Rattle.rbc_model.specs.PriceTables.{IsGreatestSoundTable};
+ghost use Rattle.rbc_table_laws.specs.Tracebacks.{IsReadOff};
+ghost use Rattle.rbc_reduce.specs.Breaks.{AreBreaks};
+ghost use Rattle.rbc_reduce.specs.Rows.{AreAsWideAs, AreSmall, price_in, prices_of};
 
-use crate::costs::least_of;
-use crate::table::{Cell, UNREACHED};
+use crate::costs::{costs_to, least_of};
 use rbc_model::Memory;
-use rbc_steps::Level;
+use rbc_steps::{Level, Runs};
 use std::alloc::Global;
 
-/// The steps to which the row of `count` steps leads back: each starts at its cut, and has the floor of the least
-/// value there. They lose as much as that row says.
+/// The price in the row of so many steps and in this column; nothing is lost by no steps, or up to break 0.
+fn price_at(rows: &[Vec<u64>], steps: usize, column: usize) -> u64
+    requires inside { steps ≤ length rows.now }
+    requires wide { AreAsWideAs column rows.now }
+    ensures { result ≡ price_in rows.now steps column }
+{
+    if steps == 0 || column == 0 {
+        return 0;
+    }
+    rows[steps - 1][column - 1]
+}
+
+/// The least number of steps whose last price is the table's.
+fn fewest(rows: &[Vec<u64>], columns: usize) -> usize
+    requires some { 0 < length rows.now }
+    requires wide { AreAsWideAs columns rows.now }
+    ensures some { 1 ≤ result }
+    ensures inside { result ≤ length rows.now }
+    ensures price { price_in rows.now result columns ≡ price_in rows.now (length rows.now) columns }
+    ensures first { (j : ℕ) → 1 ≤ j → j < result
+        → price_in rows.now j columns ≢ price_in rows.now (length rows.now) columns }
+{
+    let price = price_at(rows, rows.len(), columns);
+    for steps in 1..rows.len() {
+        if price_at(rows, steps, columns) == price {
+            return steps;
+        }
+    }
+    rows.len()
+}
+
+/// The first break from which one step more than `steps` adds up to the price in this column.
+fn first_break(rows: &[Vec<u64>], costs: &[u64], steps: usize, column: usize) -> usize
+    requires inside { steps < length rows.now }
+    requires wide { AreAsWideAs column rows.now }
+    requires room { column ≤ length costs.now }
+    requires small { (j : ℕ) → AreSmall (price_in rows.now j) }
+    requires small_costs { (i : ℕ) → i < column → slice_index costs.now i ≤ 100000000000 }
+    requires some { (i : ℕ) × (i < column)
+        × (price_in rows.now steps i + slice_index costs.now i ≡ price_in rows.now (steps + 1) column) }
+    ensures inside { result < column }
+    ensures adds_up { price_in rows.now steps result + slice_index costs.now result
+        ≡ price_in rows.now (steps + 1) column }
+    ensures first { (i : ℕ) → i < result
+        → price_in rows.now steps i + slice_index costs.now i ≢ price_in rows.now (steps + 1) column }
+{
+    let price = price_at(rows, steps + 1, column);
+    for i in 0..column {
+        if price_at(rows, steps, i) + costs[i] == price {
+            return i;
+        }
+    }
+    unreachable!()
+}
+
+/// The steps that are read off the table of the prices of at most `limit` steps: each starts at a break, and has the
+/// floor of the least value there.
 pub(crate) fn steps_of<V: Level>(
     alloc: Global,
-    values: &[V],
-    rows: &[Vec<Cell>],
-    count: usize,
+    track: &Runs<V>,
+    breaks: &[u32],
+    rows: &[Vec<u64>],
+    limit: usize,
 ) -> Result<Vec<(u32, V)>, Memory>
-    requires in_range { AreInRange V.levels values.now }
-    requires table { IsTable (cost V.levels (slice_get values.now)) (length values.now) (length values.now) rows.now }
-    requires rows { count ≤ length rows.now }
-    requires reached { price_at rows.now count (length values.now) < UNREACHED }
-    ensures count { IfOk result (λ steps. length steps.items ≡ count) }
-    ensures covers { IfOk result (λ steps. Covers V.levels values.now 0 steps.items) }
-    ensures costs { IfOk result
-        (λ steps. stretch_costs (cost V.levels (slice_get values.now)) (length values.now) (starts_of steps.items)
-        ≡ price_at rows.now count (length values.now)) }
+    requires breaks { AreBreaks track.now breaks.now }
+    requires some { 1 ≤ limit }
+    requires table { IsGreatestSoundTable V.levels 1 limit track.now.end track.now.steps (prices_of rows.now) }
+    requires wide { AreAsWideAs (length track.now.steps) rows.now }
+    requires small { (j : ℕ) → AreSmall (price_in rows.now j) }
+    ensures { IfOk result
+        (λ steps. IsReadOff V.levels 1 limit track.now.end track.now.steps (prices_of rows.now) steps.items) }
 {
-    let mut steps = Vec::with_capacity(alloc, count)?;
-    let mut to = values.len();
-    for done in 0..count {
-        let start = rows[count - 1 - done][to].cut;
-        let least = least_of(values, start as usize, to);
-        steps.push((start, least.floor()))?;
-        to = start as usize;
+    let mut to = track.runs().len();
+    let mut steps = Vec::with_capacity(alloc, limit)?;
+    let mut costs = vec![in alloc; 0; to]?;
+    let count = fewest(rows, to);
+    for before in (0..count).rev() {
+        costs_to(track, breaks, to, costs.as_mut_slice());
+        let from = first_break(rows, costs.as_slice(), before, to);
+        let least = least_of(track, breaks, from, to);
+        steps.push((breaks[from], least.floor()))?;
+        to = from;
     }
     steps.reverse();
     Ok(steps)

@@ -1,7 +1,6 @@
-use Rattle.std.proofs.Common.{◌≡◌, ◌-◌, Some}
-use Rattle.std.specs.List.{slice_get}
-use Rattle.rbc_model.specs.PriceTables.{least_value}
+use Rattle.std.proofs.Common.{◌≤◌, get_or}
+use Rattle.rbc_reduce.specs.Breaks.{IsLowest}
 use Rattle.rbc_reduce.proofs.costs.least_of.Given as goal
 
-abbrev pub invariant-loop-x : goal.invariant-loop-x
-invariant-loop-x g l = least_value g.V.Level.levels (slice_get l.values) l.from (l.x - l.from) ≡ Some l.least
+abbrev pub invariant-loop-i : goal.invariant-loop-i
+invariant-loop-i g l = (l.from ≤ l.i) × IsLowest g.V.Level.levels l.track (get_or l.breaks l.i 0) (get_or l.breaks l.to 0) l.least

@@ -1,18 +1,13 @@
-use Rattle.std.proofs.Common.{◌≡◌, ◌+◌, ◌-◌, ◌<◌, ◌≤◌, length, reverse}
-use Rattle.std.specs.List.{slice_get}
-use Rattle.rbc_model.specs.Profiles.{starts_of}
-use Rattle.rbc_model.specs.PriceTables.{cost}
-use Rattle.rbc_reduce.specs.Stretches.{stretch_costs}
-use Rattle.rbc_reduce.specs.Rows.{price_at}
-use Rattle.rbc_reduce.specs.Covers.{Covers}
-use Rattle.rbc_reduce.specs.declared.table.TheConstants.{UNREACHED}
+use Rattle.std.proofs.Common.{◌≡◌, ◌≤◌, length}
+use Rattle.rbc_model.specs.PriceTables.{stretch_count}
+use Rattle.rbc_table_laws.specs.Tracebacks.{IsOnWay, IsTracedTo}
+use Rattle.rbc_reduce.specs.Rows.{prices_of}
 use Rattle.rbc_reduce.proofs.traceback.steps_of.Given as goal
 
-abbrev pub invariant-loop-done : goal.invariant-loop-done
-invariant-loop-done g l =
-    (length l.steps.items ≡ l.done)
-    × (l.to ≤ length l.values)
-    × (price_at l.rows (l.count - l.done) l.to < UNREACHED)
-    × Covers g.V.Level.levels l.values l.to (reverse l.steps.items)
-    × (price_at l.rows (l.count - l.done) l.to + stretch_costs (cost g.V.Level.levels (slice_get l.values)) (length l.values) (starts_of (reverse l.steps.items))
-    ≡ price_at l.rows l.count (length l.values))
+abbrev pub invariant-loop-before : goal.invariant-loop-before
+invariant-loop-before g l =
+    let levels = g.V.Level.levels in
+    (length l.costs.items ≡ length l.track.steps)
+    × (l.to ≤ length l.track.steps)
+    × IsTracedTo levels 1 l.limit l.track.end l.track.steps (prices_of l.rows) l.count (stretch_count levels 1 l.limit l.track.end l.track.steps) l.steps.items l.before l.to
+    × IsOnWay levels 1 l.limit l.track.end l.track.steps (prices_of l.rows) l.before l.to
