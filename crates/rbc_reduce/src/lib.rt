@@ -11,6 +11,7 @@ mod reduction;
 mod table;
 mod traceback;
 
+pub use rbc_model::Memory;
 pub use reduction::{Reduced, reduce};
 
 #[cfg(test)]
