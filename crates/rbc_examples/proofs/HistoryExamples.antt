@@ -6,7 +6,7 @@ use Rattle.rbc_model.specs.Obstacles.{obstacle, way}
 use Rattle.rbc_model.specs.Views.{IsSafe}
 use Rattle.rbc_model.specs.Trains.{Train}
 use Rattle.rbc_model.specs.Scenes.{train_numbered}
-use Rattle.rbc_model.specs.declared.reports.Report.{Report}
+use Rattle.rbc_model.specs.Reports.{Report}
 use Rattle.rbc_model.specs.declared.reports.Told.TheVariants.{Report as ToldReport, Lock as ToldLock}
 use Rattle.rbc_model.specs.Histories.{MayFollow, IsBest, Stops, scene_at, IsBestHistory, Entry, Heard, Granted, Grants, IsBestFor, IsLegal, replay}
 use Rattle.rbc_model.proofs.EndLemmas.{IsSafe-is_safe}

@@ -1,4 +1,6 @@
 pub mod SpeedExamples
+pub mod PriceCheckExamples
+pub mod CheckExamples
 pub mod GradeExamples
 pub mod PacketExamples
 pub mod ReadingExamples
@@ -15,4 +17,6 @@ pub mod FileExamples
 pub mod HistoryExamples
 pub mod ReceiptExamples
 pub mod SessionExamples
+pub mod RequestExamples
+pub mod ReplyExamples
 pub mod StepFunctionExamples

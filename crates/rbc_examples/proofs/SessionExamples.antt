@@ -7,13 +7,13 @@ use Rattle.rbc_model.specs.declared.sessions.SessionFault.TheVariants.{Write, Li
 use Rattle.rbc_model.specs.Sessions.{lines_of}
 use Rattle.rbc_model.specs.Talks.{EachByItself, Answered, AreShort, Ends, IsTalk}
 
-none_long : AreShort []
+none_long : AreShort LONGEST_LINE []
 none_long = All-nil (λ line. length line ≤ LONGEST_LINE)
 
-one_short : (line : List ℕ) → length line ≤ LONGEST_LINE → AreShort (line ∷ [])
+one_short : (line : List ℕ) → length line ≤ LONGEST_LINE → AreShort LONGEST_LINE (line ∷ [])
 one_short line short = All-cons (λ l. length l ≤ LONGEST_LINE) line [] short none_long
 
-two_short : AreShort (codes "a" ∷ codes "bc" ∷ [])
+two_short : AreShort LONGEST_LINE (codes "a" ∷ codes "bc" ∷ [])
 two_short = All-cons (λ l. length l ≤ LONGEST_LINE) (codes "a") (codes "bc" ∷ []) (lit≤ tt) (one_short (codes "bc") (lit≤ tt))
 
 abbrev pub feed : List ℕ
@@ -50,7 +50,7 @@ two_lines = codes "a" ++ feed ++ codes "bc"
 echoes_two : Answered Echoes tt (codes "a" ∷ codes "bc" ∷ []) (codes "abc") tt
 echoes_two = (codes "a", codes "bc", tt, refl, refl, (codes "bc", [], tt, refl, refl, (refl, refl)))
 
-pub goes_to_the_end : IsTalk Echoes tt tt two_lines (Some (codes "x")) (Some (codes "xabc")) (Ok tt)
+pub goes_to_the_end : IsTalk LONGEST_LINE Echoes tt tt two_lines (Some (codes "x")) (Some (codes "xabc")) (Ok tt)
 goes_to_the_end = record {
   treated = codes "a" ∷ codes "bc" ∷ [];
   rest = [];
@@ -62,7 +62,7 @@ goes_to_the_end = record {
 }
 
 -- a writer that fails has a part of the text, and the line that it failed in is treated
-pub keeps_a_part : IsTalk Echoes tt tt two_lines (Some []) (Some (codes "ab")) (Err Write)
+pub keeps_a_part : IsTalk LONGEST_LINE Echoes tt tt two_lines (Some []) (Some (codes "ab")) (Err Write)
 keeps_a_part = record {
   treated = codes "a" ∷ codes "bc" ∷ [];
   rest = [];
@@ -74,7 +74,7 @@ keeps_a_part = record {
 }
 
 -- the line that is too long is answered, and no line after it
-pub stops_at_an_overlong_line : IsTalk Echoes tt tt (codes "a" ++ feed ++ replicate 4097 98 ++ feed ++ codes "c")
+pub stops_at_an_overlong_line : IsTalk LONGEST_LINE Echoes tt tt (codes "a" ++ feed ++ replicate 4097 98 ++ feed ++ codes "c")
     (Some []) (Some (codes "a" ++ replicate 4097 98)) (Err Overlong)
 stops_at_an_overlong_line = record {
   treated = codes "a" ∷ replicate 4097 98 ∷ [];
@@ -87,8 +87,8 @@ stops_at_an_overlong_line = record {
 }
 
 -- no line is treated after a million
-pub stops_after_a_million : (treated : List (List ℕ)) (text : List ℕ) → length treated ≡ 1000000 → AreShort treated
-    → Ends (Some []) (Some text) treated (codes "b" ∷ []) text (Err Lines)
+pub stops_after_a_million : (treated : List (List ℕ)) (text : List ℕ) → length treated ≡ 1000000 → AreShort LONGEST_LINE treated
+    → Ends LONGEST_LINE (Some []) (Some text) treated (codes "b" ∷ []) text (Err Lines)
 stops_after_a_million treated text million short = (refl, short, million, lit< tt)
 
 -- ---- each line is answered by how many came before it
@@ -96,7 +96,7 @@ stops_after_a_million treated text million short = (refl, short, million, lit< t
 abbrev pub Counts : ℕ → List ℕ → List ℕ → ℕ → Type 0
 Counts before line reply after = (reply ≡ before ∷ []) × (after ≡ suc before)
 
-pub goes_from_state_to_state : IsTalk Counts 7 9 two_lines (Some []) (Some (7 ∷ 8 ∷ [])) (Ok tt)
+pub goes_from_state_to_state : IsTalk LONGEST_LINE Counts 7 9 two_lines (Some []) (Some (7 ∷ 8 ∷ [])) (Ok tt)
 goes_from_state_to_state = record {
   treated = codes "a" ∷ codes "bc" ∷ [];
   rest = [];

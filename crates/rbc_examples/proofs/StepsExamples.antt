@@ -1,15 +1,19 @@
 -- Worked lines of `rbc steps`, and their replies.
-use Rattle.std.proofs.Common.{◌≡◌, ℕ, ℤ, List, [], ◌∷◌, ◌++◌, refl, lit≤, replicate, codes, pos, negsuc, Option, Ok, Err, inl, inr}
+use Rattle.std.proofs.Common.{◌≡◌, ℕ, ℤ, zero, suc, ◌+◌, ◌<◌, ◌≤◌, arith, List, [], ◌∷◌, ◌++◌, refl, lit≤, lit<, replicate, codes, pos, negsuc, Option, Ok, Err, inl, inr}
 use Rattle.std.specs.Fmt.{digits}
 use Rattle.rbc_model.specs.declared.places.Format.TheVariants.{Near, Far}
 use Rattle.rbc_model.specs.declared.refusals.LineFault.TheVariants.{Overlong, NotText, Command, Words, Number, Name}
 use Rattle.rbc_model.specs.declared.refusals.StepsRefusal.TheVariants.{BadLine, Memory}
 use Rattle.rbc_model.specs.Levels.{grade_levels}
-use Rattle.rbc_model.specs.Profiles.{value_at, IsBestProfile}
+use Rattle.rbc_model.specs.Profiles.{value_at, IsTrackFunction, IsChosenProfile}
+use Rattle.rbc_model.specs.PriceTables.{table_at, step_cost, IsGreatestSoundTable}
 use Rattle.rbc_model.specs.Kinds.{speed_kind, grade_kind}
 use Rattle.rbc_model.specs.StepsText.{StepsRequest, Blank, Speed, Grade, parse_steps, track_in}
 use Rattle.rbc_model.specs.StepsReply.{profile_reply, refusal_reply, AnswersLine}
-use Rattle.rbc_model.proofs.TableLemmas.{fits_by_tests, best_of_no_loss}
+use Rattle.rbc_model.proofs.LevelLemmas.{grade_lawful}
+use Rattle.rbc_model.proofs.TableLemmas.{greatest_by_tests}
+use Rattle.rbc_table_laws.specs.Tracebacks.{IsReadOff}
+use Rattle.rbc_table_laws.proofs.TableLawLemmas.{read_off_are_chosen}
 
 -- ---- lines that are read
 
@@ -155,9 +159,11 @@ pub reply_1 : profile_reply speed_kind request_1 ((0, 120) ∷ (150, 160) ∷ []
 unfolding digits
 reply_1 = refl
 
-pub reply_uphill : profile_reply grade_kind (record { limit = 1; runs = (0, pos 10) ∷ (100, negsuc 2) ∷ []; end = 200 }) ((0, negsuc 2) ∷ []) []
+pub reply_uphill : profile_reply grade_kind (record { limit = 1; runs = (0, pos 10) ∷ (100, negsuc 2) ∷ []; end = 200 }) ((0, negsuc 2) ∷ [])
+    ((0 ∷ 1300 ∷ []) ∷ [])
     ≡ codes "grade 1 0:10 100:-3 end 200" ++ feed
     ++ codes "steps 0:-3 loss 1300" ++ feed
+    ++ codes "prices 1 0 1300" ++ feed
     ++ codes "packet 15409c800001840643fc" ++ feed
     ++ codes "done" ++ feed
 unfolding digits
@@ -193,21 +199,60 @@ answers_not_rising_first = inl refl
 pub answers_out_of_range : AnswersLine Near (codes "speed 2 0:160 300:120 end 300") (codes "refused OutOfRange" ++ feed)
 answers_out_of_range = inl refl
 
--- with room for more steps than the track has runs, its own runs, joined, are the best profile
+-- with room for more steps than the track has runs, its own runs, joined, are the chosen profile
 abbrev pub line_track : ℕ → Option ℤ
 line_track = value_at ((0, pos 10) ∷ (100, negsuc 2) ∷ [])
 
-pub best_of_line : IsBestProfile grade_levels 1 3 200 line_track ((0, pos 10) ∷ (100, negsuc 2) ∷ [])
-best_of_line = best_of_no_loss grade_levels 1 3 200 line_track _
-    (fits_by_tests grade_levels 1 3 200 line_track _ refl refl refl (lit≤ tt) refl refl) refl
+abbrev line_runs : List (ℕ × ℤ)
+line_runs = (0, pos 10) ∷ (100, negsuc 2) ∷ []
+
+abbrev line_prices : List (List ℕ)
+line_prices = (0 ∷ 1300 ∷ []) ∷ (0 ∷ 0 ∷ []) ∷ []
+
+line_function : IsTrackFunction grade_levels 200 line_runs
+line_function = record { starts = record { rising = refl; inside = refl }; values = refl; once = refl }
+
+line_table : IsGreatestSoundTable grade_levels 1 3 200 line_runs line_prices
+line_table = greatest_by_tests grade_levels 1 3 200 line_runs line_prices refl refl refl refl refl
+
+-- no number is below 0, and 0 alone is below 1
+none_below : (k : ℕ) → k < 0 → ⊥
+none_below k h = omega arith
+
+-- the steps are read off the table of prices
+read_of_line : IsReadOff grade_levels 1 3 200 line_runs line_prices line_runs
+read_of_line = record {
+  inside = lit≤ tt;
+  price = refl;
+  first_row = λ j some h e. dearer j some h e;
+  back = (
+    1,
+    record { earlier = lit< tt; adds_up = refl; first = λ k h e. later k h e; start = refl; value = refl },
+    (0, record { earlier = lit< tt; adds_up = refl; first = λ k h e. none_below k h; start = refl; value = refl }, refl),
+  );
+}
+  where
+    dearer : (j : ℕ) → 1 ≤ j → j < 2 → table_at line_prices j 2 ≡ 0 → ⊥
+    dearer zero some h e = omega arith
+    dearer (suc zero) some h e = absurd (cc)
+    dearer (suc (suc j)) some h e = omega arith
+
+    later : (k : ℕ) → k < 1 → table_at line_prices 1 k + step_cost grade_levels 1 3 200 line_runs k 2 ≡ 0 → ⊥
+    later zero h e = absurd (cc)
+    later (suc k) h e = omega arith
+
+pub chosen_of_line : IsChosenProfile grade_levels 1 3 200 line_track ((0, pos 10) ∷ (100, negsuc 2) ∷ [])
+chosen_of_line = read_off_are_chosen grade_levels grade_lawful 1 3 200 (lit< tt) refl line_runs line_function line_prices line_table line_runs read_of_line
 
 pub answers_joined : AnswersLine Near (codes "grade 3 0:10 50:10 100:-3 end 200")
     (codes "grade 3 0:10 100:-3 end 200" ++ feed
     ++ codes "steps 0:10 100:-3 loss 0" ++ feed
+    ++ codes "prices 1 0 1300" ++ feed
+    ++ codes "prices 2 0 0" ++ feed
     ++ codes "packet 1540cc8000850803200c0323fc" ++ feed
     ++ codes "done" ++ feed)
 unfolding digits
-answers_joined = inl ((0, pos 10) ∷ (100, negsuc 2) ∷ [], best_of_line, refl)
+answers_joined = inl ((0, pos 10) ∷ (100, negsuc 2) ∷ [], line_prices, chosen_of_line, line_table, refl)
 
 -- where memory was refused, this is told of a request, but of no other line
 pub answers_without_memory : AnswersLine Near (codes "speed 2 0:160 end 300") (codes "refused Memory" ++ feed)

@@ -14,7 +14,7 @@ use Rattle.rbc_model.specs.declared.refusals.Refusal.TheVariants.{Crowded, Busy,
 use Rattle.rbc_model.specs.Results.{unless}
 use Rattle.rbc_model.specs.Lines.{Line, places, metre_at, legs_begun_before}
 use Rattle.rbc_model.specs.Locks.{Locks, row, locked, freed}
-use Rattle.rbc_model.specs.declared.reports.Report.{Report}
+use Rattle.rbc_model.specs.Reports.{Report}
 use Rattle.rbc_model.specs.Trains.{Train}
 use Rattle.rbc_model.specs.Placing.{reported, through}
 use Rattle.rbc_model.specs.Scenes.{Scene, train_numbered}

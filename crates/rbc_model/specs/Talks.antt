@@ -1,7 +1,7 @@
 -- Talks: the lines of an input are answered in order, each in the state that the one before left behind.
 use Rattle.std.specs.Prelude.{◌≡◌, ◌<◌, ◌≤◌, ℕ, List, [], ◌∷◌, ◌++◌, length, Option, Result, Ok, Err, All}
 use Rattle.std.specs.Io.KnownBytes.{Appends}
-use Rattle.rbc_model.specs.declared.limits.TheConstants.{LONGEST_LINE, MOST_LINES}
+use Rattle.rbc_model.specs.declared.limits.TheConstants.{MOST_LINES}
 use Rattle.rbc_model.specs.declared.sessions.SessionFault.{SessionFault}
 use Rattle.rbc_model.specs.declared.sessions.SessionFault.TheVariants.{Read, Write, Lines, Overlong, Memory}
 use Rattle.rbc_model.specs.Sessions.{lines_of, WritesPart}
@@ -22,38 +22,40 @@ Answered {State} Answers first (line ∷ lines) text last =
     (reply : List ℕ) × (rest : List ℕ) × (next : State) × Answers first line reply next
     × (text ≡ reply ++ rest) × Answered Answers next lines rest last
 
--- no line is too long
-abbrev pub AreShort : List (List ℕ) → Type 0
-AreShort lines = All (λ line. length line ≤ LONGEST_LINE) lines
+-- for lines of at most so many bytes
+module _ (longest : ℕ) where
+  -- no line is too long
+  abbrev pub AreShort : List (List ℕ) → Type 0
+  AreShort lines = All (λ line. length line ≤ longest) lines
 
--- only the last line is too long
-abbrev pub IsStoppedByLast : List (List ℕ) → Type 0
-IsStoppedByLast lines = (before : List (List ℕ)) × (line : List ℕ)
-    × (lines ≡ before ++ line ∷ []) × AreShort before × (LONGEST_LINE < length line)
+  -- only the last line is too long
+  abbrev pub IsStoppedByLast : List (List ℕ) → Type 0
+  IsStoppedByLast lines = (before : List (List ℕ)) × (line : List ℕ)
+      × (lines ≡ before ++ line ∷ []) × AreShort before × (longest < length line)
 
--- only the last line may be too long
-abbrev pub AreShortButLast : List (List ℕ) → Type 0
-AreShortButLast lines = (before : List (List ℕ)) × (line : List ℕ) × (lines ≡ before ++ line ∷ []) × AreShort before
+  -- only the last line may be too long
+  abbrev pub AreShortButLast : List (List ℕ) → Type 0
+  AreShortButLast lines = (before : List (List ℕ)) × (line : List ℕ) × (lines ≡ before ++ line ∷ []) × AreShort before
 
--- How far a talk went that ended so, and how much of its text it wrote: these lines were treated, and the rest was not.
-abbrev pub Ends : Option (List ℕ) → Option (List ℕ) → List (List ℕ) → List (List ℕ) → List ℕ
-    → Result (Unit {0}) SessionFault → Type 0
-Ends old new treated rest text (Ok done) = Appends old new text × AreShort treated × (rest ≡ [])
-Ends old new treated rest text (Err Lines) =
-    Appends old new text × AreShort treated × (length treated ≡ MOST_LINES) × (0 < length rest)
-Ends old new treated rest text (Err Overlong) = Appends old new text × IsStoppedByLast treated
-Ends old new treated rest text (Err Read) = Appends old new text × AreShort treated
-Ends old new treated rest text (Err Write) = WritesPart old new text × AreShortButLast treated
-Ends old new treated rest text (Err Memory) = Appends old new text × (treated ≡ [])
+  -- How far a talk went that ended so, and how much of its text it wrote: these lines were treated, and the rest was not.
+  abbrev pub Ends : Option (List ℕ) → Option (List ℕ) → List (List ℕ) → List (List ℕ) → List ℕ
+      → Result (Unit {0}) SessionFault → Type 0
+  Ends old new treated rest text (Ok done) = Appends old new text × AreShort treated × (rest ≡ [])
+  Ends old new treated rest text (Err Lines) =
+      Appends old new text × AreShort treated × (length treated ≡ MOST_LINES) × (0 < length rest)
+  Ends old new treated rest text (Err Overlong) = Appends old new text × IsStoppedByLast treated
+  Ends old new treated rest text (Err Read) = Appends old new text × AreShort treated
+  Ends old new treated rest text (Err Write) = WritesPart old new text × AreShortButLast treated
+  Ends old new treated rest text (Err Memory) = Appends old new text × (treated ≡ [])
 
--- A talk over this input, from the first state to the last, that ended so. Its first lines were treated: each is
--- answered, and the text is made of the replies.
-pub record IsTalk {State : Type 0} (Answers : State → List ℕ → List ℕ → State → Type 0) (first last : State)
-    (input : List ℕ) (old new : Option (List ℕ)) (result : Result (Unit {0}) SessionFault) : Type 0 where
-  pub treated : List (List ℕ)
-  pub rest : List (List ℕ)
-  pub text : List ℕ
-  pub lines : lines_of input ≡ treated ++ rest
-  pub few : length treated ≤ MOST_LINES
-  pub answered : Answered Answers first treated text last
-  pub ends : Ends old new treated rest text result
+  -- A talk over this input, from the first state to the last, that ended so. Its first lines were treated: each is
+  -- answered, and the text is made of the replies.
+  pub record IsTalk {State : Type 0} (Answers : State → List ℕ → List ℕ → State → Type 0) (first last : State)
+      (input : List ℕ) (old new : Option (List ℕ)) (result : Result (Unit {0}) SessionFault) : Type 0 where
+    pub treated : List (List ℕ)
+    pub rest : List (List ℕ)
+    pub text : List ℕ
+    pub lines : lines_of input ≡ treated ++ rest
+    pub few : length treated ≤ MOST_LINES
+    pub answered : Answered Answers first treated text last
+    pub ends : Ends old new treated rest text result

@@ -27,6 +27,21 @@ pub const LAST_COUNTRY: u16 = 1_023;
 /// The greatest number of a balise group in its country or region (NID_BG). The next one means an unknown group.
 pub const LAST_GROUP: u16 = 16_382;
 
+/// The greatest number of a train.
+pub const LAST_TRAIN: u32 = 9_999_999;
+
+/// How many metres past its balise group a train may report its front.
+pub const FARTHEST_REPORT: u32 = 100_000;
+
+/// By how many metres a report may tell this distance too great or too small (L_DOUBTOVER, L_DOUBTUNDER).
+pub const MOST_DOUBT: u16 = 10_000;
+
+/// How many metres a train may be long.
+pub const LONGEST_TRAIN: u16 = 4_095;
+
+/// The latest time of a report, in the train's own count (T_TRAIN). The next one comes from no report.
+pub const LAST_TIME: u32 = 4_294_967_294;
+
 /// How many bytes the name of a section or a route may have.
 pub const LONGEST_NAME: usize = 16;
 
@@ -53,6 +68,9 @@ pub const MOST_LINES: u32 = 1_000_000;
 
 /// How many bytes a line of a session may have, a carriage return counted.
 pub const LONGEST_LINE: usize = 4_096;
+
+/// How many bytes a line of a text with certificates may have, a carriage return counted.
+pub const LONGEST_CHECK_LINE: usize = 65_536;
 
 /// How many bytes a track file may have.
 pub const LONGEST_FILE: usize = 16_777_216;

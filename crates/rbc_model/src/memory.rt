@@ -2,7 +2,7 @@
 ghost use Rattle.std.specs.Prelude.{◌≡◌};
 ghost use Rattle.rbc_model.specs.declared.memory.OrMemory.TheVariants.{Refused, Memory as NoMemory};
 
-use crate::{FileFault, LineFault, TrackRefusal};
+use crate::{FileFault, LineFault, Refusal, TrackRefusal};
 use std::alloc::{AllocError, AllocFailed};
 use thiserror::Error;
 
@@ -78,6 +78,14 @@ impl From<LineFault> for OrMemory<LineFault> {
     ghost from_gives = { λ refusal fault. fault ≡ Refused refusal };
 
     fn from(refusal: LineFault) -> OrMemory<LineFault> {
+        OrMemory::Refused(refusal)
+    }
+}
+
+impl From<Refusal> for OrMemory<Refusal> {
+    ghost from_gives = { λ refusal fault. fault ≡ Refused refusal };
+
+    fn from(refusal: Refusal) -> OrMemory<Refusal> {
         OrMemory::Refused(refusal)
     }
 }

@@ -19,7 +19,7 @@ pub enum SessionFault {
     /// The input goes on after 1,000,000 lines.
     #[error("too many lines")]
     Lines,
-    /// A line has more than 4,096 bytes. It is refused, and no line after it is treated.
+    /// A line has more bytes than a line of the session may have. It is refused, and no line after it is treated.
     #[error("overlong line")]
     Overlong,
     /// There is no memory to keep a line in. Nothing is read or written.

@@ -1,0 +1,13 @@
+pub mod BasicLemmas
+pub mod LegSpanLemmas
+pub mod FirstLemmas
+pub mod ByLegLemmas
+pub mod PlaceLemmas
+pub mod ReachLemmas
+pub mod GreatestEndLemmas
+pub mod ObstacleLemmas
+pub mod WalkLemmas
+pub mod LoopLemmas
+pub mod LimitLemmas
+pub mod ShownLemmas
+pub mod TwiceLemmas
