@@ -64,6 +64,19 @@ impl Authority {
         })
     }
 
+    /// The same authority once more. It takes no memory.
+    pub fn copy(&self) -> Authority
+        ensures { result ≡ self.now }
+    {
+        Authority {
+            time: self.time,
+            group: self.group,
+            nominal: self.nominal,
+            speeds: self.speeds.copy(),
+            grades: self.grades.copy(),
+        }
+    }
+
     /// The time of the train's report (T_TRAIN), 0 to 4,294,967,295, in the train's own count.
     pub fn time(&self) -> u32
         ensures { result ≡ self.now.time }

@@ -2,6 +2,8 @@
 
 ghost use Rattle.std.specs.Prelude.{◌≡◌};
 
+mod metres;
+
 use crate::Power;
 use rbc_model::{AppendFault, Memory, ProfileFault, RunsFault};
 use rbc_reduce::{Reduced, reduce};
@@ -218,14 +220,14 @@ fn speeds_are_reduced(rt: HostRuntime) {
     let (first, low, last) = (speed(&rt, 160), speed(&rt, 83), speed(&rt, 120));
     let floor = speed(&rt, 80);
     let track = track_from(&rt, &[(0, first), (10, low), (20, last)], 30);
-    let one = reduce(rt.alloc(), &track, 1);
+    let one = reduce(&rt, rt.alloc(), &track, 1);
     compare(&rt, one, &[(0, floor)], 1_230);
-    let two = reduce(rt.alloc(), &track, 2);
+    let two = reduce(&rt, rt.alloc(), &track, 2);
     compare(&rt, two, &[(0, first), (10, floor)], 430);
-    let three = reduce(rt.alloc(), &track, 3);
+    let three = reduce(&rt, rt.alloc(), &track, 3);
     compare(&rt, three, &[(0, first), (10, floor), (20, last)], 30);
     let long = track_from(&rt, &[(0, first), (1_500, low), (3_300, last)], 4_000);
-    let two = reduce(rt.alloc(), &long, 2);
+    let two = reduce(&rt, rt.alloc(), &long, 2);
     compare(&rt, two, &[(0, first), (1_500, floor)], 33_400);
 }
 
@@ -233,11 +235,11 @@ fn speeds_are_reduced(rt: HostRuntime) {
 fn gradients_are_reduced(rt: HostRuntime) {
     let (first, low, last) = (grade(&rt, 10), grade(&rt, -3), grade(&rt, 254));
     let track = track_from(&rt, &[(0, first), (10, low), (20, last)], 30);
-    let one = reduce(rt.alloc(), &track, 1);
+    let one = reduce(&rt, rt.alloc(), &track, 1);
     compare(&rt, one, &[(0, low)], 2_700);
-    let two = reduce(rt.alloc(), &track, 2);
+    let two = reduce(&rt, rt.alloc(), &track, 2);
     compare(&rt, two, &[(0, low), (20, last)], 130);
-    let three = reduce(rt.alloc(), &track, 3);
+    let three = reduce(&rt, rt.alloc(), &track, 3);
     compare(&rt, three, &[(0, first), (10, low), (20, last)], 0);
 }
 
@@ -246,14 +248,74 @@ fn powers_are_reduced(rt: HostRuntime) {
     let (first, low, last) = (power(&rt, 1000), power(&rt, 600), power(&rt, 1024));
     let half = power(&rt, 512);
     let track = track_from(&rt, &[(0, first), (10, low), (20, last)], 30);
-    let one = reduce(rt.alloc(), &track, 1);
+    let one = reduce(&rt, rt.alloc(), &track, 1);
     compare(&rt, one, &[(0, half)], 10_880);
-    let three = reduce(rt.alloc(), &track, 3);
+    let three = reduce(&rt, rt.alloc(), &track, 3);
     compare(&rt, three, &[(0, half), (20, last)], 5_760);
     let (least, odd, quarter) = (power(&rt, 1), power(&rt, 511), power(&rt, 256));
     let peak = track_from(&rt, &[(0, least), (3, last), (7, odd), (9, half)], 20);
-    let two = reduce(rt.alloc(), &peak, 2);
+    let two = reduce(&rt, rt.alloc(), &peak, 2);
     compare(&rt, two, &[(0, least), (9, half)], 5_112);
-    let three = reduce(rt.alloc(), &peak, 3);
+    let three = reduce(&rt, rt.alloc(), &peak, 3);
     compare(&rt, three, &[(0, least), (3, last), (7, quarter)], 3_326);
+}
+
+/// The track's value at each of its metres.
+fn values_of<V: Level>(rt: &(impl Abort + AllocGlobal), track: &Runs<V>) -> Vec<V> {
+    let mut values = Vec::new(rt.alloc());
+    for x in 0..track.end() {
+        values.push(track.at(x)).expect(rt, "memory");
+    }
+    values
+}
+
+/// Numbers that look thrown at random.
+fn thrown(seed: u32) -> [u32; 6] {
+    let mut numbers = [seed; 6];
+    let mut state = seed;
+    for i in 0..6 {
+        state = state.wrapping_mul(1_664_525).wrapping_add(1_013_904_223);
+        numbers[i] = state / 65_536;
+    }
+    numbers
+}
+
+/// The plain way finds no less, for each kind of level.
+#[test]
+fn loses_no_more_than_by_metres(rt: HostRuntime) {
+    let alloc = rt.alloc();
+    for seed in 0..200 {
+        let mut speeds = Vec::new(alloc);
+        let mut grades = Vec::new(alloc);
+        let mut powers = Vec::new(alloc);
+        let mut start = 0u32;
+        for number in thrown(seed) {
+            let kmh = 5 + (number % 40) as u16;
+            speeds.push((start, speed(&rt, kmh))).expect(&rt, "memory");
+            let per_mille = (number % 7) as i16 - 3;
+            grades
+                .push((start, grade(&rt, per_mille)))
+                .expect(&rt, "memory");
+            let level = 1 + (number % 40) as u16;
+            powers
+                .push((start, power(&rt, level)))
+                .expect(&rt, "memory");
+            start = start.saturating_add(1 + number / 64 % 3);
+        }
+        let limit = 1 + seed as usize % 4;
+        let track = Runs::new(speeds, start).expect(&rt, "a track");
+        let reduced = reduce(&rt, alloc, &track, limit).expect(&rt, "memory");
+        let values = values_of(&rt, &track);
+        assert_eq!(rt; reduced.loss, metres::least_loss(values.as_slice(), limit));
+        let track = Runs::new(grades, start).expect(&rt, "a track");
+        let reduced = reduce(&rt, alloc, &track, limit).expect(&rt, "memory");
+        let values = values_of(&rt, &track);
+        assert_eq!(rt; reduced.loss, metres::least_loss(values.as_slice(), limit));
+        let track = Runs::new(powers, start).expect(&rt, "a track");
+        let reduced = reduce(&rt, alloc, &track, limit).expect(&rt, "memory");
+        let values = values_of(&rt, &track);
+        assert_eq!(rt; reduced.loss, metres::least_loss(values.as_slice(), limit));
+        let last = reduced.prices.last().and_then(|row| row.last());
+        assert!(rt; last.is_some_and(|price| *price == reduced.loss));
+    }
 }

@@ -40,13 +40,6 @@ module _ {V : Type 0} (track : StepFunction V) (breaks : List ℕ) (are : AreBre
   pub up_to_end : (i : ℕ) → i ≤ length track.steps → get_or breaks i 0 ≤ track.end
   up_to_end i h = let up = rises_to i (length track.steps) h (omega arith) in let last = are.last in omega arith
 
-module _ {V : Type 0} (levels : Levels V) (track : StepFunction V) (breaks : List ℕ) where
-  -- The least value from a break up to another, and what its floor loses, from the same break or from a later one.
-  pub record IsScanned (i from to : ℕ) (least : V) (price : ℕ) : Type 0 where
-    pub lowest : IsLowest levels track (get_or breaks i 0) (get_or breaks to 0) least
-    pub lost : lost_below levels track (levels.floor least) (get_or breaks from 0) + price ≡ lost_below levels track (levels.floor least) (get_or breaks to 0)
-    pub bound : get_or breaks from 0 * 1000000 + price ≤ get_or breaks to 0 * 1000000
-
 module _ {V : Type 0} (levels : Levels V) (lawful : IsLawful levels) (track : StepFunction V) (function : IsTrackFunction levels track.end track.steps)
     (breaks : List ℕ) (are : AreBreaks track breaks) where
   range_at : (x : ℕ) (v : V) → x < track.end → value_at track.steps x ≡ Some v → IsInRange levels v
@@ -184,8 +177,6 @@ module _ {V : Type 0} (levels : Levels V) (lawful : IsLawful levels) (track : St
   pub cost_at : (i i' : ℕ) → cost levels (value_at track.steps) (get_or breaks i 0) (get_or breaks i' 0) ≡ cost_between levels track i i'
   cost_at i i' = ap (λ b. cost levels (value_at track.steps) (get_or b i 0) (get_or b i' 0)) are.are
 
-  -- ---- a scan of the runs backwards from a break
-
   -- what is lost on a run
   pub priced : (i : ℕ) (run : ℕ × V) → slice_get track.steps i ≡ Some run → (given : V) → IsInRange levels given
       → IsBelowAll levels track (get_or breaks i 0) (get_or breaks (i + 1) 0) given → (metres price : ℕ) → metres ≡ get_or breaks (i + 1) 0 - get_or breaks i 0
@@ -200,50 +191,6 @@ module _ {V : Type 0} (levels : Levels V) (lawful : IsLawful levels) (track : St
       let same : metres * price ≡ (get_or breaks (i + 1) 0 - get_or breaks i 0) * levels.price run.1 given = ap (λ k. k * price) metres_are ∙ ap (λ k. (get_or breaks (i + 1) 0 - get_or breaks i 0) * k) price_is in
       let lost = lost_on i run there given in
       (omega arith, omega arith)
-
-  -- with one run more in front, before that run's price is added
-  pub scanned_more : (i to : ℕ) (run : ℕ × V) → slice_get track.steps i ≡ Some run → to ≤ length track.steps → (least now : V) (price anew : ℕ) (test : Bool)
-      → levels.at_most least run.1 ≡ test → IsScanned levels track breaks (i + 1) (i + 1) to least price → (test ≡ true → (now ≡ least) × (anew ≡ price))
-      → (test ≡ false → (now ≡ run.1) × (lost_below levels track (levels.floor run.1) (get_or breaks (i + 1) 0) + anew ≡ lost_below levels track (levels.floor run.1) (get_or breaks to 0))
-      × (get_or breaks (i + 1) 0 * 1000000 + anew ≤ get_or breaks to 0 * 1000000))
-      → IsScanned levels track breaks i (i + 1) to now anew
-  scanned_more i to run there end least now price anew true e s kept fallen =
-      let k = kept refl in
-      let lost = s.lost in
-      let bound = s.bound in
-      let same = k.1 in
-      record {
-        lowest = lowest_more i run there (get_or breaks to 0) least now true e (up_to_end track breaks are to end) s.lowest (λ f. k.0) (λ f. absurd (cc));
-        lost = rw k.0 (omega arith);
-        bound = omega arith;
-      }
-  scanned_more i to run there end least now price anew false e s kept fallen =
-      let k = fallen refl in record {
-        lowest = lowest_more i run there (get_or breaks to 0) least now false e (up_to_end track breaks are to end) s.lowest (λ f. absurd (cc)) (λ f. k.0);
-        lost = rw k.0 k.1;
-        bound = k.2;
-      }
-
-  -- and once it is added
-  pub scanned_on : (i to : ℕ) (least : V) (before price after : ℕ) → IsScanned levels track breaks i (i + 1) to least before
-      → lost_below levels track (levels.floor least) (get_or breaks i 0) + price ≡ lost_below levels track (levels.floor least) (get_or breaks (i + 1) 0)
-      → get_or breaks i 0 * 1000000 + price ≤ get_or breaks (i + 1) 0 * 1000000 → after ≡ before + price → IsScanned levels track breaks i i to least after
-  scanned_on i to least before price after s here bound e =
-      let lost = s.lost in
-      let behind = s.bound in
-      record { lowest = s.lowest; lost = omega arith; bound = omega arith }
-
-  -- its floor may be given on the run in front, and on those behind it
-  module _ (i from to : ℕ) (least : V) (price : ℕ) (end : to ≤ length track.steps) (s : IsScanned levels track breaks i from to least price) where
-    pub scanned_range : IsInRange levels (levels.floor least)
-    scanned_range = floor_in_range (get_or breaks i 0) (get_or breaks to 0) least (up_to_end track breaks are to end) s.lowest
-
-    pub scanned_below : IsBelowAll levels track (get_or breaks i 0) (get_or breaks to 0) (levels.floor least)
-    scanned_below = floor_below (get_or breaks i 0) (get_or breaks to 0) least (up_to_end track breaks are to end) s.lowest
-
-  pub scanned_cost : (i to : ℕ) (least : V) (price : ℕ) → to ≤ length track.steps → IsScanned levels track breaks i i to least price → price ≡ cost_between levels track i to
-  scanned_cost i to least price end s =
-      lowest_cost (get_or breaks i 0) (get_or breaks to 0) least (up_to_end track breaks are to end) s.lowest price s.lost ∙ cost_at i to
 
   -- ---- a step that goes on to the next break
 

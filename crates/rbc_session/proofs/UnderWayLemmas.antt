@@ -6,7 +6,7 @@ use Rattle.std.proofs.lemmas.List.{length-append}
 use Rattle.std.proofs.lemmas.List.Elements.{All-append, All-nil, All-cons}
 use Rattle.std.specs.Io.KnownBytes.{Consumes, Appends}
 use Rattle.std.proofs.KnownBytes.{Consumes-nil, Appends-nil, Consumes-trans, Appends-trans}
-use Rattle.rbc_model.specs.declared.limits.TheConstants.{LONGEST_LINE, MOST_LINES}
+use Rattle.rbc_model.specs.declared.limits.TheConstants.{MOST_LINES}
 use Rattle.rbc_model.specs.declared.sessions.SessionFault.{SessionFault}
 use Rattle.rbc_model.specs.declared.sessions.SessionFault.TheVariants.{Read, Write, Lines, Overlong, Memory}
 use Rattle.rbc_model.specs.Sessions.{lines_of, with_front, WritesPart}
@@ -62,7 +62,7 @@ answered_then Answers first now next (front ∷ lines) line text reply (r, rest,
 -- ---- a talk under way, and over
 
 -- n lines are treated, and these bytes are pending
-pub record IsUnderWay {State : Type 0} (Answers : State → List ℕ → List ℕ → State → Type 0) (first now : State)
+pub record IsUnderWay (longest : ℕ) {State : Type 0} (Answers : State → List ℕ → List ℕ → State → Type 0) (first now : State)
     (left0 left written0 written : Option (List ℕ)) (ended : Bool) (n : ℕ) (pending : List ℕ) : Type 0 where
   pub input : List ℕ
   pub text : List ℕ
@@ -70,20 +70,20 @@ pub record IsUnderWay {State : Type 0} (Answers : State → List ℕ → List �
   pub took : Consumes left0 left input
   pub wrote : Appends written0 written text
   pub count : length treated ≡ n
-  pub short : AreShort treated
+  pub short : AreShort longest treated
   pub answered : Answered Answers first treated text now
   pub splits : Splits ended input treated pending
 
 -- what was read so, and a talk that ended so
-abbrev pub IsOver : {State : Type 0} → (State → List ℕ → List ℕ → State → Type 0) → State → State
+abbrev pub IsOver : ℕ → {State : Type 0} → (State → List ℕ → List ℕ → State → Type 0) → State → State
     → Option (List ℕ) → Option (List ℕ) → Option (List ℕ) → Option (List ℕ) → Result (Unit {0}) SessionFault → Type 0
-IsOver Answers first last left0 left written0 written result =
-    (input : List ℕ) × Consumes left0 left input × IsTalk Answers first last input written0 written result
+IsOver longest Answers first last left0 left written0 written result =
+    (input : List ℕ) × Consumes left0 left input × IsTalk longest Answers first last input written0 written result
 
-module _ {State : Type 0} (Answers : State → List ℕ → List ℕ → State → Type 0) (first : State)
+module _ (longest : ℕ) {State : Type 0} (Answers : State → List ℕ → List ℕ → State → Type 0) (first : State)
     (left written : Option (List ℕ)) where
   -- before the first line
-  pub begins : IsUnderWay Answers first first left left written written false 0 []
+  pub begins : IsUnderWay longest Answers first first left left written written false 0 []
   begins = record {
     input = [];
     text = [];
@@ -91,13 +91,13 @@ module _ {State : Type 0} (Answers : State → List ℕ → List ℕ → State �
     took = Consumes-nil left;
     wrote = Appends-nil written;
     count = refl;
-    short = All-nil (λ line. length line ≤ LONGEST_LINE);
+    short = All-nil (λ line. length line ≤ longest);
     answered = (refl, refl);
     splits = λ more none. refl;
   }
 
   -- there is no memory
-  pub over_before : IsOver Answers first first left left written written (Err Memory)
+  pub over_before : IsOver longest Answers first first left left written written (Err Memory)
   over_before = (
     [],
     Consumes-nil left,
@@ -112,13 +112,13 @@ module _ {State : Type 0} (Answers : State → List ℕ → List ℕ → State �
     },
   )
 
-module _ {State : Type 0} (Answers : State → List ℕ → List ℕ → State → Type 0) {first now : State}
+module _ (longest : ℕ) {State : Type 0} (Answers : State → List ℕ → List ℕ → State → Type 0) {first now : State}
     {left0 left written0 written : Option (List ℕ)} {ended : Bool} {n : ℕ} {pending : List ℕ}
-    (u : IsUnderWay Answers first now left0 left written0 written ended n pending) where
+    (u : IsUnderWay longest Answers first now left0 left written0 written ended n pending) where
   -- some bytes are read
   pub takes : (left' : Option (List ℕ)) (after : Bool) (taken : List ℕ)
       → (ended ≡ true → after ≡ true) → (ended ≡ true → taken ≡ []) → Consumes left left' taken
-      → IsUnderWay Answers first now left0 left' written0 written after n (pending ++ taken)
+      → IsUnderWay longest Answers first now left0 left' written0 written after n (pending ++ taken)
   takes left' after taken stays none took = record {
     input = u.input ++ taken;
     text = u.text;
@@ -135,8 +135,8 @@ module _ {State : Type 0} (Answers : State → List ℕ → List ℕ → State �
 
   -- it stops before the lines that are pending
   stops : (result : Result (Unit {0}) SessionFault) → n ≤ MOST_LINES
-      → Ends written0 written u.treated (lines_of pending) u.text result
-      → IsOver Answers first now left0 left written0 written result
+      → Ends longest written0 written u.treated (lines_of pending) u.text result
+      → IsOver longest Answers first now left0 left written0 written result
   stops result few how = (
     u.input,
     u.took,
@@ -151,23 +151,23 @@ module _ {State : Type 0} (Answers : State → List ℕ → List ℕ → State �
     },
   )
 
-  pub fails_reading : n ≤ MOST_LINES → IsOver Answers first now left0 left written0 written (Err Read)
+  pub fails_reading : n ≤ MOST_LINES → IsOver longest Answers first now left0 left written0 written (Err Read)
   fails_reading few = stops (Err Read) few (u.wrote, u.short)
 
-  pub ends : pending ≡ [] → n ≤ MOST_LINES → IsOver Answers first now left0 left written0 written (Ok tt)
+  pub ends : pending ≡ [] → n ≤ MOST_LINES → IsOver longest Answers first now left0 left written0 written (Ok tt)
   ends none few = stops (Ok tt) few (u.wrote, u.short, ap lines_of none)
 
   pub has_too_many : n ≡ MOST_LINES → 0 < length (lines_of pending)
-      → IsOver Answers first now left0 left written0 written (Err Lines)
+      → IsOver longest Answers first now left0 left written0 written (Err Lines)
   has_too_many all some = stops (Err Lines) (rw all (lit≤ tt)) (u.wrote, u.short, u.count ∙ all, some)
 
   module _ (next : State) (written' : Option (List ℕ)) where
     -- a line is answered
-    pub goes_on : (lines : LineReading) (reply : List ℕ) → lines.ended ≡ ended → lines.longest ≡ LONGEST_LINE
+    pub goes_on : (lines : LineReading) (reply : List ℕ) → lines.ended ≡ ended → lines.longest ≡ longest
         → GivesLine pending lines → Answers now lines.line reply next → Appends written written' reply
-        → IsUnderWay Answers first next left0 left written0 written' ended (suc n) lines.pending
+        → IsUnderWay longest Answers first next left0 left written0 written' ended (suc n) lines.pending
     goes_on lines reply at size gives answers wrote =
-        let Short : List ℕ → Type 0 = λ line. length line ≤ LONGEST_LINE in
+        let Short : List ℕ → Type 0 = λ line. length line ≤ longest in
         let short : Short lines.line = subst (λ most. length lines.line ≤ most) size gives.within in
         record {
           input = u.input;
@@ -186,8 +186,8 @@ module _ {State : Type 0} (Answers : State → List ℕ → List ℕ → State �
     -- it stops with this line, which is answered
     stops_with : (result : Result (Unit {0}) SessionFault) (line reply : List ℕ) (others : List (List ℕ))
         → n < MOST_LINES → lines_of pending ≡ line ∷ others → Answers now line reply next
-        → Ends written0 written' (u.treated ++ line ∷ []) others (u.text ++ reply) result
-        → IsOver Answers first next left0 left written0 written' result
+        → Ends longest written0 written' (u.treated ++ line ∷ []) others (u.text ++ reply) result
+        → IsOver longest Answers first next left0 left written0 written' result
     stops_with result line reply others few front answers how = (
       u.input,
       u.took,
@@ -206,7 +206,7 @@ module _ {State : Type 0} (Answers : State → List ℕ → List ℕ → State �
     -- the writer fails in the reply to a line
     pub fails_writing : (line reply : List ℕ) (others : List (List ℕ)) → n < MOST_LINES
         → lines_of pending ≡ line ∷ others → Answers now line reply next → WritesPart written written' reply
-        → IsOver Answers first next left0 left written0 written' (Err Write)
+        → IsOver longest Answers first next left0 left written0 written' (Err Write)
     fails_writing line reply others few front answers (part, rest, whole, wrote) =
         let so_far = ap (λ r. u.text ++ r) whole ∙ sym (append_assoc u.text part rest) in
         let both = Appends-trans written0 written written' u.text part u.wrote wrote in
@@ -215,8 +215,8 @@ module _ {State : Type 0} (Answers : State → List ℕ → List ℕ → State �
 
     -- a line is too long, and its refusal is written
     pub refuses : (line reply : List ℕ) (others : List (List ℕ)) → n < MOST_LINES → lines_of pending ≡ line ∷ others
-        → LONGEST_LINE < length line → Answers now line reply next → Appends written written' reply
-        → IsOver Answers first next left0 left written0 written' (Err Overlong)
+        → longest < length line → Answers now line reply next → Appends written written' reply
+        → IsOver longest Answers first next left0 left written0 written' (Err Overlong)
     refuses line reply others few front long answers wrote =
         stops_with (Err Overlong) line reply others few front answers
         (Appends-trans written0 written written' u.text reply u.wrote wrote, (u.treated, line, refl, u.short, long))

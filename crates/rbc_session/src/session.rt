@@ -2,15 +2,15 @@
 
 ghost use Rattle.std.specs.Prelude.{◌≡◌, ◌↔◌, ◌<◌, ℕ, List, [], length, true, false, IsTrue, OnOk, Err};
 ghost use Rattle.std.specs.Io.KnownBytes.{Consumes, IsAtEnd};
-ghost use Rattle.rbc_model.specs.declared.limits.TheConstants.{LONGEST_LINE as longest};
 ghost use Rattle.rbc_model.specs.Sessions.{Prints};
 ghost use Rattle.rbc_model.specs.Talks.{IsTalk};
 
 use crate::Answers;
 use rbc_model::SessionFault;
-use rbc_model::limits::{LONGEST_LINE, MOST_LINES};
+use rbc_model::limits::MOST_LINES;
 use rbc_streams::{Advance, LineReader, Sink, Source, WriteFailed};
 use std::alloc::Global;
+use std::thread::Threads;
 
 /// Answers each line of the reader, in order, up to the end of the input or the first fault. Each reply is handed on
 /// before the next line is read.
@@ -20,6 +20,7 @@ use std::alloc::Global;
 /// where the writer does, `Overlong` behind the reply to a line that is too long; `Lines` where a further byte comes
 /// after the last line that a session treats.
 pub fn converse<C, A: Answers<C>, R: Source, W: Sink>(
+    rt: &(impl Threads + Sync),
     alloc: Global,
     reader: &mut R,
     writer: &mut W,
@@ -42,16 +43,16 @@ pub fn converse<C, A: Answers<C>, R: Source, W: Sink>(
 
     // What was written answers the lines of what was read.
     ensures talk { (input : List ℕ) × Consumes (R.left reader.old) (R.left reader.new) input
-        × IsTalk A.answers (A.state answerer.old) (A.state answerer.new) input
+        × IsTalk A.longest A.answers (A.state answerer.old) (A.state answerer.new) input
         (W.written writer.old) (W.written writer.new) result }
 
     // And it was handed on, unless the writer failed.
     ensures handed_on { W.failed writer.new ≡ false → W.held_back writer.old ≡ [] → W.held_back writer.new ≡ [] }
 {
-    let mut lines = LineReader::new(alloc, LONGEST_LINE)?;
+    let mut lines = LineReader::new(alloc, A::longest_line())?;
     for _ in 0..MOST_LINES {
         match lines.advance(reader)? {
-            Advance::Line => answer(alloc, lines.line(), writer, answerer, help)?,
+            Advance::Line => answer(rt, alloc, lines.line(), writer, answerer, help)?,
             Advance::Overlong => {
                 refuse(writer, answerer, help)?;
                 return Err(SessionFault::Overlong);
@@ -67,6 +68,7 @@ pub fn converse<C, A: Answers<C>, R: Source, W: Sink>(
 
 /// Answers a line, and hands the reply on.
 fn answer<C, A: Answers<C>, W: Sink>(
+    rt: &(impl Threads + Sync),
     alloc: Global,
     line: &[u8],
     writer: &mut W,
@@ -78,7 +80,7 @@ fn answer<C, A: Answers<C>, W: Sink>(
         × Prints (W.written writer.old) (W.written writer.new) (W.failed writer.new) reply result }
     ensures handed_on { OnOk result (W.held_back writer.new ≡ []) }
 {
-    answerer.answer(alloc, help, line, writer)?;
+    answerer.answer(rt, alloc, help, line, writer)?;
     writer.flush()
 }
 
@@ -90,7 +92,7 @@ fn refuse<C, A: Answers<C>, W: Sink>(
 ) -> Result<(), WriteFailed>
     requires { W.failed writer.old ≡ false }
     ensures reply { (reply : List ℕ)
-        × ((line : List ℕ) → longest < length line
+        × ((line : List ℕ) → A.longest < length line
         → A.answers (A.state answerer.old) line reply (A.state answerer.new))
         × Prints (W.written writer.old) (W.written writer.new) (W.failed writer.new) reply result }
     ensures handed_on { OnOk result (W.held_back writer.new ≡ []) }

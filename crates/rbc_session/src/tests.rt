@@ -6,6 +6,7 @@ use std::alloc::Global;
 use std::io;
 use std::io::{Error, ErrorKind, Read};
 use std::test::Fail;
+use std::thread::Threads;
 
 /// Echoes each line.
 #[derive(Drop)]
@@ -16,12 +17,19 @@ impl Answers<()> for Echo {
 
     ghost use Rattle.std.specs.Prelude.{⊤};
 
+    ghost longest = { 4096 };
+
     ghost state = { λ _. tt };
 
     ghost answers = { λ _ _ _ _. ⊤ };
 
-    fn answer<W: Sink>(
+    fn longest_line() -> usize {
+        4_096
+    }
+
+    fn answer<T: Threads + Sync, W: Sink>(
         &mut self,
+        _rt: &T,
         _alloc: Global,
         _help: &(),
         line: &[u8],
@@ -64,7 +72,7 @@ fn answers_each_line(rt: HostRuntime) -> Result<(), Fail> {
         let mut writer = Stream::writer(rt.alloc(), Vec::new(rt.alloc()))?;
         let mut reader = Stream::reader(input);
         assert_eq!(rt;
-            converse(rt.alloc(), &mut reader, &mut writer, &mut Echo, &()),
+            converse(&rt, rt.alloc(), &mut reader, &mut writer, &mut Echo, &()),
             outcome
         );
         assert_eq!(rt; writer.into_writer().as_slice(), written);
@@ -77,7 +85,7 @@ fn answers_each_line(rt: HostRuntime) -> Result<(), Fail> {
 fn hands_on_before_it_reads_on(rt: HostRuntime) -> Result<(), Fail> {
     let mut writer = Stream::writer(rt.alloc(), Vec::new(rt.alloc()))?;
     let mut reader = Stream::reader(Broken { bytes: b"a\nb\nc" });
-    let outcome = converse(rt.alloc(), &mut reader, &mut writer, &mut Echo, &());
+    let outcome = converse(&rt, rt.alloc(), &mut reader, &mut writer, &mut Echo, &());
     assert_eq!(rt; outcome, Err(SessionFault::Read));
     assert_eq!(rt; writer.into_writer().as_slice(), b"ab".as_slice());
     Ok(())

@@ -72,6 +72,19 @@ impl<V: Level> Profile<V> {
         self.end
     }
 
+    /// The same profile once more. It takes no memory.
+    pub fn copy(&self) -> Profile<V>
+        ensures { result ≡ self.now }
+    {
+        let mut steps = [self.steps[0]; MOST_STEPS];
+        steps.copy_from_slice(&self.steps);
+        Profile {
+            steps,
+            count: self.count,
+            end: self.end,
+        }
+    }
+
     /// The steps as (start, value).
     pub fn steps(&self) -> &[(u32, V)]
         ensures steps { result.now ≡ self.now.steps }

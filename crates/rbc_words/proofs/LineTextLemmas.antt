@@ -2,6 +2,7 @@
 use Rattle.std.proofs.Common.{◌≡◌, ℕ, List, [], ◌∷◌, ◌++◌, refl, sym, ap, ◌∙◌, append_assoc, append-nil, drop, get_or, length, ◌<◌, ◌≤◌, ◌+◌, suc, add-one, drop-cons}
 use Rattle.std.proofs.lemmas.List.{at_drop_all}
 use Rattle.std.specs.Prelude.{codes, decimal}
+use Rattle.std.specs.Global.{Vec}
 use Rattle.std.specs.List.{flat_map, join_with_byte}
 use Rattle.std.proofs.lemmas.Grind.{flat_map-append}
 use Rattle.rbc_model.specs.declared.refusals.LineFault.TheVariants.{Overlong, NotText, Command, Words, Number, Name}
@@ -11,17 +12,14 @@ use Rattle.rbc_model.specs.Kinds.{Kind}
 use Rattle.rbc_model.specs.Profiles.{StepFunction}
 use Rattle.rbc_model.specs.StepsReply.{profile_line, packet_lines, refusal_reply, refusal_words, run_words}
 use Rattle.rbc_model.specs.Words.{line_of, hex_of}
+use Rattle.rbc_words.specs.PriceText.{prices_text}
 use Rattle.rbc_words.specs.Replies.{runs_text, track_text, certified_text}
+use Rattle.rbc_words.proofs.SpacedLemmas.{join_spaced}
 use Rattle.rbc_words.specs.declared.steps_reply.Certified.{Certified}
 
 -- a word behind a space
 abbrev spaced : List ℕ → List ℕ
 spaced word = 32 ∷ word
-
--- words of which each but the first stands behind a space
-join_spaced : (word : List ℕ) (words : List (List ℕ)) → join_with_byte 32 (word ∷ words) ≡ word ++ flat_map spaced words
-join_spaced word [] = sym (append-nil word)
-join_spaced word (next ∷ words) = ap (λ l. word ++ (32 ∷ l)) (join_spaced next words)
 
 -- runs as words behind spaces
 spaced_runs : {V : Type 0} (kind : Kind V) (runs : List (ℕ × V)) → flat_map spaced (run_words kind runs) ≡ runs_text kind runs
@@ -59,15 +57,20 @@ profile_line-is kind steps runs loss same =
     line_of_runs kind steps (codes "steps") (codes "loss") (decimal loss)
     ∙ ap (λ rs. codes "steps" ++ (runs_text kind rs ++ (codes " loss " ++ (decimal loss ++ 10 ∷ [])))) (sym same)
 
--- the lines of a certificate
-pub certified_text-is : {V : Type 0} (kind : Kind V) (certified : Certified V) (packet : List ℕ) → packet ≡ certified.packet.items
+-- the lines of a certificate, and of its packet
+pub certified_text-is : {V : Type 0} (kind : Kind V) (certified : Certified V) (rows : List (Vec ℕ)) (packet : List ℕ)
+    → rows ≡ certified.prices.items → packet ≡ certified.packet.items
     → certified_text kind certified
     ≡ track_text kind certified.limit certified.track
-    ++ (profile_line kind certified.profile.steps certified.loss ++ packet_lines packet)
-certified_text-is kind certified packet same =
+    ++ (profile_line kind certified.profile.steps certified.loss ++ (prices_text rows ++ packet_lines packet))
+certified_text-is kind certified rows packet same_rows same_packet =
     let track = track_text kind certified.limit certified.track in
     let profile = profile_line kind certified.profile.steps certified.loss in
-    append_assoc track profile (packet_lines certified.packet.items) ∙ ap (λ bytes. track ++ (profile ++ packet_lines bytes)) (sym same)
+    let prices = prices_text certified.prices.items in
+    append_assoc (track ++ profile) prices (packet_lines certified.packet.items)
+    ∙ append_assoc track profile (prices ++ packet_lines certified.packet.items)
+    ∙ ap (λ (table : List (Vec ℕ)). track ++ (profile ++ (prices_text table ++ packet_lines certified.packet.items))) (sym same_rows)
+    ∙ ap (λ bytes. track ++ (profile ++ (prices_text rows ++ packet_lines bytes))) (sym same_packet)
 
 -- the pieces of a run
 pub run_text-is : {V : Type 0} (kind : Kind V) (start number : ℕ) (value : V) → number ≡ start

@@ -12,7 +12,8 @@ use Rattle.rbc_model.specs.Results.{is_from_to, demand, allowed_value, ◌>>=◌
 use Rattle.rbc_model.specs.Kinds.{Kind, speed_kind, grade_kind}
 use Rattle.rbc_model.specs.Scales.{is_expressible}
 use Rattle.rbc_model.specs.Words.{number_in}
-use Rattle.rbc_model.specs.StepsText.{StepsRequest, StepsLine, Blank, Speed, Grade, run_in_word, runs_in, request_in, line_in, words_line}
+use Rattle.rbc_model.specs.RequestText.{line_in}
+use Rattle.rbc_model.specs.StepsText.{StepsRequest, StepsLine, Blank, Speed, Grade, run_in_word, runs_in, request_in, words_line}
 use Rattle.rbc_words.specs.declared.steps_request.StepsLine.{StepsLine as ReadLine}
 use Rattle.rbc_words.specs.StepsLines.{line_view, IsRequestInRange, IsLineInRange}
 

@@ -1,3 +1,5 @@
+pub mod PriceText
 pub mod Replies
+pub mod SessionLines
 pub mod StepsLines
 pub mod Values

@@ -4,6 +4,7 @@ use Rattle.std.specs.List.{flat_map}
 use Rattle.rbc_model.specs.Kinds.{Kind, speed_kind, grade_kind}
 use Rattle.rbc_model.specs.Profiles.{StepFunction}
 use Rattle.rbc_model.specs.StepsReply.{track_line, profile_line, packet_lines, refusal_reply}
+use Rattle.rbc_words.specs.PriceText.{prices_text}
 use Rattle.rbc_words.specs.declared.steps_reply.Certified.{Certified}
 use Rattle.rbc_words.specs.declared.steps_reply.StepsReply.{StepsReply}
 use Rattle.rbc_words.specs.declared.steps_reply.StepsReply.TheVariants.{Nothing, Refused, Speed, Grade}
@@ -16,11 +17,12 @@ runs_text kind runs = flat_map (λ run. 32 ∷ (decimal run.0 ++ 58 ∷ kind.pri
 abbrev pub track_text : {V : Type 0} → Kind V → ℕ → StepFunction V → List ℕ
 track_text kind limit track = track_line kind (record { limit = limit; runs = track.steps; end = track.end })
 
--- a certificate without prices, and its packet
+-- a certificate and its packet
 abbrev pub certified_text : {V : Type 0} → Kind V → Certified V → List ℕ
 certified_text kind certified =
     track_text kind certified.limit certified.track
     ++ profile_line kind certified.profile.steps certified.loss
+    ++ prices_text certified.prices.items
     ++ packet_lines certified.packet.items
 
 -- the text of a reply

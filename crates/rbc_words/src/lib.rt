@@ -1,16 +1,25 @@
-//! What the lines of `rbc steps` say, and how the replies to them are printed.
+//! What the lines of `rbc steps` and of a session say, and how replies are printed.
 #![tactic(auto)]
 
+mod price_table;
 mod printing;
+mod session_request;
 mod spelled;
 mod steps_reply;
 mod steps_request;
 mod words;
 
+pub use price_table::print_table;
 pub use printing::{print_hex, print_number, print_signed};
 pub use rbc_model::{LineFault, OrMemory, StepsRefusal};
 pub use rbc_streams::{Advance, LineReader, SessionFault, Sink, Source, Stream, WriteFailed};
+pub use session_request::{Request, parse};
 pub use spelled::Spelled;
-pub use steps_reply::{Certified, StepsReply, print};
-pub use steps_request::{StepsLine, StepsRequest, parse_steps};
-pub use words::{around_colon, integer, is_blank, is_text, next_word, number, without_return};
+pub use steps_reply::{
+    Certified, StepsReply, print, print_last, print_profile, print_refusal, print_track,
+};
+pub use steps_request::{StepsLine, StepsRequest, parse_steps, request_in};
+pub use words::{
+    around, integer, is_blank, is_text, next_word, number, number_at, number_from_to, only_word,
+    request_text, take_word, without_return,
+};

@@ -25,7 +25,7 @@ pub fn print_number<W: Sink>(number: u64, writer: &mut W) -> Result<(), WriteFai
 /// # Errors
 ///
 /// `WriteFailed`, where the writer fails. Then a part of the text stands, from its start.
-pub fn print_signed<W: Sink>(number: i16, writer: &mut W) -> Result<(), WriteFailed>
+pub fn print_signed<W: Sink>(number: i64, writer: &mut W) -> Result<(), WriteFailed>
     requires { W.failed writer.old ≡ false }
     ensures { Prints (W.written writer.old) (W.written writer.new) (W.failed writer.new)
         (signed_decimal number) result }

@@ -68,7 +68,7 @@ impl Spelled for Grade {
     }
 
     fn print<W: Sink>(self, writer: &mut W) -> Result<(), WriteFailed> {
-        print_signed(self.per_mille(), writer)
+        print_signed(i64::from(self.per_mille()), writer)
     }
 
     ghost same_levels = { refl };

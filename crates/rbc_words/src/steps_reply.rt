@@ -7,12 +7,13 @@ ghost use Rattle.rbc_model.specs.StepsReply.{fault_words, refusal_words, refusal
 ghost use Rattle.rbc_model.specs.StepsReply.{profile_line, packet_lines};
 ghost use Rattle.rbc_words.specs.Replies.{runs_text, track_text, certified_text, reply_text};
 
-use crate::{Spelled, print_hex, print_number};
+use crate::{Spelled, print_hex, print_number, print_table};
 use rbc_model::{LineFault, StepsRefusal};
 use rbc_steps::{Grade, Profile, Runs, Speed};
 use rbc_streams::{Sink, WriteFailed, put};
 
-/// A track with a profile of it, what the profile loses, and the packet that holds it.
+/// A track with a profile of it, what the profile loses, the prices that show that none loses less, and the packet
+/// that holds it.
 #[derive(Drop)]
 pub struct Certified<V: Spelled> {
     /// How many steps the packet may have, 1 to 31.
@@ -23,6 +24,8 @@ pub struct Certified<V: Spelled> {
     pub profile: Profile<V>,
     /// What the profile loses, summed over all metres: km/h, or per mille.
     pub loss: u64,
+    /// The table of prices: a row for each number of steps from 1.
+    pub prices: Vec<Vec<u64>>,
     /// The packet.
     pub packet: Vec<u8>,
 }
@@ -57,7 +60,12 @@ pub fn print<W: Sink>(reply: &StepsReply, writer: &mut W) -> Result<(), WriteFai
     }
 }
 
-fn print_refusal<W: Sink>(refusal: StepsRefusal, writer: &mut W) -> Result<(), WriteFailed>
+/// Writes the reply to a line that is refused.
+///
+/// # Errors
+///
+/// `WriteFailed`, where the writer fails. Then a part of the text stands, from its start.
+pub fn print_refusal<W: Sink>(refusal: StepsRefusal, writer: &mut W) -> Result<(), WriteFailed>
     requires { W.failed writer.old ≡ false }
     ensures { Prints (W.written writer.old) (W.written writer.new) (W.failed writer.new)
         (refusal_reply refusal) result }
@@ -95,7 +103,11 @@ fn print_fault<W: Sink>(fault: LineFault, writer: &mut W) -> Result<(), WriteFai
 }
 
 /// Writes the number at the end of a line, behind what it is.
-fn print_last<W: Sink>(name: &[u8], number: u64, writer: &mut W) -> Result<(), WriteFailed>
+///
+/// # Errors
+///
+/// `WriteFailed`, where the writer fails. Then a part of the text stands, from its start.
+pub fn print_last<W: Sink>(name: &[u8], number: u64, writer: &mut W) -> Result<(), WriteFailed>
     requires { W.failed writer.old ≡ false }
     ensures { Prints (W.written writer.old) (W.written writer.new) (W.failed writer.new)
         (name.now ++ (decimal number ++ 10 ∷ [])) result }
@@ -115,10 +127,16 @@ fn print_certified<V: Spelled, W: Sink>(
 {
     print_track(certified.limit, &certified.track, writer)?;
     print_profile(&certified.profile, certified.loss, writer)?;
+    print_table(certified.prices.as_slice(), writer)?;
     print_packet(certified.packet.as_slice(), writer)
 }
 
-fn print_track<V: Spelled, W: Sink>(
+/// Writes the line of a track, with the limit of steps.
+///
+/// # Errors
+///
+/// `WriteFailed`, where the writer fails. Then a part of the text stands, from its start.
+pub fn print_track<V: Spelled, W: Sink>(
     limit: usize,
     track: &Runs<V>,
     writer: &mut W,
@@ -142,7 +160,12 @@ fn print_command<V: Spelled, W: Sink>(limit: usize, writer: &mut W) -> Result<()
     print_number(limit as u64, writer)
 }
 
-fn print_profile<V: Spelled, W: Sink>(
+/// Writes the line of a profile, with what it loses, summed over all metres: km/h, or per mille.
+///
+/// # Errors
+///
+/// `WriteFailed`, where the writer fails. Then a part of the text stands, from its start.
+pub fn print_profile<V: Spelled, W: Sink>(
     profile: &Profile<V>,
     loss: u64,
     writer: &mut W,

@@ -3,16 +3,14 @@
 ghost use Rattle.std.specs.Prelude.{◌≡◌, nat_le, IfOk, IsOk, IsErrOf, length};
 ghost use Rattle.std.specs.Result.{IsOkAnd};
 ghost use Rattle.rbc_model.specs.declared.places.Format.TheVariants.{Near};
-ghost use Rattle.rbc_model.specs.declared.refusals.LineFault.TheVariants.{Number};
 ghost use Rattle.rbc_model.specs.Answers.{AnswersAs};
-ghost use Rattle.rbc_model.specs.Results.{is_from_to, allowed_value};
-ghost use Rattle.rbc_model.specs.Words.{words_of, number_in};
+ghost use Rattle.rbc_model.specs.Words.{words_of};
 ghost use Rattle.rbc_model.specs.StepsText.{run_in_word, runs_in, request_in, words_line, parse_steps};
 ghost use Rattle.rbc_words.specs.StepsLines.{request_view, line_view, IsRequest, IsLineInRange};
 
 use crate::spelled::Spelled;
-use crate::words::{around_colon, is_blank, is_text, next_word, number, without_return};
-use rbc_model::limits::{FARTHEST_END, LONGEST_LINE, LONGEST_TRACK, MOST_STEPS};
+use crate::words::{around, next_word, number_at, request_text};
+use rbc_model::limits::{FARTHEST_END, LONGEST_TRACK, MOST_STEPS};
 use rbc_model::{LineFault, OrMemory};
 use rbc_steps::{Grade, Level, Speed};
 use std::alloc::Global;
@@ -57,17 +55,10 @@ pub fn parse_steps(alloc: Global, line: &[u8]) -> Result<StepsLine, OrMemory<Lin
     ensures memory { IsErrOf result OrMemory.Memory → IsOkAnd (parse_steps Near line.now) IsRequest }
     ensures in_range { IfOk result (λ line. IsLineInRange (line_view line)) }
 {
-    if line.len() > LONGEST_LINE {
-        return Err(OrMemory::Refused(LineFault::Overlong));
+    match request_text(line)? {
+        Some(text) => words_line(alloc, text),
+        None => Ok(StepsLine::Blank),
     }
-    let text = without_return(line);
-    if is_blank(text) {
-        return Ok(StepsLine::Blank);
-    }
-    if !is_text(text) {
-        return Err(OrMemory::Refused(LineFault::NotText));
-    }
-    words_line(alloc, text)
 }
 
 /// What the words of a text say, the first of them a command.
@@ -84,7 +75,11 @@ fn words_line(alloc: Global, text: &[u8]) -> Result<StepsLine, OrMemory<LineFaul
 }
 
 /// The request in the words behind its command: the limit, at least one run, the word `end`, and the end.
-fn request_in<V: Spelled>(
+///
+/// # Errors
+///
+/// As of [`parse_steps`], from `Words` on.
+pub fn request_in<V: Spelled>(
     alloc: Global,
     words: &[u8],
 ) -> Result<StepsRequest<V>, OrMemory<LineFault>>
@@ -93,7 +88,7 @@ fn request_in<V: Spelled>(
 {
     match next_word(words) {
         Some((limit, rest)) if has_words(rest, 3) => {
-            let limit = number_from_to(2, limit, 1, MOST_STEPS as u32)?;
+            let limit = number_at(2, limit, 1, MOST_STEPS as u32)?;
             runs_in(alloc, limit as usize, rest)
         }
         _ => Err(OrMemory::Refused(LineFault::Words)),
@@ -144,7 +139,7 @@ fn runs_in<V: Spelled>(
     if word != b"end".as_slice() {
         return Err(OrMemory::Refused(LineFault::Name(index)));
     }
-    let end = number_from_to(index + 1, next, 1, FARTHEST_END)?;
+    let end = number_at(index + 1, next, 1, FARTHEST_END)?;
     if refused {
         return Err(OrMemory::Memory);
     }
@@ -155,25 +150,16 @@ fn runs_in<V: Spelled>(
 fn run_in_word<V: Spelled>(index: usize, word: &[u8]) -> Result<(u32, V), LineFault>
     ensures { result ≡ run_in_word V.kind index word.now }
 {
-    let (start, value) = around_colon(word);
-    let start = number_from_to(index, start, 0, LONGEST_TRACK)?;
+    let (start, value) = around(word, b':');
+    let start = number_at(index, start, 0, LONGEST_TRACK)?;
     let value = V::read(value).ok_or(LineFault::Number(index))?;
     Ok((start, value))
-}
-
-/// The number that word `index` writes, if it lies in this range, both ends allowed.
-fn number_from_to(index: usize, word: &[u8], low: u32, high: u32) -> Result<u32, LineFault>
-    ensures { result ≡ allowed_value (is_from_to low high) (Number index) (number_in word.now) }
-{
-    match number(word) {
-        Some(value) if value >= u64::from(low) && value <= u64::from(high) => Ok(value as u32),
-        _ => Err(LineFault::Number(index)),
-    }
 }
 
 #[cfg(test)]
 mod tests {
     use super::*;
+    use rbc_model::limits::LONGEST_LINE;
     use std::test::*;
 
     #[test]
@@ -231,7 +217,8 @@ mod tests {
 
     #[test]
     fn faults(rt: HostRuntime) {
-        let lines: [(&[u8], LineFault); 25] = [
+        let lines: [(&[u8], LineFault); 26] = [
+            (b"ask 1", LineFault::Command),
             (b"\x80", LineFault::NotText),
             (b"speed\t2 0:160 end 300", LineFault::NotText),
             (b"speed 2 0:160 end 300\r\r", LineFault::NotText),

@@ -1,8 +1,16 @@
 //! Lines of text: their words, and the numbers among these.
 
-ghost use Rattle.std.specs.Prelude.{◌≡◌, ◌==◌, ◌<◌, ◌≤◌, not, ◌^◌, [], ◌∷◌, MatchOption, IfSome, length};
+ghost use Rattle.std.specs.Prelude.{◌≡◌, ◌==◌, ◌<◌, ◌≤◌, not, ◌^◌, [], ◌∷◌, length};
+ghost use Rattle.std.specs.Prelude.{Some, None, Ok, Err, MatchOption, MatchResult, IfSome, IfOk};
 ghost use Rattle.std.specs.List.{position_or_len, before_first, after_first};
+ghost use Rattle.rbc_model.specs.declared.refusals.LineFault.TheVariants.{Words};
+ghost use Rattle.rbc_model.specs.RequestText.{request_words, number_at};
+ghost use Rattle.rbc_model.specs.Results.{is_from_to, allowed_value};
+ghost use Rattle.rbc_model.specs.SessionText.{only_word};
 ghost use Rattle.rbc_model.specs.Words.{without_return, words_of, is_blank, is_text, number_in, integer_in};
+
+use rbc_model::LineFault;
+use rbc_model::limits::LONGEST_LINE;
 
 /// A line without the carriage return at its end, if it has one.
 pub fn without_return(line: &[u8]) -> &[u8]
@@ -47,6 +55,34 @@ pub fn next_word(text: &[u8]) -> Option<(&[u8], &[u8])>
     Some(words.split_at(length_before(words, b' ')))
 }
 
+/// The first of the words that are left, and those behind it.
+///
+/// # Errors
+///
+/// `Words`, where none is left.
+pub fn take_word(words: &[u8]) -> Result<(&[u8], &[u8]), LineFault>
+    ensures { MatchResult result (λ found. words_of words.now ≡ found.0.now ∷ words_of found.1.now)
+        (λ fault. (fault ≡ Words) × (words_of words.now ≡ [])) }
+{
+    next_word(words).ok_or(LineFault::Words)
+}
+
+/// The only word that is left.
+///
+/// # Errors
+///
+/// `Words`, where none is left or more than one.
+pub fn only_word(words: &[u8]) -> Result<&[u8], LineFault>
+    ensures { MatchResult result (λ word. words_of words.now ≡ word.now ∷ [])
+        (λ fault. only_word (words_of words.now) ≡ Err fault) }
+{
+    let (word, rest) = take_word(words)?;
+    match next_word(rest) {
+        None => Ok(word),
+        Some(_) => Err(LineFault::Words),
+    }
+}
+
 /// Whether a line has no word, or its first word begins with `#`.
 pub fn is_blank(text: &[u8]) -> bool
     ensures { result ≡ is_blank (words_of text.now) }
@@ -64,16 +100,42 @@ pub fn is_text(text: &[u8]) -> bool
     text.iter().all(|byte| *byte >= 0x20 && *byte <= 0x7e)
 }
 
-/// What stands before the first colon of a word, and what behind it: nothing, if there is no colon.
-pub fn around_colon(word: &[u8]) -> (&[u8], &[u8])
-    ensures before { result.0.now ≡ before_first (λ byte. byte == 58) word.now }
-    ensures after { result.1.now ≡ after_first (λ byte. byte == 58) word.now }
+/// The text of a line, without its line feed, in which a request stands: none, if the line is blank or a comment,
+/// which may hold any bytes.
+///
+/// # Errors
+///
+/// - `Overlong`: the line has more than 4,096 bytes, a carriage return counted.
+/// - `NotText`: a byte is no space and no visible character of ASCII.
+pub fn request_text(line: &[u8]) -> Result<Option<&[u8]>, LineFault>
+    ensures { MatchResult result
+        (λ found. MatchOption found (request_words line.now ≡ Ok None)
+        (λ text. request_words line.now ≡ Ok (Some (words_of text.now))))
+        (λ fault. request_words line.now ≡ Err fault) }
 {
-    let colon = length_before(word, b':');
-    if colon == word.len() {
+    if line.len() > LONGEST_LINE {
+        return Err(LineFault::Overlong);
+    }
+    let text = without_return(line);
+    if is_blank(text) {
+        return Ok(None);
+    }
+    if !is_text(text) {
+        return Err(LineFault::NotText);
+    }
+    Ok(Some(text))
+}
+
+/// What stands before the first mark in a word, and what behind it: nothing, if there is no mark.
+pub fn around(word: &[u8], mark: u8) -> (&[u8], &[u8])
+    ensures before { result.0.now ≡ before_first (λ byte. byte == mark) word.now }
+    ensures after { result.1.now ≡ after_first (λ byte. byte == mark) word.now }
+{
+    let place = length_before(word, mark);
+    if place == word.len() {
         return (word, &[]);
     }
-    (&word[..colon], &word[colon + 1..])
+    (&word[..place], &word[place + 1..])
 }
 
 /// The number that a word of one to ten digits writes.
@@ -104,6 +166,33 @@ pub fn integer(word: &[u8]) -> Option<i64>
     }
 }
 
+/// The number that a word writes, if it lies in this range, both ends allowed.
+///
+/// # Errors
+///
+/// The fault given, where it is no number or lies elsewhere.
+pub fn number_from_to(word: &[u8], low: u32, high: u32, fault: LineFault) -> Result<u32, LineFault>
+    ensures value { result ≡ allowed_value (is_from_to low high) fault (number_in word.now) }
+    ensures range { IfOk result (λ value. (low ≤ value) × (value ≤ high)) }
+{
+    match number(word) {
+        Some(value) if value >= u64::from(low) && value <= u64::from(high) => Ok(value as u32),
+        _ => Err(fault),
+    }
+}
+
+/// The number that word `index` writes, if it lies in this range, both ends allowed.
+///
+/// # Errors
+///
+/// `Number`, where it is no number or lies elsewhere.
+pub fn number_at(index: usize, word: &[u8], low: u32, high: u32) -> Result<u32, LineFault>
+    ensures value { result ≡ number_at index low high word.now }
+    ensures range { IfOk result (λ value. (low ≤ value) × (value ≤ high)) }
+{
+    number_from_to(word, low, high, LineFault::Number(index))
+}
+
 #[cfg(test)]
 mod tests {
     use super::*;
@@ -114,8 +203,8 @@ mod tests {
         let (first, rest) = next_word(b"  one  0:1:2 ").ok_or("it has a first word")?;
         let (second, rest) = next_word(rest).ok_or("it has a second word")?;
         assert_eq!(rt; first, b"one".as_slice());
-        assert!(rt; matches!(around_colon(second), (b"0", b"1:2")));
-        assert!(rt; matches!(around_colon(first), (b"one", b"")));
+        assert!(rt; matches!(around(second, b':'), (b"0", b"1:2")));
+        assert!(rt; matches!(around(first, b':'), (b"one", b"")));
         assert!(rt; next_word(rest).is_none());
         assert_eq!(rt; without_return(b"go\r\r"), b"go\r".as_slice());
         assert!(rt; is_blank(b"  #go") && !is_blank(b"  go #"));

@@ -91,6 +91,10 @@ fn certificate(alloc: Global) -> Result<StepsReply, Fail> {
         track: Runs::new(runs, 300)?,
         profile: Profile::new(&[(0, slow), (150, fast)], 300)?,
         loss: 4000,
+        prices: vec![in alloc;
+            Vec::from_slice(alloc, &[0, 4_000, 10_000])?,
+            Vec::from_slice(alloc, &[0, 0, 4_000])?,
+        ]?,
         packet: Vec::from_slice(
             alloc,
             b"\x1b\x40\xe4\x80\x00\x30\x00\x80\x4b\x20\x00\x04\xb7\xf0\x00",
@@ -100,6 +104,8 @@ fn certificate(alloc: Global) -> Result<StepsReply, Fail> {
 
 const CERTIFICATE: &[u8] = b"speed 2 0:160 100:120 150:160 end 300
 steps 0:120 150:160 loss 4000
+prices 1 0 4000 10000
+prices 2 0 0 4000
 packet 1b40e480003000804b200004b7f000
 done
 ";

@@ -1,6 +1,5 @@
-use Rattle.std.proofs.Common.{arith, length-set, ◌≡◌, ℕ, ◌+◌, ◌-◌, ◌*◌, ◌<◌, ◌≤◌, true, false, refl, ap, sym, ◌∙◌, length, get_or, subst}
+use Rattle.std.proofs.Common.{arith, length-set, ◌≡◌, ℕ, ◌+◌, ◌-◌, ◌*◌, ◌<◌, ◌≤◌, true, false, ap, sym, ◌∙◌, length, get_or, subst}
 use Rattle.std.proofs.lemmas.List.{get_or-set_other}
-use Rattle.rbc_model.specs.Levels.{IsInRange}
 use Rattle.rbc_reduce.specs.Breaks.{IsLowest, lost_below, cost_between}
 use Rattle.rbc_reduce.proofs.BreakLemmas.{run_at}
 use Rattle.rbc_reduce.proofs.LowestLemmas.{lowest_here, lowest_at, lowest_lower, lowest_cost, lost_by_floor, cost_at, flat_same, flat_before, fallen_before, up_to_end, rises_to, floor_in_range, floor_below, least_in_range, written_more, small_more}

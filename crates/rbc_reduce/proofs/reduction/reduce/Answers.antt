@@ -8,18 +8,18 @@ use Rattle.rbc_reduce.proofs.reduction.reduce.Given.{Over}
 use Rattle.rbc_reduce.proofs.reduction.reduce.Goals as goal
 use Rattle.rbc_reduce.proofs.reduction.reduce.Goals.{After-new}
 
-pub fill-requires-clause-breaks : goal.fill-requires-clause-breaks
-fill-requires-clause-breaks g c κs within =
+pub columns_of-requires-clause-breaks : goal.columns_of-requires-clause-breaks
+columns_of-requires-clause-breaks g c κs within =
     are_breaks g.V.Level.levels c.args.track.now.end c.args.track.now.steps c.end-end.ensures.track c.deref.result.now (c.deref.ensures.value ∙ c.in_ok-breaks.ensures)
 
 pub steps_of-requires-clause-breaks : goal.steps_of-requires-clause-breaks
 steps_of-requires-clause-breaks g c κs within =
-    are_breaks g.V.Level.levels c.args.track.now.end c.args.track.now.steps c.end-end.ensures.track c.deref-2.result.now (c.deref-2.ensures.value ∙ c.in_ok-breaks.ensures)
+    are_breaks g.V.Level.levels c.args.track.now.end c.args.track.now.steps c.end-end.ensures.track c.deref-3.result.now (c.deref-3.ensures.value ∙ c.in_ok-breaks.ensures)
 
 pub steps_of-requires-clause-wide : goal.steps_of-requires-clause-wide
 steps_of-requires-clause-wide g c κs within = record {
   width = length c.args.track.now.steps;
-  wide = rw c.deref-3.ensures.value c.in_ok-prices.ensures.wide;
+  wide = rw c.deref-5.ensures.value c.in_ok-prices.ensures.wide;
   room = omega arith;
 }
 
@@ -28,16 +28,16 @@ chosen_here : (g : Over) (c : After-new g)
     → IsChosenProfile g.V.Level.levels 1 c.args.limit c.args.track.now.end (value_at c.args.track.now.steps) c.in_ok-steps.steps.items
 chosen_here g c =
     let level = g.met.V.Level g.world.𝓛 g.world.𝓜 g.world.𝓡 ((λ s x. x), (λ x. x), (λ x. x), λ x. x) in
-    let read = rw c.deref-3.ensures.value at c.in_ok-steps.ensures in
+    let read = rw c.deref-5.ensures.value at c.in_ok-steps.ensures in
     read_off_are_chosen g.V.Level.levels level.lawful 1 c.args.limit c.args.track.now.end (omega arith) (omega arith) c.args.track.now.steps c.end-end.ensures.track
     (prices_of c.in_ok-prices.prices.items) c.in_ok-prices.ensures.table c.in_ok-steps.steps.items read
 
 made_here : (g : Over) (c : After-new g) → c.new.result ≡ Ok (record { steps = c.in_ok-steps.steps.items; end = c.args.track.now.end })
 made_here g c =
-    let same : c.new.result ≡ profile_of g.V.Level.levels c.args.track.now.end c.deref-4.result.now =
-    c.new.ensures ∙ ap (λ n. profile_of g.V.Level.levels n c.deref-4.result.now) c.end-end.ensures.end in
-    made_of g.V.Level.levels c.args.limit c.args.track.now.end c.in_ok-steps.steps.items c.deref-4.result.now c.new.result
-    (chosen_here g c).best.fits.profile c.requires.few c.end-end.ensures.within_limit c.deref-4.ensures.value same
+    let same : c.new.result ≡ profile_of g.V.Level.levels c.args.track.now.end c.deref-6.result.now =
+    c.new.ensures ∙ ap (λ n. profile_of g.V.Level.levels n c.deref-6.result.now) c.end-end.ensures.end in
+    made_of g.V.Level.levels c.args.limit c.args.track.now.end c.in_ok-steps.steps.items c.deref-6.result.now c.new.result
+    (chosen_here g c).best.fits.profile c.requires.few c.end-end.ensures.within_limit c.deref-6.ensures.value same
 
 pub unreachable-requires : goal.unreachable-requires
 unreachable-requires g c =

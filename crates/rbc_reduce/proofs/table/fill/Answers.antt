@@ -1,75 +1,73 @@
-use Rattle.std.proofs.Common.{arith, ◌≡◌, ℕ, suc, ◌+◌, ◌-◌, ◌<◌, ◌≤◌, ap, sym, ◌∙◌, length, take, get_or}
-use Rattle.std.specs.Vec.{with_items}
-use Rattle.std.proofs.lemmas.List.{with_items_is, get_or-take, length-take-le}
-use Rattle.rbc_reduce.specs.Breaks.{cost_between}
-use Rattle.rbc_reduce.proofs.LowestLemmas.{up_to_end}
-use Rattle.rbc_reduce.proofs.RowLemmas.{filled_more, filled_is_greatest, take_small}
+use Rattle.std.proofs.Common.{arith, ◌≡◌, ℕ, ◌-◌, ◌<◌, ◌++◌, ◌∷◌, [], refl, ap, ◌∙◌, length, get_or, min}
+use Rattle.rbc_model.specs.Profiles.{starts_of}
+use Rattle.rbc_steps.proofs.PlaceLemmas.{first_at_zero}
+use Rattle.rbc_reduce.specs.Rows.{IsCheapest, price_in, price_up_to}
+use Rattle.rbc_reduce.proofs.BreakLemmas.{are_breaks, there_at}
+use Rattle.rbc_reduce.proofs.RowLemmas.{columns_are_costs, columns_fit, row_width, first_small, first_filled, next_small, next_filled, wide_one, small_one, wide_push, small_push, last_row, small_last, filled_is_greatest, some_min}
 use Rattle.rbc_reduce.proofs.table.fill.Given.{Over}
 use Rattle.rbc_reduce.proofs.table.fill.Goals as goal
-use Rattle.rbc_reduce.proofs.table.fill.Goals.{After-deref}
+use Rattle.rbc_reduce.proofs.table.fill.Goals.{After-as_slice}
 
-pub costs_on-requires-clause-costs : goal.costs_on-requires-clause-costs
-costs_on-requires-clause-costs g c κs within = λ i h.
-    let last : c.loop-last.last + 1 - 1 ≡ c.loop-last.last = omega arith in
-    rw (last, c.as_mut_slice.ensures.value) (c.loop-last.invariant.5 i (omega arith))
+pub loop-steps-init : goal.loop-steps-init
+loop-steps-init g c =
+    let row = c.in_ok-first_row.field-0 in
+    let items : c.push.new.self.items ≡ c.in_ok-first_row.field-0 ∷ [] = c.in_ok-push.ensures.items ∙ ap (λ rows. rows ++ c.in_ok-first_row.field-0 ∷ []) c.in_ok-rows.ensures.items in
+    let width = row_width g.V.Level.levels c.args.track.now c.args.columns.now c.requires.columns (λ column price. price ≡ get_or column.items 0 0) row.items c.in_ok-first_row.ensures in (
+      ap length items,
+      rw items (wide_one (length c.args.track.now.steps) row width),
+      rw items (small_one row (first_small g.V.Level.levels c.args.track.now c.args.columns.now c.requires.columns row c.in_ok-first_row.ensures)),
+      rw items (first_filled g.V.Level.levels c.args.track.now c.args.columns.now c.requires.columns row c.in_ok-first_row.ensures),
+    )
 
--- the costs that are handed on
-costs_are : (g : Over) (c : After-deref g) → c.deref.result.now ≡ c.costs_on.new.costs
-costs_are g c = c.deref.ensures.value ∙ with_items_is c.loop-last.costs c.costs_on.new.costs (omega arith)
+-- the row before, as it is handed on
+before_is : (g : Over) (c : After-as_slice g) → c.as_slice.result.now ≡ (get_or c.loop-steps.rows.items (c.loop-steps.steps - 1) c.index.result.now).items
+before_is g c = c.as_slice.ensures.value ∙ ap (λ row. row.items) c.index.ensures
 
-width_is : (g : Over) (c : After-deref g) → length (take (c.loop-last.last + 1) c.deref.result.now) ≡ suc c.loop-last.last
-width_is g c =
-    let costs : length c.loop-last.costs.items ≡ length c.runs-runs.result.now = c.loop-last.invariant.1 in
-    let same = ap length c.deref.ensures.value in
-    let width : c.loop-last.last + 1 ≤ length c.deref.result.now = omega (arith, ap length (costs_are g c)) in
-    length-take-le (c.loop-last.last + 1) c.deref.result.now width ∙ omega arith
+last_here : (g : Over) (c : After-as_slice g) (i : ℕ) → price_up_to c.as_slice.result.now i ≡ price_in c.loop-steps.rows.items (length c.loop-steps.rows.items) i
+last_here g c =
+    let count = c.loop-steps.invariant.0 in
+    last_row c.loop-steps.rows.items c.index.result.now c.as_slice.result.now (c.loop-steps.steps - 1) (omega arith) (before_is g c)
 
-pub write_column-requires-clause-room : goal.write_column-requires-clause-room
-write_column-requires-clause-room g c =
-    let there = goal.at.write_column-requires-clause-room g c in
-    let wide = rw (← c.as_mut_slice-in-loop-last.ensures.value) at c.loop-last.invariant.2 in
-    record { width = length c.runs-runs.result.now; wide = wide; room = omega (arith, width_is g there.After-deref) }
+width_here : (g : Over) (c : After-as_slice g) → length c.as_slice.result.now ≡ length c.args.track.now.steps
+width_here g c =
+    let count = c.loop-steps.invariant.0 in
+    ap length (before_is g c) ∙ c.loop-steps.invariant.1 (c.loop-steps.steps - 1) _ (there_at c.loop-steps.rows.items (c.loop-steps.steps - 1) c.index.result.now (omega arith))
 
-pub write_column-requires-clause-small_costs : goal.write_column-requires-clause-small_costs
-write_column-requires-clause-small_costs g c =
-    let there = (goal.at.write_column-requires-clause-small_costs g c).After-deref in
-    let end = up_to_end c.args.track.now c.args.breaks.now c.requires.breaks (c.loop-last.last + 1) (omega (arith, ap length c.runs-runs.ensures.runs)) in
-    take_small c.deref.result.now (c.loop-last.last + 1) 100000000000 (λ i h.
-    let bound = c.costs_on.ensures.bound i h in
-    let same : get_or c.deref.result.now i 0 ≡ get_or c.costs_on.new.costs i 0 = ap (λ costs. get_or costs i 0) (costs_are g there) in
-    omega arith)
+pub next_row-requires-clause-columns : goal.next_row-requires-clause-columns
+next_row-requires-clause-columns g c κs within = columns_are_costs g.V.Level.levels c.args.track.now c.args.columns.now c.requires.columns
 
-pub loop-last-preserved : goal.loop-last-preserved
-loop-last-preserved g c =
-    let there = (goal.at.loop-last-preserved g c).After-deref in
-    let i = c.loop-last.invariant in
-    let old_is : c.as_mut_slice-in-loop-last.result.now ≡ c.loop-last.rows.items = c.as_mut_slice-in-loop-last.ensures.value in
-    let new = c.write_column.new.rows in
-    let rows_are : (with_items c.loop-last.rows new).items ≡ new = with_items_is c.loop-last.rows new (omega arith) in
-    let costs_now : (with_items c.loop-last.costs c.costs_on.new.costs).items ≡ c.costs_on.new.costs = with_items_is c.loop-last.costs c.costs_on.new.costs (omega arith) in
-    let column = rw old_is at c.write_column.ensures.column in
-    let count = column.count in
-    let some : 0 < length c.loop-last.rows.items = omega arith in
-    let next : suc c.loop-last.last ≡ c.loop-last.last + 1 = omega arith in
-    let are : (k : ℕ) → k < suc c.loop-last.last → get_or (take (c.loop-last.last + 1) c.deref.result.now) k 0 ≡ cost_between g.V.Level.levels c.args.track.now k (suc c.loop-last.last) =
-    λ k h. get_or-take (c.loop-last.last + 1) c.deref.result.now k 0 (omega arith) ∙ ap (λ costs. get_or costs k 0) (costs_are g there)
-    ∙ c.costs_on.ensures.costs k (omega arith) ∙ ap (cost_between g.V.Level.levels c.args.track.now k) (sym next) in
-    let filled = filled_more g.V.Level.levels c.args.track.now c.loop-last.rows.items new _ c.loop-last.last some i.4 column (width_is g there) are in (
-      ap length rows_are ∙ count ∙ i.0,
-      ap length costs_now ∙ omega arith,
-      rw rows_are (c.write_column.ensures.wide (length c.runs-runs.result.now) (rw old_is i.2)),
-      rw rows_are c.write_column.ensures.small,
-      rw (rows_are, ← next) filled,
-      (λ k h. ap (λ costs. get_or costs k 0) costs_now ∙ c.costs_on.ensures.costs k h),
-      λ k h. rw costs_now (c.costs_on.ensures.bound k h),
+pub next_row-requires-clause-room : goal.next_row-requires-clause-room
+next_row-requires-clause-room g c κs within =
+    columns_fit g.V.Level.levels c.args.track.now c.args.columns.now c.requires.columns c.as_slice.result.now (width_here g (goal.at.next_row-requires-clause-room g c).After-as_slice)
+
+pub next_row-requires-clause-small : goal.next_row-requires-clause-small
+next_row-requires-clause-small g c κs within =
+    small_last c.loop-steps.rows.items c.as_slice.result.now c.loop-steps.invariant.2 (last_here g (goal.at.next_row-requires-clause-small g c).After-as_slice)
+
+pub loop-steps-preserved : goal.loop-steps-preserved
+loop-steps-preserved g c =
+    let there = (goal.at.loop-steps-preserved g c).After-as_slice in
+    let i = c.loop-steps.invariant in
+    let row = c.in_ok-row.row in
+    let count = i.0 in
+    let some : 0 < length c.loop-steps.rows.items = omega arith in
+    let more : c.push-in-loop-steps.new.self.items ≡ c.loop-steps.rows.items ++ c.in_ok-row.row ∷ [] = c.in_ok-push-2.ensures.items in
+    let width = row_width g.V.Level.levels c.args.track.now c.args.columns.now c.requires.columns
+    (λ column price. IsCheapest (price_up_to c.as_slice.result.now) column.items (length column.items) price) row.items c.in_ok-row.ensures in (
+      omega (arith, c.in_ok-push-2.ensures.len),
+      rw more (wide_push (length c.args.track.now.steps) c.loop-steps.rows.items row i.1 width),
+      rw more (small_push c.loop-steps.rows.items row (next_small g.V.Level.levels c.args.track.now c.args.columns.now c.requires.columns c.as_slice.result.now row c.in_ok-row.ensures) i.2),
+      rw more (next_filled g.V.Level.levels c.args.track.now c.args.columns.now c.requires.columns c.as_slice.result.now row c.in_ok-row.ensures c.loop-steps.rows.items some (last_here g there) i.3),
     )
 
 pub returns-clause-table : goal.returns-clause-table
 returns-clause-table g c =
-    let i = c.loop-last.invariant in
-    let runs : length c.runs-runs.result.now ≡ length c.args.track.now.steps = ap length c.runs-runs.ensures.runs in
-    let last : c.loop-last.last ≡ length c.args.track.now.steps = omega arith in
-    let count = rw runs at i.0 in
-    let wide = rw runs at i.2 in
-    let filled = rw last at i.4 in
-    filled_is_greatest g.V.Level.levels c.args.track.now c.args.limit c.args.breaks.now c.requires.breaks c.loop-last.rows.items count wide filled
+    let i = c.loop-steps.invariant in
+    let same = i.0 in
+    let runs : length c.runs.result.now ≡ length c.args.track.now.steps = ap length c.runs.ensures.runs in
+    let some_run = (first_at_zero c.args.track.now.steps c.runs.ensures.track.starts.rising).0 in
+    let rows : c.min-count.result ≡ min c.args.limit (length c.args.track.now.steps) = c.min-count.ensures ∙ ap (min c.args.limit) runs in
+    let some_row = some_min c.args.limit (length c.args.track.now.steps) c.requires.limit (omega arith) in
+    let count : length c.loop-steps.rows.items ≡ c.min-count.result = omega arith in
+    let breaks = are_breaks g.V.Level.levels c.args.track.now.end c.args.track.now.steps c.runs.ensures.track (starts_of c.args.track.now.steps ++ c.args.track.now.end ∷ []) refl in
+    filled_is_greatest g.V.Level.levels c.args.track.now c.args.limit _ breaks c.loop-steps.rows.items (count ∙ rows) i.1 i.3

@@ -1,15 +1,14 @@
 use Rattle.std.proofs.Common.{arith, ◌≡◌, ◌≢◌, ℕ, suc, ◌+◌, ◌-◌, ◌<◌, ◌++◌, ◌∷◌, [], refl, ap, sym, ◌∙◌, subst, length, get_or}
-use Rattle.std.specs.Vec.{with_items}
-use Rattle.std.proofs.lemmas.List.{with_items_is}
 use Rattle.rbc_model.specs.PriceTables.{stretch_count}
 use Rattle.rbc_table_laws.specs.Tracebacks.{IsOnWay, IsTracedTo}
 use Rattle.rbc_reduce.specs.Breaks.{cost_between}
+use Rattle.rbc_reduce.specs.Columns.{IsColumn}
 use Rattle.rbc_reduce.specs.Rows.{price_in, prices_of}
-use Rattle.rbc_reduce.proofs.LowestLemmas.{up_to_end}
+use Rattle.rbc_reduce.proofs.BreakLemmas.{there_at}
 use Rattle.rbc_reduce.proofs.ReadBackLemmas.{some_row, begun, read_off, some_column, some_break, one_back}
 use Rattle.rbc_reduce.proofs.traceback.steps_of.Given.{Over}
 use Rattle.rbc_reduce.proofs.traceback.steps_of.Goals as goal
-use Rattle.rbc_reduce.proofs.traceback.steps_of.Goals.{After-as_mut_slice, After-as_slice}
+use Rattle.rbc_reduce.proofs.traceback.steps_of.Goals.{After-as_slice}
 
 pub fewest-count-requires-clause-some : goal.fewest-count-requires-clause-some
 fewest-count-requires-clause-some g c =
@@ -27,16 +26,16 @@ loop-before-init g c =
     let first = rw c.runs-to.ensures.runs at c.fewest-count.ensures.first in
     let begun = begun g.V.Level.levels level.lawful c.args.track.now c.runs-to.ensures.track c.args.breaks.now c.requires.breaks c.args.limit c.args.rows.now c.requires.table
     c.fewest-count.result c.fewest-count.ensures.some c.fewest-count.ensures.inside price first (length c.runs-to.result.now) runs in
-    (omega (arith, c.in_ok-costs.ensures.len, c.in_ok-costs.costs.ok.0), omega arith, rw c.in_ok-steps.ensures.items begun.0, begun.1)
+    (omega arith, rw c.in_ok-steps.ensures.items begun.0, begun.1)
 
 -- the row from which a step is looked for
-on_here : (g : Over) (c : After-as_mut_slice g) → IsOnWay g.V.Level.levels 1 c.args.limit c.args.track.now.end c.args.track.now.steps (prices_of c.args.rows.now) (suc (c.loop-before.before - 1)) c.loop-before.to
+on_here : (g : Over) (c : After-as_slice g) → IsOnWay g.V.Level.levels 1 c.args.limit c.args.track.now.end c.args.track.now.steps (prices_of c.args.rows.now) (suc (c.loop-before.before - 1)) c.loop-before.to
 on_here g c =
     let next : c.loop-before.before ≡ suc (c.loop-before.before - 1) = omega arith in
-    subst (λ j. IsOnWay g.V.Level.levels 1 c.args.limit c.args.track.now.end c.args.track.now.steps (prices_of c.args.rows.now) j c.loop-before.to) next c.loop-before.invariant.3
+    subst (λ j. IsOnWay g.V.Level.levels 1 c.args.limit c.args.track.now.end c.args.track.now.steps (prices_of c.args.rows.now) j c.loop-before.to) next c.loop-before.invariant.2
 
-pub costs_to-requires-clause-some : goal.costs_to-requires-clause-some
-costs_to-requires-clause-some g c κs within =
+some_here : (g : Over) (c : After-as_slice g) → 0 < c.loop-before.to
+some_here g c =
     let level = g.met.V.Level g.world.𝓛 g.world.𝓜 g.world.𝓡 ((λ s x. x), (λ x. x), (λ x. x), λ x. x) in
     some_column g.V.Level.levels level.lawful c.args.track.now c.runs-to.ensures.track c.args.breaks.now c.requires.breaks c.args.limit c.args.rows.now c.requires.table (c.loop-before.before - 1) c.loop-before.to
     (on_here g c)
@@ -45,23 +44,27 @@ pub first_break-from-requires-clause-wide : goal.first_break-from-requires-claus
 first_break-from-requires-clause-wide g c =
     let wide = c.requires.wide in
     let room = wide.room in
-    record { width = wide.width; wide = wide.wide; room = omega (arith, c.loop-before.invariant.1) }
+    record { width = wide.width; wide = wide.wide; room = omega (arith, c.loop-before.invariant.0) }
 
 -- the costs that are handed on
-costs_are : (g : Over) (c : After-as_slice g) → c.as_slice.result.now ≡ c.costs_to.new.costs
-costs_are g c = c.as_slice.ensures.value ∙ with_items_is c.loop-before.costs c.costs_to.new.costs (omega arith)
+column_here : (g : Over) (c : After-as_slice g) → IsColumn g.V.Level.levels c.args.track.now c.loop-before.to c.as_slice.result.now
+column_here g c =
+    let some = some_here g c in
+    let width = c.requires.columns.count in
+    let inside = c.loop-before.invariant.0 in
+    let there = there_at c.args.columns.now (c.loop-before.to - 1) c.index-columns-to.result (omega arith) in
+    let next : suc (c.loop-before.to - 1) ≡ c.loop-before.to = omega arith in
+    subst (λ k. IsColumn g.V.Level.levels c.args.track.now k c.as_slice.result.now) next
+    (rw (c.as_slice.ensures.value ∙ ap (λ column. column.items) c.index-columns-to.is) (c.requires.columns.each (c.loop-before.to - 1) _ there))
 
-cost_here : (g : Over) (c : After-as_slice g) (i : ℕ) → i < c.loop-before.to → get_or c.as_slice.result.now i 0 ≡ cost_between g.V.Level.levels c.args.track.now i c.loop-before.to
-cost_here g c i h = ap (λ costs. get_or costs i 0) (costs_are g c) ∙ c.costs_to.ensures.costs i h
+pub first_break-from-requires-clause-room : goal.first_break-from-requires-clause-room
+first_break-from-requires-clause-room g c =
+    let width = (column_here g (goal.at.first_break-from-requires-clause-room g c).After-as_slice).count in
+    omega arith
 
 pub first_break-from-requires-clause-small_costs : goal.first_break-from-requires-clause-small_costs
 first_break-from-requires-clause-small_costs g c i h =
-    let there = (goal.at.first_break-from-requires-clause-small_costs g c).After-as_slice in
-    let end = up_to_end c.args.track.now c.args.breaks.now c.requires.breaks c.loop-before.to c.loop-before.invariant.1 in
-    let same : get_or c.as_slice.result.now i 0 ≡ get_or c.costs_to.new.costs i 0 = ap (λ costs. get_or costs i 0) (costs_are g there) in
-    let bound = c.costs_to.ensures.bound i h in
-    let within = c.runs-to.ensures.within_limit in
-    omega arith
+    (column_here g (goal.at.first_break-from-requires-clause-small_costs g c).After-as_slice).costs.small i
 
 pub first_break-from-requires-clause-some : goal.first_break-from-requires-clause-some
 first_break-from-requires-clause-some g c =
@@ -69,8 +72,8 @@ first_break-from-requires-clause-some g c =
     let at = goal.at.first_break-from-requires-clause-some g c in
     let next : c.loop-before.before - 1 + 1 ≡ suc (c.loop-before.before - 1) = omega arith in
     let some = some_break g.V.Level.levels level.lawful c.args.track.now c.runs-to.ensures.track c.args.breaks.now c.requires.breaks c.args.limit c.args.rows.now c.requires.table
-    (c.loop-before.before - 1) c.loop-before.to (omega arith) c.loop-before.invariant.1 (on_here g at.After-as_mut_slice) in
-    let cost = cost_here g at.After-as_slice some.0 some.1 in
+    (c.loop-before.before - 1) c.loop-before.to (omega arith) c.loop-before.invariant.0 (on_here g at.After-as_slice) in
+    let cost = (column_here g at.After-as_slice).are some.0 some.1 in
     rw next (some.0, some.1, ap (λ k. price_in c.args.rows.now (c.loop-before.before - 1) some.0 + k) cost ∙ some.2)
 
 pub loop-before-preserved : goal.loop-before-preserved
@@ -81,20 +84,20 @@ loop-before-preserved g c =
     let j : ℕ = c.loop-before.before - 1 in
     let next : c.loop-before.before - 1 + 1 ≡ suc (c.loop-before.before - 1) = omega arith in
     let row : c.loop-before.before ≡ suc (c.loop-before.before - 1) = omega arith in
-    let costs_now : (with_items c.loop-before.costs c.costs_to.new.costs).items ≡ c.costs_to.new.costs = with_items_is c.loop-before.costs c.costs_to.new.costs (omega arith) in
     let from = c.first_break-from.result in
     let inside = c.first_break-from.ensures.inside in
     let more : c.push.new.self.items ≡ c.loop-before.steps.items ++ (get_or c.args.breaks.now c.first_break-from.result 0, c.floor.result) ∷ [] = c.in_ok-push.ensures.items in
-    let cost = cost_here g at.After-as_slice c.first_break-from.result inside in
+    let column = column_here g at.After-as_slice in
+    let cost = column.are c.first_break-from.result inside in
     let adds_up = ap (λ k. price_in c.args.rows.now (c.loop-before.before - 1) c.first_break-from.result + k) (sym cost) ∙ (rw next at c.first_break-from.ensures.adds_up) in
     let first : (k : ℕ) → k < c.first_break-from.result → price_in c.args.rows.now (c.loop-before.before - 1) k + cost_between g.V.Level.levels c.args.track.now k c.loop-before.to ≢ price_in c.args.rows.now (suc (c.loop-before.before - 1)) c.loop-before.to =
-    λ k h e. c.first_break-from.ensures.first k h (rw next (ap (λ x. price_in c.args.rows.now (c.loop-before.before - 1) k + x) (cost_here g at.After-as_slice k (omega arith)) ∙ e)) in
+    λ k h e. c.first_break-from.ensures.first k h (rw next (ap (λ x. price_in c.args.rows.now (c.loop-before.before - 1) k + x) (column.are k (omega arith)) ∙ e)) in
     let traced = subst (λ k. IsTracedTo g.V.Level.levels 1 c.args.limit c.args.track.now.end c.args.track.now.steps (prices_of c.args.rows.now) c.fewest-count.result
-    (stretch_count g.V.Level.levels 1 c.args.limit c.args.track.now.end c.args.track.now.steps) c.loop-before.steps.items k c.loop-before.to) row i.2 in
+    (stretch_count g.V.Level.levels 1 c.args.limit c.args.track.now.end c.args.track.now.steps) c.loop-before.steps.items k c.loop-before.to) row i.1 in
     let back = one_back g.V.Level.levels level.lawful c.args.track.now c.runs-to.ensures.track c.args.breaks.now c.requires.breaks c.args.limit c.args.rows.now c.requires.table
-    c.fewest-count.result c.loop-before.steps.items (c.loop-before.before - 1) c.loop-before.to c.first_break-from.result _ c.least_of-least.result c.floor.result (omega arith) i.1
-    (on_here g at.After-as_mut_slice) traced inside adds_up first c.least_of-least.ensures refl c.floor.ensures in
-    (ap length costs_now ∙ omega arith, omega arith, rw more back.0, back.1)
+    c.fewest-count.result c.loop-before.steps.items (c.loop-before.before - 1) c.loop-before.to c.first_break-from.result _ c.least_of-least.result c.floor.result (omega arith) i.0
+    (on_here g at.After-as_slice) traced inside adds_up first c.least_of-least.ensures refl c.floor.ensures in
+    (omega arith, rw more back.0, back.1)
 
 pub returns : goal.returns
 returns g c =
@@ -103,7 +106,7 @@ returns g c =
     let price = rw c.runs-to.ensures.runs at c.fewest-count.ensures.price in
     let first = rw c.runs-to.ensures.runs at c.fewest-count.ensures.first in
     let none : c.loop-before.before ≡ 0 = omega arith in
-    let traced = rw none at i.2 in
-    let on = rw none at i.3 in
+    let traced = rw none at i.1 in
+    let on = rw none at i.2 in
     rw c.reverse.ensures.items (read_off g.V.Level.levels level.lawful c.args.track.now c.runs-to.ensures.track c.args.breaks.now c.requires.breaks c.args.limit c.args.rows.now c.requires.table
     c.fewest-count.result c.fewest-count.ensures.some c.fewest-count.ensures.inside price first c.loop-before.steps.items c.loop-before.to traced on)

@@ -12,10 +12,10 @@ loop-init g c =
     rw c.in_ok-lines.ensures (record {
       reader_works = c.requires.reader;
       writer_works = c.requires.writer;
-      longest = refl;
+      longest = c.longest_line.ensures.value;
       end = λ over. cc;
       handed_on = λ held. held;
-      under_way = begins g.A.Answers.answers (g.A.Answers.state c.args.answerer.now) left written;
+      under_way = begins g.A.Answers.longest g.A.Answers.answers (g.A.Answers.state c.args.answerer.now) left written;
     })
 
 pub returns-in_err-lines-clause-talk : goal.returns-in_err-lines-clause-talk
@@ -23,23 +23,23 @@ returns-in_err-lines-clause-talk g c =
     let fault = err_from_is_err_and c.from_residual.result c.from_residual.ensures.1 in
     let left = g.R.Source.left c.args.reader.now in
     let written = g.W.Sink.written c.args.writer.now in
-    rw (fault.1, fault.2) (over_before g.A.Answers.answers (g.A.Answers.state c.args.answerer.now) left written)
+    rw (fault.1, fault.2) (over_before g.A.Answers.longest g.A.Answers.answers (g.A.Answers.state c.args.answerer.now) left written)
 
 pub returns-in_err-advance-clause-talk : goal.returns-in_err-advance-clause-talk
 returns-in_err-advance-clause-talk g c =
     let fault = err_from_is_err_and c.from_residual-in_err-advance.result c.from_residual-in_err-advance.ensures.1 in
     let did = c.in_err-advance.ensures in
-    let read = takes g.A.Answers.answers c.loop.invariant.under_way (g.R.Source.left c.advance.new.reader)
+    let read = takes g.A.Answers.longest g.A.Answers.answers c.loop.invariant.under_way (g.R.Source.left c.advance.new.reader)
     c.advance.new.self.ended did.next.0 did.ended did.next.2 did.next.1 in
-    rw (fault.1, fault.2) (fails_reading g.A.Answers.answers read (omega arith))
+    rw (fault.1, fault.2) (fails_reading g.A.Answers.longest g.A.Answers.answers read (omega arith))
 
 pub returns-in-End-clause-talk : goal.returns-in-End-clause-talk
 returns-in-End-clause-talk g c =
     let did = c.in_ok-advance.ensures in
     let step = subst (Steps _ _) c.in-End.is did.next.3 in
-    let read = takes g.A.Answers.answers c.loop.invariant.under_way (g.R.Source.left c.advance.new.reader)
+    let read = takes g.A.Answers.longest g.A.Answers.answers c.loop.invariant.under_way (g.R.Source.left c.advance.new.reader)
     c.advance.new.self.ended did.next.0 did.ended did.next.2 did.next.1 in
-    ends g.A.Answers.answers read step.1 (omega arith)
+    ends g.A.Answers.longest g.A.Answers.answers read step.1 (omega arith)
 
 pub returns-in-Overlong-clause-talk : goal.returns-in-Overlong-clause-talk
 returns-in-Overlong-clause-talk g c =
@@ -47,10 +47,10 @@ returns-in-Overlong-clause-talk g c =
     let step = subst (Steps _ _) c.in-Overlong.is did.next.3 in
     let over = subst (IsOverlong _) (did.longest ∙ c.loop.invariant.longest) step.1 in
     let line = lines_of_overlong _ _ over.long over.no_end in
-    let read = takes g.A.Answers.answers c.loop.invariant.under_way (g.R.Source.left c.advance.new.reader)
+    let read = takes g.A.Answers.longest g.A.Answers.answers c.loop.invariant.under_way (g.R.Source.left c.advance.new.reader)
     c.advance.new.self.ended did.next.0 did.ended did.next.2 did.next.1 in
     let reply = c.in_ok-refuse-in-Overlong.ensures.reply in
-    refuses g.A.Answers.answers read (g.A.Answers.state c.refuse.new.answerer) (g.W.Sink.written c.refuse.new.writer)
+    refuses g.A.Answers.longest g.A.Answers.answers read (g.A.Answers.state c.refuse.new.answerer) (g.W.Sink.written c.refuse.new.writer)
     line.0 reply.0 line.1 c.loop-test.true line.2 line.3 (reply.1 line.0 line.3) reply.2.text
 
 pub returns-in_err-refuse-in-Overlong-clause-talk : goal.returns-in_err-refuse-in-Overlong-clause-talk
@@ -61,10 +61,10 @@ returns-in_err-refuse-in-Overlong-clause-talk g c =
     let step = subst (Steps _ _) c.in-Overlong.is did.next.3 in
     let over = subst (IsOverlong _) (did.longest ∙ c.loop.invariant.longest) step.1 in
     let line = lines_of_overlong _ _ over.long over.no_end in
-    let read = takes g.A.Answers.answers c.loop.invariant.under_way (g.R.Source.left c.advance.new.reader)
+    let read = takes g.A.Answers.longest g.A.Answers.answers c.loop.invariant.under_way (g.R.Source.left c.advance.new.reader)
     c.advance.new.self.ended did.next.0 did.ended did.next.2 did.next.1 in
     let reply = c.in_err-refuse-in-Overlong.ensures.reply in
-    rw (fault.1, fault.2) (fails_writing g.A.Answers.answers read (g.A.Answers.state c.refuse.new.answerer)
+    rw (fault.1, fault.2) (fails_writing g.A.Answers.longest g.A.Answers.answers read (g.A.Answers.state c.refuse.new.answerer)
     (g.W.Sink.written c.refuse.new.writer) line.0 reply.0 line.1 c.loop-test.true line.2 (reply.1 line.0 line.3) reply.2.text)
 
 pub returns-in_err-answer-in-Line-clause-talk : goal.returns-in_err-answer-in-Line-clause-talk
@@ -73,10 +73,10 @@ returns-in_err-answer-in-Line-clause-talk g c =
     let fault = err_from_is_err_and residual.result residual.ensures.1 in
     let did = c.in_ok-advance.ensures in
     let gives = subst (Steps _ _) c.in-Line.is did.next.3 in
-    let read = takes g.A.Answers.answers c.loop.invariant.under_way (g.R.Source.left c.advance.new.reader)
+    let read = takes g.A.Answers.longest g.A.Answers.answers c.loop.invariant.under_way (g.R.Source.left c.advance.new.reader)
     c.advance.new.self.ended did.next.0 did.ended did.next.2 did.next.1 in
     let reply = rw c.line.ensures at c.in_err-answer-in-Line.ensures.reply in
-    rw (fault.1, fault.2) (fails_writing g.A.Answers.answers read (g.A.Answers.state c.answer.new.answerer)
+    rw (fault.1, fault.2) (fails_writing g.A.Answers.longest g.A.Answers.answers read (g.A.Answers.state c.answer.new.answerer)
     (g.W.Sink.written c.answer.new.writer) _ reply.0 _ c.loop-test.true (front_of _ c.advance.new.self gives) reply.1 reply.2.text)
 
 pub loop-preserved : goal.loop-preserved
@@ -84,7 +84,7 @@ loop-preserved g c =
     let did = c.in_ok-advance.ensures in
     let gives = subst (Steps _ _) c.in-Line.is did.next.3 in
     let size = did.longest ∙ c.loop.invariant.longest in
-    let read = takes g.A.Answers.answers c.loop.invariant.under_way (g.R.Source.left c.advance.new.reader)
+    let read = takes g.A.Answers.longest g.A.Answers.answers c.loop.invariant.under_way (g.R.Source.left c.advance.new.reader)
     c.advance.new.self.ended did.next.0 did.ended did.next.2 did.next.1 in
     let reply = rw c.line.ensures at c.in_ok-answer-in-Line.ensures.reply in
     record {
@@ -93,7 +93,7 @@ loop-preserved g c =
       longest = size;
       end = did.end c.loop.invariant.end;
       handed_on = λ held. c.in_ok-answer-in-Line.ensures.handed_on;
-      under_way = rw add-one (goes_on g.A.Answers.answers read (g.A.Answers.state c.answer.new.answerer)
+      under_way = rw add-one (goes_on g.A.Answers.longest g.A.Answers.answers read (g.A.Answers.state c.answer.new.answerer)
           (g.W.Sink.written c.answer.new.writer) c.advance.new.self reply.0 refl size gives reply.1 reply.2.text);
     }
 
@@ -101,22 +101,22 @@ pub returns-in_err-has_more-clause-talk : goal.returns-in_err-has_more-clause-ta
 returns-in_err-has_more-clause-talk g c =
     let fault = err_from_is_err_and c.from_residual-in_err-has_more.result c.from_residual-in_err-has_more.ensures.1 in
     let did = c.in_err-has_more.ensures in
-    let read = takes g.A.Answers.answers c.loop.invariant.under_way (g.R.Source.left c.has_more.new.reader)
+    let read = takes g.A.Answers.longest g.A.Answers.answers c.loop.invariant.under_way (g.R.Source.left c.has_more.new.reader)
     c.has_more.new.self.ended did.input.0 did.ended did.input.2 did.input.1 in
-    rw (fault.1, fault.2) (fails_reading g.A.Answers.answers read (omega arith))
+    rw (fault.1, fault.2) (fails_reading g.A.Answers.longest g.A.Answers.answers read (omega arith))
 
 pub returns-then-branch-clause-talk : goal.returns-then-branch-clause-talk
 returns-then-branch-clause-talk g c =
     let did = c.in_ok-has_more.ensures in
     let some = rw (c.if-branch.true, did.input.3) at did.answer in
-    let read = takes g.A.Answers.answers c.loop.invariant.under_way (g.R.Source.left c.has_more.new.reader)
+    let read = takes g.A.Answers.longest g.A.Answers.answers c.loop.invariant.under_way (g.R.Source.left c.has_more.new.reader)
     c.has_more.new.self.ended did.input.0 did.ended did.input.2 did.input.1 in
-    has_too_many g.A.Answers.answers read (omega arith) (some_line _ some)
+    has_too_many g.A.Answers.longest g.A.Answers.answers read (omega arith) (some_line _ some)
 
 pub returns-clause-talk : goal.returns-clause-talk
 returns-clause-talk g c =
     let did = c.in_ok-has_more.ensures in
     let none = rw c.if-branch.false at did.answer in
-    let read = takes g.A.Answers.answers c.loop.invariant.under_way (g.R.Source.left c.has_more.new.reader)
+    let read = takes g.A.Answers.longest g.A.Answers.answers c.loop.invariant.under_way (g.R.Source.left c.has_more.new.reader)
     c.has_more.new.self.ended did.input.0 did.ended did.input.2 did.input.1 in
-    ends g.A.Answers.answers read (sym did.input.3 ∙ none.0) (omega arith)
+    ends g.A.Answers.longest g.A.Answers.answers read (sym did.input.3 ∙ none.0) (omega arith)

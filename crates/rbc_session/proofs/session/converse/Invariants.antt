@@ -1,5 +1,4 @@
 use Rattle.std.proofs.Common.{◌≡◌, false, []}
-use Rattle.rbc_model.specs.declared.limits.TheConstants.{LONGEST_LINE}
 use Rattle.rbc_streams.specs.LineReading.{KnowsEnd}
 use Rattle.rbc_session.proofs.UnderWayLemmas.{IsUnderWay}
 use Rattle.rbc_session.proofs.session.converse.Given as goal
@@ -8,10 +7,10 @@ abbrev pub invariant-loop : goal.invariant-loop
 invariant-loop g l = record {
   reader_works : g.R.Source.failed l.reader ≡ false;
   writer_works : g.W.Sink.failed l.writer ≡ false;
-  longest : l.lines.longest ≡ LONGEST_LINE;
+  longest : l.lines.longest ≡ g.A.Answers.longest;
   end : KnowsEnd l.lines (g.R.Source.left l.reader);
   handed_on : g.W.Sink.held_back l.fn.writer ≡ [] → g.W.Sink.held_back l.writer ≡ [];
-  under_way : IsUnderWay g.A.Answers.answers (g.A.Answers.state l.fn.answerer) (g.A.Answers.state l.answerer)
+  under_way : IsUnderWay g.A.Answers.longest g.A.Answers.answers (g.A.Answers.state l.fn.answerer) (g.A.Answers.state l.answerer)
       (g.R.Source.left l.fn.reader) (g.R.Source.left l.reader) (g.W.Sink.written l.fn.writer) (g.W.Sink.written l.writer)
       l.lines.ended l.counter l.lines.pending;
 }

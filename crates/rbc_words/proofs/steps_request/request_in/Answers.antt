@@ -10,5 +10,5 @@ returns-in_ok-limit-in-Some g c =
     let long : nat_le 3 (length (words_of first.rest.now)) ≡ true = cc in
     let same =
     behind_limit g.V.Spelled.kind (words_of c.args.words.now) first.limit.now (words_of first.rest.now) limit.limit
-    first.ensures.words long limit.ensures in
+    first.ensures.words long limit.ensures.value in
     rw same c.runs_in.ensures

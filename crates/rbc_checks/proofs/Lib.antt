@@ -1,0 +1,5 @@
+mod LineLemmas
+mod TableLemmas
+mod VerdictLemmas
+mod CheckingLemmas
+mod PrintedLemmas

@@ -1,0 +1,21 @@
+-- Single prices of a table.
+use Rattle.std.proofs.Common.{◌≡◌, ℕ, suc, zero, ◌-◌, ◌<◌, List, [], ◌∷◌, refl, sym, ap, ◌∙◌, arith, get_or, length}
+use Rattle.std.specs.Global.{Vec}
+use Rattle.rbc_model.specs.PriceTables.{table_at}
+use Rattle.rbc_checks.specs.Tables.{prices_of}
+
+row_at : (rows : List (Vec ℕ)) (j : ℕ) (d : Vec ℕ) → j < length rows → get_or (prices_of rows) j [] ≡ (get_or rows j d).items
+row_at [] j d h = absurd (omega arith)
+row_at (row ∷ rows) zero d h = refl
+row_at (row ∷ rows) (suc j) d h = row_at rows j d (omega arith)
+
+pub price_in : (rows : List (Vec ℕ)) (steps column : ℕ) (row : Vec ℕ) → (steps ≡ 0 → ⊥) → (column ≡ 0 → ⊥) → steps - 1 < length rows
+    → row ≡ get_or rows (steps - 1) row → get_or row.items (column - 1) 0 ≡ table_at (prices_of rows) steps column
+price_in rows zero column row some_row some inside is = absurd (some_row refl)
+price_in rows (suc j) zero row some_row some inside is = absurd (some refl)
+price_in rows (suc j) (suc i) row some_row some inside is =
+    let e : suc j - 1 ≡ j = omega arith in
+    let f : suc i - 1 ≡ i = omega arith in
+    let same : row ≡ get_or rows j row = is ∙ ap (λ k. get_or rows k row) e in
+    ap (λ k. get_or row.items k 0) f ∙ ap (λ (r : Vec ℕ). get_or r.items i 0) same
+    ∙ sym (ap (λ r. get_or r i 0) (row_at rows j row (omega arith)))

@@ -1,0 +1,30 @@
+use Rattle.std.proofs.Common.{ap, not}
+use Rattle.std.proofs.lemmas.Result.{err_from_is_err_and}
+use Rattle.rbc_model.specs.CheckText.{Checking}
+use Rattle.rbc_checks.specs.Verdicts.{said_text, is_bad}
+use Rattle.rbc_checks.proofs.CheckingLemmas.{over, held}
+use Rattle.rbc_checks.proofs.checking.check.Goals as goal
+
+pub returns-in_err-flush-clause-checked : goal.returns-in_err-flush-clause-checked
+returns-in_err-flush-clause-checked g c =
+    let talk = c.in_ok-converse.ensures.talk in
+    let residual = c.from_residual-in_err-flush in
+    let fault = err_from_is_err_and residual.result residual.ensures.1 in (
+      talk.0,
+      talk.1,
+      rw (fault.1, fault.2)
+          (held c.new-checker.result c.converse.new.answerer talk.0 (g.W.Sink.written c.args.writer.now) (g.W.Sink.written c.converse.new.writer)
+          c.new-checker.ensures talk.2 (said_text c.close.result) (is_bad c.close.result) c.close.ensures.said
+          (g.W.Sink.written c.print_said.new.writer) (g.W.Sink.written c.flush.new.self) c.in_ok-print_said.ensures.text c.in_err-flush.ensures.bytes),
+    )
+
+pub returns-clause-checked : goal.returns-clause-checked
+returns-clause-checked g c =
+    let talk = c.in_ok-converse.ensures.talk in (
+      talk.0,
+      talk.1,
+      over c.new-checker.result c.converse.new.answerer talk.0 (g.W.Sink.written c.args.writer.now) (g.W.Sink.written c.converse.new.writer)
+          c.new-checker.ensures talk.2 (said_text c.close.result) (is_bad c.close.result) c.close.ensures.said
+          (g.W.Sink.written c.print_said.new.writer) (g.W.Sink.written c.flush.new.self) c.in_ok-print_said.ensures.text c.in_ok-flush.ensures.bytes
+          c.close.new.self c.close.ensures.closed (not c.checker-2.inside.refused) (ap (λ (s : Checking). not s.refused) c.checker-2.view_is),
+    )

@@ -1,0 +1,5 @@
+pub mod Blocks
+pub mod Lines
+pub mod Replies
+pub mod Tables
+pub mod Verdicts

@@ -1,0 +1,81 @@
+//! The block of lines that is open: a certificate that is being read.
+
+ghost use Rattle.std.specs.Prelude.{◌≡◌, [], ◌∷◌, ◌++◌, IfSome};
+ghost use Rattle.rbc_model.specs.CheckText.{CheckLine as Said, part_of, is_head, goes_on};
+ghost use Rattle.rbc_checks.specs.Lines.{line_view, IsSaid};
+ghost use Rattle.rbc_checks.specs.Blocks.{block_lines};
+
+use crate::CheckLine;
+use rbc_model::Part;
+use std::alloc::Global;
+
+/// The lines of the block that is open.
+#[derive(Drop)]
+pub(crate) enum Block {
+    /// No block is open.
+    None,
+    /// A head.
+    Head(CheckLine),
+    /// A head, a profile, and the rows behind it.
+    Profile(CheckLine, CheckLine, Vec<CheckLine>),
+}
+
+impl Block {
+    /// Whether a line that is this part of a block goes on with it.
+    pub(crate) fn goes_on(&self, part: Option<Part>) -> bool
+        ensures { result ≡ goes_on (block_lines self.now) part }
+    {
+        match (self, part) {
+            (Block::Head(_), Some(Part::Profile)) => true,
+            (Block::Profile(..), Some(Part::Row)) => true,
+            _ => false,
+        }
+    }
+
+    /// The block with one line more, or nothing where memory is refused.
+    pub(crate) fn with_line(self, alloc: Global, line: CheckLine) -> Option<Block>
+        ensures { IfSome result (λ block. block_lines block ≡ block_lines self ++ line_view line ∷ []) }
+    {
+        match self {
+            Block::None => Some(Block::Head(line)),
+            Block::Head(head) => Some(Block::Profile(head, line, Vec::new(alloc))),
+            Block::Profile(head, profile, rows) => {
+                let mut rows = rows;
+                rows.push(line).ok()?;
+                Some(Block::Profile(head, profile, rows))
+            }
+        }
+    }
+}
+
+impl CheckLine {
+    /// The part of a block that the line is, if it is one.
+    pub(crate) fn part(&self) -> Option<Part>
+        ensures { result ≡ part_of (line_view self.now) }
+    {
+        match self {
+            CheckLine::SpeedHead(_) | CheckLine::GradeHead(_) => Some(Part::Head),
+            CheckLine::Profile(_) => Some(Part::Profile),
+            CheckLine::Row(_) => Some(Part::Row),
+            CheckLine::Bad(part) => Some(*part),
+            CheckLine::Other => None,
+        }
+    }
+}
+
+/// The part of a block that was read, also where memory was refused for what it says.
+pub(crate) fn part_read(read: &Result<CheckLine, Part>) -> Option<Part>
+    ensures { (said : Said) → IsSaid read.now said → result ≡ part_of said }
+{
+    match read {
+        Ok(line) => line.part(),
+        Err(part) => Some(*part),
+    }
+}
+
+/// Whether a line of this part begins a block.
+pub(crate) fn is_head(part: Option<Part>) -> bool
+    ensures { result ≡ is_head part }
+{
+    matches!(part, Some(Part::Head))
+}

@@ -1,0 +1,148 @@
+//! Whether a block certifies its profile.
+
+ghost use Rattle.std.specs.Prelude.{◌≡◌, ◌==◌, Some};
+ghost use Rattle.rbc_model.specs.Answers.{AnswersOrMemory};
+ghost use Rattle.rbc_model.specs.CheckText.{verdict_of, with_loss, rows_of, speed_of};
+ghost use Rattle.rbc_model.specs.Levels.{speed_levels, grade_levels};
+ghost use Rattle.rbc_model.specs.PriceChecks.{price_check, last_price};
+ghost use Rattle.rbc_words.specs.StepsLines.{request_view};
+ghost use Rattle.rbc_checks.specs.Blocks.{lines_view};
+ghost use Rattle.rbc_checks.specs.Tables.{prices_of};
+ghost use Rattle.rbc_checks.specs.Verdicts.{rows_verdict, ArePartsOf};
+
+use crate::CheckLine;
+use crate::lines::ToldProfile;
+use crate::table::{Told, price_at, steps_of, table_of};
+use rbc_model::{OrMemory, Reason};
+use rbc_price::{Prices, check};
+use rbc_steps::{Grade, Level, Profile, Runs, Speed};
+use rbc_words::StepsRequest;
+use std::alloc::Global;
+
+/// A track and a profile, with the limit of steps.
+#[derive(Drop)]
+pub(crate) struct Parts<V: Level> {
+    limit: usize,
+    track: Runs<V>,
+    profile: Profile<V>,
+}
+
+/// Whether the rows are prices that show that the profile of speeds is a best one for the track, and that it loses
+/// what is told.
+///
+/// # Errors
+///
+/// - `Refused`: the first reason why not. Runs that make no track, steps that make no profile, and rows that don't
+///   count from 1 are `Shape`. A loss that is not the last price is `NotAttained`.
+/// - `Memory`
+pub(crate) fn certify_speeds(
+    alloc: Global,
+    request: StepsRequest<Speed>,
+    profile: ToldProfile,
+    rows: Vec<CheckLine>,
+) -> Result<(), OrMemory<Reason>>
+    ensures { AnswersOrMemory result (verdict_of speed_levels speed_of (request_view request)
+        profile.steps.items profile.loss (lines_view rows.items)) }
+{
+    let parts = parts_of(alloc, request, profile.steps.as_slice())?;
+    certify(alloc, &parts, profile.loss, rows)
+}
+
+/// The same of a profile of gradients.
+///
+/// # Errors
+///
+/// As there.
+pub(crate) fn certify_grades(
+    alloc: Global,
+    request: StepsRequest<Grade>,
+    profile: ToldProfile,
+    rows: Vec<CheckLine>,
+) -> Result<(), OrMemory<Reason>>
+    ensures { AnswersOrMemory result (verdict_of grade_levels (λ value. Some value) (request_view request)
+        profile.steps.items profile.loss (lines_view rows.items)) }
+{
+    let parts = parts_of(alloc, request, profile.steps.as_slice())?;
+    certify(alloc, &parts, profile.loss, rows)
+}
+
+/// The track of a request, and the profile of the steps told.
+///
+/// # Errors
+///
+/// - `Refused`: `Shape`, where the runs make no track, or the steps no profile.
+/// - `Memory`
+fn parts_of<V: Told>(
+    alloc: Global,
+    request: StepsRequest<V>,
+    steps: &[(u32, i64)],
+) -> Result<Parts<V>, OrMemory<Reason>>
+    ensures { ArePartsOf V.levels V.value_of (request_view request) steps.now result }
+{
+    let StepsRequest { limit, runs, end } = request;
+    let Ok(track) = Runs::new(runs, end) else {
+        return Err(OrMemory::Refused(Reason::Shape));
+    };
+    let Some(steps) = steps_of::<V>(alloc, steps)? else {
+        return Err(OrMemory::Refused(Reason::Shape));
+    };
+    let Ok(profile) = Profile::new(steps.as_slice(), track.end()) else {
+        return Err(OrMemory::Refused(Reason::Shape));
+    };
+    Ok(Parts {
+        limit,
+        track,
+        profile,
+    })
+}
+
+/// Whether the rows are prices that show that the profile is a best one for the track, and that it loses what is told.
+///
+/// # Errors
+///
+/// As of [`certify_speeds`].
+fn certify<V: Level>(
+    alloc: Global,
+    parts: &Parts<V>,
+    loss: u64,
+    rows: Vec<CheckLine>,
+) -> Result<(), OrMemory<Reason>>
+    ensures { AnswersOrMemory result (rows_verdict V.levels parts.now.limit parts.now.track parts.now.profile
+        loss (rows_of 1 (lines_view rows.items))) }
+{
+    let Some(prices) = table_of(alloc, rows)? else {
+        return Err(OrMemory::Refused(Reason::Shape));
+    };
+    match check_told(parts, &prices, loss) {
+        Ok(()) => Ok(()),
+        Err(reason) => Err(OrMemory::Refused(reason)),
+    }
+}
+
+/// The check of a price table, and that the loss told is its last price.
+///
+/// # Errors
+///
+/// The first reason; `NotAttained` also where the loss told is not the last price, before `Steps`.
+fn check_told<V: Level>(parts: &Parts<V>, prices: &Prices, loss: u64) -> Result<(), Reason>
+    ensures { result ≡ with_loss
+        (loss == last_price V.levels parts.now.limit parts.now.track (prices_of prices.now.items))
+        (price_check V.levels parts.now.limit parts.now.track parts.now.profile (prices_of prices.now.items)) }
+{
+    let columns = parts.track.runs().len();
+    let is_last = loss == price_at(prices, parts.limit.min(columns), columns);
+    with_loss(
+        check(&parts.track, parts.limit, &parts.profile, prices),
+        is_last,
+    )
+}
+
+/// A check, and whether the loss told is the last price.
+fn with_loss(checked: Result<(), Reason>, is_last: bool) -> Result<(), Reason>
+    ensures { result ≡ with_loss is_last checked }
+{
+    match checked {
+        Ok(()) | Err(Reason::Steps) if !is_last => Err(Reason::NotAttained),
+        checked => checked,
+    }
+}

@@ -1,0 +1,17 @@
+//! Certificates in a text: its lines, the blocks that they make, and what is said of each block.
+#![tactic(auto)]
+
+mod block;
+mod certify;
+mod checking;
+mod lines;
+mod table;
+mod verdict;
+
+pub use checking::check;
+pub use lines::{CheckLine, parse_check};
+pub use rbc_model::{Part, Reason};
+pub use rbc_session::SessionFault;
+
+#[cfg(test)]
+mod tests;

@@ -1,0 +1,187 @@
+//! A line of a text with certificates: what it says.
+
+ghost use Rattle.std.specs.Prelude.{◌≡◌, MatchResult, IfOk, Some, option_map};
+ghost use Rattle.rbc_model.specs.declared.places.Format.TheVariants.{Near};
+ghost use Rattle.rbc_model.specs.declared.prices.Part.TheVariants.{Head, Profile, Row};
+ghost use Rattle.rbc_model.specs.CheckText.{check_line, words_said, head_line, SpeedHead, GradeHead};
+ghost use Rattle.rbc_model.specs.CheckText.{profile_line, profile_in, price_line, numbers_in, step_in_word};
+ghost use Rattle.rbc_model.specs.Kinds.{speed_kind, grade_kind};
+ghost use Rattle.rbc_model.specs.StepsText.{request_in};
+ghost use Rattle.rbc_model.specs.Words.{words_of};
+ghost use Rattle.rbc_checks.specs.Lines.{IsSaid, profile_view, numbers_view};
+
+use rbc_model::limits::LONGEST_TRACK;
+use rbc_model::{Memory, OrMemory, Part};
+use rbc_steps::{Grade, Speed};
+use rbc_words::{
+    StepsRequest, around, integer, is_blank, is_text, next_word, number, request_in, without_return,
+};
+use std::alloc::Global;
+
+/// What a line of a text with certificates says.
+#[derive(Drop)]
+pub enum CheckLine {
+    /// A track of speeds, with the limit of steps.
+    SpeedHead(StepsRequest<Speed>),
+    /// A track of gradients, with the limit of steps.
+    GradeHead(StepsRequest<Grade>),
+    /// A profile.
+    Profile(ToldProfile),
+    /// A row of a price table.
+    Row(ToldRow),
+    /// The line begins as one of these, and is out of form.
+    Bad(Part),
+    /// Anything else.
+    Other,
+}
+
+/// A profile as it is told: not all such steps are one.
+#[derive(Drop)]
+pub struct ToldProfile {
+    /// Where each step starts, 0 to 100,000 metres, and its value: km/h, or per mille.
+    pub steps: Vec<(u32, i64)>,
+    /// What the profile is said to lose, summed over all metres.
+    pub loss: u64,
+}
+
+/// A row of a price table as it is told.
+#[derive(Drop)]
+pub struct ToldRow {
+    /// The number that it is told under.
+    pub number: u64,
+    /// Its prices.
+    pub prices: Vec<u64>,
+}
+
+/// What the bytes of a line, without its line feed, say.
+///
+/// # Errors
+///
+/// The part of a certificate that the line is, where there is no memory to keep what it says.
+pub fn parse_check(alloc: Global, line: &[u8]) -> Result<CheckLine, Part>
+    ensures { IsSaid result (check_line Near line.now) }
+{
+    let text = without_return(line);
+    if is_blank(text) || !is_text(text) {
+        return Ok(CheckLine::Other);
+    }
+    words_said(alloc, text)
+}
+
+/// What the words of a text say.
+fn words_said(alloc: Global, text: &[u8]) -> Result<CheckLine, Part>
+    ensures { IsSaid result (words_said Near (words_of text.now)) }
+{
+    match next_word(text) {
+        None => Ok(CheckLine::Other),
+        Some((b"speed", words)) => speed_head(alloc, words),
+        Some((b"grade", words)) => grade_head(alloc, words),
+        Some((b"steps", words)) => told_profile(alloc, words),
+        Some((b"prices", words)) => told_row(alloc, words),
+        Some(_) => Ok(CheckLine::Other),
+    }
+}
+
+/// The track of speeds in the words behind its command.
+fn speed_head(alloc: Global, words: &[u8]) -> Result<CheckLine, Part>
+    ensures { IsSaid result (head_line SpeedHead (request_in speed_kind Near (words_of words.now))) }
+{
+    match request_in(alloc, words) {
+        Ok(request) => Ok(CheckLine::SpeedHead(request)),
+        Err(OrMemory::Refused(_)) => Ok(CheckLine::Bad(Part::Head)),
+        Err(OrMemory::Memory) => Err(Part::Head),
+    }
+}
+
+/// The track of gradients in the words behind its command.
+fn grade_head(alloc: Global, words: &[u8]) -> Result<CheckLine, Part>
+    ensures { IsSaid result (head_line GradeHead (request_in grade_kind Near (words_of words.now))) }
+{
+    match request_in(alloc, words) {
+        Ok(request) => Ok(CheckLine::GradeHead(request)),
+        Err(OrMemory::Refused(_)) => Ok(CheckLine::Bad(Part::Head)),
+        Err(OrMemory::Memory) => Err(Part::Head),
+    }
+}
+
+/// The profile in the words behind `steps`.
+fn told_profile(alloc: Global, words: &[u8]) -> Result<CheckLine, Part>
+    ensures { IsSaid result (profile_line (profile_in (words_of words.now))) }
+{
+    match profile_in(alloc, words) {
+        Ok(Some(profile)) => Ok(CheckLine::Profile(profile)),
+        Ok(None) => Ok(CheckLine::Bad(Part::Profile)),
+        Err(_) => Err(Part::Profile),
+    }
+}
+
+/// Steps, the word `loss`, and the loss.
+fn profile_in(alloc: Global, words: &[u8]) -> Result<Option<ToldProfile>, Memory>
+    ensures { IfOk result (λ found. option_map profile_view found ≡ profile_in (words_of words.now)) }
+{
+    let Some((mut word, rest)) = next_word(words) else {
+        return Ok(None);
+    };
+    let Some((mut next, mut rest)) = next_word(rest) else {
+        return Ok(None);
+    };
+    let mut steps = Vec::new(alloc);
+    while let Some((last, more)) = next_word(rest) {
+        let Some(step) = step_in_word(word) else {
+            return Ok(None);
+        };
+        steps.push(step)?;
+        word = next;
+        next = last;
+        rest = more;
+    }
+    if word != b"loss".as_slice() {
+        return Ok(None);
+    }
+    match number(next) {
+        Some(loss) => Ok(Some(ToldProfile { steps, loss })),
+        None => Ok(None),
+    }
+}
+
+/// A word as a step: its start, a colon, and its value.
+fn step_in_word(word: &[u8]) -> Option<(u32, i64)>
+    ensures { result ≡ step_in_word word.now }
+{
+    let (start, value) = around(word, b':');
+    let start = number(start)?;
+    if start > u64::from(LONGEST_TRACK) {
+        return None;
+    }
+    Some((start as u32, integer(value)?))
+}
+
+/// The row of a price table in the words behind `prices`.
+fn told_row(alloc: Global, words: &[u8]) -> Result<CheckLine, Part>
+    ensures { IsSaid result (price_line (numbers_in (words_of words.now))) }
+{
+    let Some((first, rest)) = next_word(words) else {
+        return Ok(CheckLine::Bad(Part::Row));
+    };
+    match (number(first), numbers_in(alloc, rest)) {
+        (Some(number), Ok(Some(prices))) => Ok(CheckLine::Row(ToldRow { number, prices })),
+        (_, Err(_)) => Err(Part::Row),
+        _ => Ok(CheckLine::Bad(Part::Row)),
+    }
+}
+
+/// Words as numbers.
+fn numbers_in(alloc: Global, words: &[u8]) -> Result<Option<Vec<u64>>, Memory>
+    ensures { IfOk result (λ found. option_map numbers_view found ≡ numbers_in (words_of words.now)) }
+{
+    let mut numbers = Vec::new(alloc);
+    let mut rest = words;
+    while let Some((word, more)) = next_word(rest) {
+        let Some(number) = number(word) else {
+            return Ok(None);
+        };
+        numbers.push(number)?;
+        rest = more;
+    }
+    Ok(Some(numbers))
+}

@@ -1,0 +1,138 @@
+//! What is said of a block, and how it is printed.
+
+ghost use Rattle.std.specs.Prelude.{◌≡◌, false};
+ghost use Rattle.rbc_model.specs.CheckText.{AnswersBlock, refusal_text};
+ghost use Rattle.rbc_model.specs.Sessions.{Prints};
+ghost use Rattle.rbc_checks.specs.Blocks.{block_lines};
+ghost use Rattle.rbc_checks.specs.Verdicts.{verdict_line, said_text, is_refusal, is_bad, told_as, Judges};
+
+use crate::CheckLine;
+use crate::block::Block;
+use crate::certify::{certify_grades, certify_speeds};
+use rbc_model::{OrMemory, Reason};
+use rbc_streams::{Sink, WriteFailed, put};
+use rbc_words::{print_last, print_number};
+use std::alloc::Global;
+
+/// What is said of a block.
+#[derive(Clone, Copy, Debug, PartialEq, Eq)]
+pub(crate) enum Verdict {
+    /// It certifies a profile of speeds, which loses so much: no other loses less.
+    Speed(u64),
+    /// It certifies a profile of gradients, which loses so much: no other loses less.
+    Grade(u64),
+    /// It is refused for this reason.
+    Refused(Reason),
+    /// Memory was refused for it.
+    Memory,
+}
+
+impl Verdict {
+    /// Whether the block is not certified.
+    pub(crate) fn is_refusal(self) -> bool
+        ensures { result ≡ is_refusal self }
+    {
+        match self {
+            Verdict::Speed(_) | Verdict::Grade(_) => false,
+            Verdict::Refused(_) | Verdict::Memory => true,
+        }
+    }
+}
+
+/// What is said of a block; nothing, if none is open.
+pub(crate) fn judge(alloc: Global, block: Block) -> Option<Verdict>
+    ensures { AnswersBlock (block_lines block) (said_text result) (is_bad result) }
+{
+    match block {
+        Block::None => None,
+        Block::Head(_) => Some(Verdict::Refused(Reason::Shape)),
+        Block::Profile(head, profile, rows) => Some(judge_parts(alloc, head, profile, rows)),
+    }
+}
+
+/// What is said of a head, a line behind it, and rows.
+fn judge_parts(alloc: Global, head: CheckLine, profile: CheckLine, rows: Vec<CheckLine>) -> Verdict
+    ensures { Judges head profile rows.items result }
+{
+    match (head, profile) {
+        (CheckLine::SpeedHead(track), CheckLine::Profile(profile)) => {
+            let loss = profile.loss;
+            told_as(
+                certify_speeds(alloc, track, profile, rows),
+                Verdict::Speed(loss),
+            )
+        }
+        (CheckLine::GradeHead(track), CheckLine::Profile(profile)) => {
+            let loss = profile.loss;
+            told_as(
+                certify_grades(alloc, track, profile, rows),
+                Verdict::Grade(loss),
+            )
+        }
+        _ => Verdict::Refused(Reason::Shape),
+    }
+}
+
+/// What a check came to, as it is told.
+fn told_as(checked: Result<(), OrMemory<Reason>>, certified: Verdict) -> Verdict
+    ensures { result ≡ told_as checked certified }
+{
+    match checked {
+        Ok(()) => certified,
+        Err(OrMemory::Refused(reason)) => Verdict::Refused(reason),
+        Err(OrMemory::Memory) => Verdict::Memory,
+    }
+}
+
+/// Writes what is said of a block; nothing, if none is open.
+pub(crate) fn print_said<W: Sink>(said: Option<Verdict>, writer: &mut W) -> Result<(), WriteFailed>
+    requires { W.failed writer.old ≡ false }
+    ensures { Prints (W.written writer.old) (W.written writer.new) (W.failed writer.new) (said_text said) result }
+{
+    match said {
+        Some(verdict) => print_verdict(verdict, writer),
+        None => Ok(()),
+    }
+}
+
+fn print_verdict<W: Sink>(verdict: Verdict, writer: &mut W) -> Result<(), WriteFailed>
+    requires { W.failed writer.old ≡ false }
+    ensures { Prints (W.written writer.old) (W.written writer.new) (W.failed writer.new) (verdict_line verdict) result }
+{
+    match verdict {
+        Verdict::Speed(loss) => print_last(b"certified speed ", loss, writer),
+        Verdict::Grade(loss) => print_last(b"certified grade ", loss, writer),
+        Verdict::Refused(reason) => print_reason(reason, writer),
+        Verdict::Memory => put(writer, b"refused Memory\n"),
+    }
+}
+
+fn print_reason<W: Sink>(reason: Reason, writer: &mut W) -> Result<(), WriteFailed>
+    requires { W.failed writer.old ≡ false }
+    ensures { Prints (W.written writer.old) (W.written writer.new) (W.failed writer.new) (refusal_text reason) result }
+{
+    match reason {
+        Reason::Shape => put(writer, b"refused Shape\n"),
+        Reason::Above(metre) => print_last(b"refused Above ", u64::from(metre), writer),
+        Reason::Inequality(row, from, to) => print_inequality(row as u64, from, to, writer),
+        Reason::NotAttained => put(writer, b"refused NotAttained\n"),
+        Reason::Steps => put(writer, b"refused Steps\n"),
+    }
+}
+
+fn print_inequality<W: Sink>(
+    row: u64,
+    from: u32,
+    to: u32,
+    writer: &mut W,
+) -> Result<(), WriteFailed>
+    requires { W.failed writer.old ≡ false }
+    ensures { Prints (W.written writer.old) (W.written writer.new) (W.failed writer.new)
+        (refusal_text (Reason.Inequality row from to)) result }
+{
+    put(writer, b"refused Inequality ")?;
+    print_number(row, writer)?;
+    put(writer, b" ")?;
+    print_number(u64::from(from), writer)?;
+    print_last(b" ", u64::from(to), writer)
+}

@@ -1,0 +1,8 @@
+pub mod BreakLemmas
+pub mod LowestLemmas
+pub mod CostLemmas
+pub mod TableLemmas
+pub mod MetreLemmas
+pub mod PlaceLemmas
+pub mod SearchLemmas
+pub mod CertificateLemmas

@@ -1,0 +1,70 @@
+//! The check of a table.
+ghost use Rattle.std.specs.Prelude.{◌≡◌, ◌↔◌, Ok, OnOk};
+ghost use Rattle.rbc_model.specs.declared.limits.TheConstants.{MOST_STEPS};
+ghost use Rattle.rbc_model.specs.Profiles.{IsBestProfile, IsProfile, IsTrackFunction, value_at};
+ghost use Rattle.rbc_model.specs.PriceChecks.{price_check, IsCertificate};
+ghost use Rattle.rbc_price.specs.Places.{prices_of};
+
+use crate::above::stays_below;
+use crate::inequalities::has_no_high_price;
+use crate::shape::{has_shape, price_at};
+use rbc_model::Reason;
+use rbc_steps::{Level, Profile, Runs};
+
+/// A table of prices: a row for each number of steps from 1, and in it a price for each break of the track but the
+/// first: what so many steps lose at least up to there.
+pub type Prices = Vec<Vec<u64>>;
+
+/// The first reason against the profile, test by test.
+fn judge<V: Level>(
+    track: &Runs<V>,
+    limit: usize,
+    profile: &Profile<V>,
+    rows: &[Vec<u64>],
+) -> Result<(), Reason>
+    ensures verdict { result ≡ price_check V.levels limit track.now profile.now (prices_of rows.now) }
+    ensures track { OnOk result (IsTrackFunction V.levels track.now.end track.now.steps) }
+    ensures profile { OnOk result (IsProfile V.levels 1 MOST_STEPS profile.now.end profile.now.steps) }
+{
+    let columns = track.runs().len();
+    if !has_shape(track, limit, profile, rows) {
+        return Err(Reason::Shape);
+    }
+    stays_below(track, profile)?;
+    has_no_high_price(track, rows)?;
+    if profile.loss(track) != price_at(rows, rows.len(), columns) {
+        return Err(Reason::NotAttained);
+    }
+    if profile.steps().len() > limit {
+        return Err(Reason::Steps);
+    }
+    Ok(())
+}
+
+/// Whether the prices show that the profile is a best one for the track, of at most `limit` steps. It takes no memory.
+///
+/// Where it answers Ok no profile of at most `limit` steps that is above the track at no metre loses less than this
+/// one, wherever it is cut.
+///
+/// # Errors
+///
+/// - `Shape`: `limit` is not 1 to 31, the two end at two metres, or there is not a row for each number of steps up to
+///   `limit` and up to the number of the track's runs, each with a price for each break but the first.
+/// - `Above`: the profile is above the track at this metre, the first such one.
+/// - `Inequality`: this price is too high, the first such one by row, then by break, then by the break before.
+/// - `NotAttained`: the profile does not lose what the last price of the last row says.
+/// - `Steps`: the profile has more than `limit` steps.
+pub fn check<V: Level>(
+    track: &Runs<V>,
+    limit: usize,
+    profile: &Profile<V>,
+    prices: &Prices,
+) -> Result<(), Reason>
+    ensures verdict { result ≡ price_check V.levels limit track.now profile.now (prices_of prices.now.items) }
+    ensures certified { result ≡ Ok tt
+        ↔ IsCertificate V.levels limit track.now profile.now (prices_of prices.now.items) }
+    ensures best { OnOk result
+        (IsBestProfile V.levels 1 limit track.now.end (value_at track.now.steps) profile.now.steps) }
+{
+    judge(track, limit, profile, prices.as_slice())
+}

@@ -1,0 +1,124 @@
+-- The lines of a grant as the pieces that are printed one behind another.
+use Rattle.std.proofs.Common.{◌≡◌, ℕ, ◌<◌, IsTrue, List, [], ◌∷◌, ◌++◌, ℤ, refl, sym, ap, ◌∙◌, subst, append_assoc}
+use Rattle.std.specs.Prelude.{codes, decimal}
+use Rattle.std.specs.Fmt.{signed_decimal}
+use Rattle.rbc_model.specs.declared.refusals.Obstacle.{Obstacle}
+use Rattle.rbc_model.specs.Kinds.{Kind, speed_kind, grade_kind}
+use Rattle.rbc_model.specs.Levels.{Levels}
+use Rattle.rbc_model.specs.Messages.{Authority, message_bytes}
+use Rattle.rbc_model.specs.Profiles.{StepFunction, value_at, is_within, loss}
+use Rattle.rbc_model.specs.SessionReply.{obstacle_words, grant_reply}
+use Rattle.rbc_model.specs.StepsReply.{track_line, profile_line, certificate}
+use Rattle.rbc_model.specs.Histories.{Grants}
+use Rattle.rbc_model.specs.Tracks.{Track}
+use Rattle.rbc_model.specs.Views.{View}
+use Rattle.rbc_model.specs.Words.{line_of, hex_of}
+use Rattle.rbc_words.specs.Replies.{track_text}
+use Rattle.rbc_replies.specs.declared.replies.Basis.{Basis}
+use Rattle.rbc_replies.specs.declared.replies.Granted.{Granted}
+use Rattle.rbc_words.specs.PriceText.{prices_of, prices_text}
+use Rattle.rbc_replies.specs.Certificates.{certificate_text, IsBasisOf}
+use Rattle.rbc_replies.specs.Replies.{grant_line, grant_text}
+
+-- the lines of a certificate
+pub certificate_text-is : {V : Type 0} (kind : Kind V) (levels : Levels V) (profile : StepFunction V) (basis : Basis V) (lost : ℕ)
+    → kind.levels ≡ levels → basis.track.now.end ≡ profile.end → lost ≡ loss levels profile.end (value_at basis.track.now.steps) profile.steps
+    → certificate_text kind profile.end profile.steps basis
+    ≡ track_text kind basis.limit basis.track.now ++ (profile_line kind profile.steps lost ++ prices_text basis.prices.now)
+certificate_text-is {V} kind levels profile basis lost same_levels same_end same_loss =
+    let track : ℕ → List ℕ = λ end. track_line kind (record { limit = basis.limit; runs = basis.track.now.steps; end = end }) in
+    let shown : ℕ → List ℕ = λ l. profile_line kind profile.steps l in
+    let prices = prices_text basis.prices.now in
+    let all = loss kind.levels profile.end (value_at basis.track.now.steps) profile.steps in
+    append_assoc (track profile.end) (shown all) prices
+    ∙ ap (λ end. track end ++ (shown all ++ prices)) (sym same_end)
+    ∙ ap (λ l. track basis.track.now.end ++ (shown l ++ prices))
+    (ap (λ (ls : Levels V). loss ls profile.end (value_at basis.track.now.steps) profile.steps) same_levels ∙ sym same_loss)
+
+-- the profile that is handed over can be chosen for the track, if the one that it equals can
+pub basis_of : {V : Type 0} (levels : Levels V) (profile track : StepFunction V) (steps : List (ℕ × V)) (end : ℕ)
+    → IsBasisOf levels (record { steps = steps; end = end }) track → profile.steps ≡ steps → profile.end ≡ end → IsBasisOf levels profile track
+basis_of {V} levels profile track steps end basis same_steps same_end =
+    record {
+      ends = basis.ends ∙ sym same_end;
+      below = λ x inside. subst (λ (s : List (ℕ × V)). IsTrue (is_within levels (value_at track.steps x) (value_at s x))) (sym same_steps)
+          (basis.below x (subst (λ e. x < e) same_end inside));
+    }
+
+-- the other way round
+pub basis_from : {V : Type 0} (levels : Levels V) (profile track : StepFunction V) (steps : List (ℕ × V)) (end : ℕ)
+    → IsBasisOf levels profile track → profile.steps ≡ steps → profile.end ≡ end → IsBasisOf levels (record { steps = steps; end = end }) track
+basis_from levels profile track steps end basis same_steps same_end =
+    basis_of levels (record { steps = steps; end = end }) track profile.steps profile.end basis (sym same_steps) (sym same_end)
+
+-- the line of a message
+abbrev pub message_line : List ℕ → List ℕ
+message_line message = line_of (codes "message" ∷ hex_of message ∷ [])
+
+-- the lines of a grant, each before those behind it
+abbrev pub grant_lines : Track → Granted → List ℕ → StepFunction ℕ → StepFunction ℤ → List ℕ
+grant_lines track granted message speeds grades =
+    grant_line track granted
+    ++ (message_line message
+    ++ (certificate_text speed_kind speeds.end speeds.steps granted.speeds
+    ++ (certificate_text grade_kind grades.end grades.steps granted.grades
+    ++ codes "done\n")))
+
+-- the text of a grant in such lines
+grant_text-own : (track : Track) (granted : Granted)
+    → grant_text track granted
+    ≡ grant_lines track granted (message_bytes granted.authority.now)
+    (record { steps = granted.authority.now.speeds; end = granted.authority.now.end })
+    (record { steps = granted.authority.now.grades; end = granted.authority.now.end })
+grant_text-own track granted =
+    let first = grant_line track granted in
+    let message = message_line (message_bytes granted.authority.now) in
+    let speeds = certificate_text speed_kind granted.authority.now.end granted.authority.now.speeds granted.speeds in
+    let grades = certificate_text grade_kind granted.authority.now.end granted.authority.now.grades granted.grades in
+    append_assoc (first ++ message ++ speeds) grades (codes "done\n")
+    ∙ append_assoc (first ++ message) speeds (grades ++ codes "done\n")
+    ∙ append_assoc first message (speeds ++ (grades ++ codes "done\n"))
+
+-- the same of what is handed over
+pub grant_text-is : (track : Track) (granted : Granted) (message : List ℕ) (speeds : StepFunction ℕ) (grades : StepFunction ℤ)
+    → message ≡ message_bytes granted.authority.now
+    → speeds.steps ≡ granted.authority.now.speeds → speeds.end ≡ granted.authority.now.end
+    → grades.steps ≡ granted.authority.now.grades → grades.end ≡ granted.authority.now.end
+    → grant_text track granted ≡ grant_lines track granted message speeds grades
+grant_text-is track granted message speeds grades same_message speed_steps speed_end grade_steps grade_end =
+    let lines : List ℕ → List (ℕ × ℕ) → ℕ → List (ℕ × ℤ) → ℕ → List ℕ =
+    λ m ss se gs ge. grant_lines track granted m (record { steps = ss; end = se }) (record { steps = gs; end = ge }) in
+    let a = granted.authority.now in
+    grant_text-own track granted
+    ∙ ap (λ m. lines m a.speeds a.end a.grades a.end) (sym same_message)
+    ∙ ap (λ ss. lines message ss a.end a.grades a.end) (sym speed_steps)
+    ∙ ap (λ se. lines message speeds.steps se a.grades a.end) (sym speed_end)
+    ∙ ap (λ gs. lines message speeds.steps speeds.end gs a.end) (sym grade_steps)
+    ∙ ap (λ ge. lines message speeds.steps speeds.end grades.steps ge) (sym grade_end)
+
+-- What is printed is the reply to the train that was shown this and is granted that, where what is lent is theirs.
+pub grant_text-is_reply : (track : Track) (granted : Granted) (view : View) (grant : Grants)
+    → granted.train ≡ grant.train → granted.from ≡ grant.from → granted.authority.now ≡ grant.authority → granted.obstacle ≡ grant.obstacle
+    → granted.speeds.limit ≡ view.speed_steps → granted.speeds.track.now.steps ≡ view.speeds
+    → granted.grades.limit ≡ view.grade_steps → granted.grades.track.now.steps ≡ view.grades
+    → grant_text track granted ≡ grant_reply track granted.version view grant (prices_of granted.speeds.prices.now) (prices_of granted.grades.prices.now)
+grant_text-is_reply track granted view grant train from authority obstacle speed_steps speeds grade_steps grades =
+    let first : ℕ → ℤ → Authority → Obstacle → List ℕ =
+    λ t f a o. line_of (codes "granted" ∷ decimal t ∷ decimal granted.version ∷ signed_decimal f ∷ decimal a.end ∷ obstacle_words track o) in
+    let shown : ℕ → List (ℕ × ℕ) → ℕ → List (ℕ × ℤ) → ℕ → ℤ → Authority → Obstacle → List ℕ =
+    λ sl sr gl gr t f a o.
+    first t f a o
+    ++ message_line (message_bytes a)
+    ++ certificate speed_kind (record { limit = sl; runs = sr; end = a.end }) a.speeds (prices_of granted.speeds.prices.now)
+    ++ certificate grade_kind (record { limit = gl; runs = gr; end = a.end }) a.grades (prices_of granted.grades.prices.now)
+    ++ line_of (codes "done" ∷ []) in
+    let s = granted.speeds in
+    let r = granted.grades in
+    ap (λ sl. shown sl s.track.now.steps r.limit r.track.now.steps granted.train granted.from granted.authority.now granted.obstacle) speed_steps
+    ∙ ap (λ sr. shown view.speed_steps sr r.limit r.track.now.steps granted.train granted.from granted.authority.now granted.obstacle) speeds
+    ∙ ap (λ gl. shown view.speed_steps view.speeds gl r.track.now.steps granted.train granted.from granted.authority.now granted.obstacle) grade_steps
+    ∙ ap (λ gr. shown view.speed_steps view.speeds view.grade_steps gr granted.train granted.from granted.authority.now granted.obstacle) grades
+    ∙ ap (λ t. shown view.speed_steps view.speeds view.grade_steps view.grades t granted.from granted.authority.now granted.obstacle) train
+    ∙ ap (λ f. shown view.speed_steps view.speeds view.grade_steps view.grades grant.train f granted.authority.now granted.obstacle) from
+    ∙ ap (λ a. shown view.speed_steps view.speeds view.grade_steps view.grades grant.train grant.from a granted.obstacle) authority
+    ∙ ap (λ o. shown view.speed_steps view.speeds view.grade_steps view.grades grant.train grant.from grant.authority o) obstacle

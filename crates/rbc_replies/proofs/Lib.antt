@@ -1,0 +1,2 @@
+pub mod GrantTextLemmas
+pub mod LineWordLemmas

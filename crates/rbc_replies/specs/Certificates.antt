@@ -1,0 +1,18 @@
+-- Certificates that are printed, as text.
+use Rattle.std.specs.Prelude.{◌≡◌, ℕ, ◌<◌, IsTrue, List}
+use Rattle.rbc_model.specs.Kinds.{Kind}
+use Rattle.rbc_model.specs.Levels.{Levels}
+use Rattle.rbc_model.specs.Profiles.{StepFunction, value_at, is_within}
+use Rattle.rbc_model.specs.StepsReply.{certificate}
+use Rattle.rbc_words.specs.PriceText.{prices_of}
+use Rattle.rbc_replies.specs.declared.replies.Basis.{Basis}
+
+-- the certificate of a profile with this end and these steps
+abbrev pub certificate_text : {V : Type 0} → Kind V → ℕ → List (ℕ × V) → Basis V → List ℕ
+certificate_text kind end steps basis =
+    certificate kind (record { limit = basis.limit; runs = basis.track.now.steps; end = end }) steps (prices_of basis.prices.now)
+
+-- The profile can be chosen for the track: it has its end, and is nowhere above it.
+pub record IsBasisOf {V : Type 0} (levels : Levels V) (profile track : StepFunction V) : Type 0 where
+  pub ends : track.end ≡ profile.end
+  pub below : (x : ℕ) → x < profile.end → IsTrue (is_within levels (value_at track.steps x) (value_at profile.steps x))

@@ -1,0 +1,15 @@
+-- Words of a line that is printed, as text.
+use Rattle.std.specs.Prelude.{ℕ, List, decimal}
+use Rattle.std.specs.Fmt.{signed_decimal}
+use Rattle.rbc_model.specs.Names.{leg_text}
+use Rattle.rbc_replies.specs.declared.line_words.Word.{Word}
+use Rattle.rbc_replies.specs.declared.line_words.Word.TheVariants.{Text, Number, Count, Distance, Name, Leg}
+
+-- a word
+abbrev pub word_text : Word → List ℕ
+word_text (Text text) = text.now
+word_text (Number number) = decimal number
+word_text (Count count) = decimal count
+word_text (Distance metres) = signed_decimal metres
+word_text (Name name) = name
+word_text (Leg leg) = leg_text leg

@@ -1,0 +1,12 @@
+-- The words of a report.
+use Rattle.std.proofs.Common.{◌≡◌, ℕ, List, [], ◌∷◌, Err, ap}
+use Rattle.rbc_model.specs.declared.refusals.LineFault.{LineFault}
+use Rattle.rbc_model.specs.declared.refusals.LineFault.TheVariants.{Words}
+use Rattle.rbc_model.specs.SessionText.{report_in, only_word}
+
+-- without a last word of its own, or with more behind it, there is no report
+pub report_in-no_last : (a b c d e f g : List ℕ) (rest : List (List ℕ)) (fault : LineFault) → only_word rest ≡ Err fault
+    → report_in (a ∷ b ∷ c ∷ d ∷ e ∷ f ∷ g ∷ rest) ≡ Err fault
+report_in-no_last a b c d e f g [] fault none = let same : Words ≡ fault = cc in ap Err same
+report_in-no_last a b c d e f g (h ∷ []) fault none = absurd cc
+report_in-no_last a b c d e f g (h ∷ i ∷ more) fault none = let same : Words ≡ fault = cc in ap Err same

@@ -1,0 +1,61 @@
+//! Tables of prices, printed.
+
+ghost use Rattle.std.specs.Prelude.{◌≡◌, false, ◌∷◌, map, codes, decimal};
+ghost use Rattle.rbc_model.specs.Sessions.{Prints};
+ghost use Rattle.rbc_model.specs.Words.{line_of};
+ghost use Rattle.rbc_words.specs.PriceText.{spaced, prices_text};
+
+use crate::print_number;
+use rbc_streams::{Sink, WriteFailed, put};
+
+/// Writes a table of prices, a line for each row, counted from 1.
+///
+/// # Errors
+///
+/// `WriteFailed`, where the writer fails. Then a part of the text stands, from its start.
+pub fn print_table<W: Sink>(rows: &[Vec<u64>], writer: &mut W) -> Result<(), WriteFailed>
+    requires { W.failed writer.old ≡ false }
+    ensures { Prints (W.written writer.old) (W.written writer.new) (W.failed writer.new)
+        (prices_text rows.now) result }
+{
+    let mut number = 0;
+    for row in rows {
+        number += 1;
+        print_row(number, row.as_slice(), writer)?;
+    }
+    Ok(())
+}
+
+/// Writes the line of a row: its number, and its prices.
+fn print_row<W: Sink>(number: u64, row: &[u64], writer: &mut W) -> Result<(), WriteFailed>
+    requires { W.failed writer.old ≡ false }
+    ensures { Prints (W.written writer.old) (W.written writer.new) (W.failed writer.new)
+        (line_of (codes "prices" ∷ decimal number ∷ map decimal row.now)) result }
+{
+    put(writer, b"prices ")?;
+    print_number(number, writer)?;
+    print_prices(row, writer)?;
+    put(writer, b"\n")
+}
+
+/// Writes prices, each behind a space.
+fn print_prices<W: Sink>(prices: &[u64], writer: &mut W) -> Result<(), WriteFailed>
+    requires { W.failed writer.old ≡ false }
+    ensures { Prints (W.written writer.old) (W.written writer.new) (W.failed writer.new)
+        (spaced (map decimal prices.now)) result }
+{
+    for price in prices {
+        print_price(*price, writer)?;
+    }
+    Ok(())
+}
+
+/// Writes a price behind a space.
+fn print_price<W: Sink>(price: u64, writer: &mut W) -> Result<(), WriteFailed>
+    requires { W.failed writer.old ≡ false }
+    ensures { Prints (W.written writer.old) (W.written writer.new) (W.failed writer.new)
+        (32 ∷ decimal price) result }
+{
+    put(writer, b" ")?;
+    print_number(price, writer)
+}
