@@ -2,11 +2,13 @@
 
 ghost use Rattle.std.specs.Prelude.{◌≡◌, ◌<◌, ◌≤◌, length, slice_get, option_map, Some, Err, IfSome, IfErr};
 ghost use Rattle.rbc_model.specs.Tracks.{section_named, route_named, group_named, is_linked};
+ghost use Rattle.rbc_model.specs.Scales.{farthest};
 ghost use Rattle.rbc_model.specs.SoundTracks.{IsInForm, IsSound, size_refusal};
 ghost use Rattle.rbc_model.specs.Answers.{AnswersOrMemory};
 ghost use Rattle.rbc_model.specs.TrackParts.{resolved, track_of};
 ghost use Rattle.rbc_model.specs.declared.limits.TheConstants.{MOST_STEPS};
 ghost use Rattle.rbc_model.specs.declared.memory.OrMemory.TheVariants.{Refused};
+ghost use Rattle.rbc_model.specs.declared.places.Format.TheVariants.{Near};
 ghost use Rattle.rbc_track.specs.Making.{made_of, sizes_of};
 ghost use Rattle.rbc_track.specs.PartsView.{parts_view};
 ghost use Rattle.rbc_track.specs.Tables.{leg_named};
@@ -18,6 +20,7 @@ use crate::route_table::Routes;
 use crate::section_table::Sections;
 use crate::sizes::judge_sizes;
 use crate::{LegName, Name, Parts, Route, Section};
+use rbc_model::limits::FARTHEST_END;
 use rbc_model::{BaliseGroup, GroupName, Leg, OrMemory, RouteId, SectionId, TrackRefusal};
 use std::alloc::Global;
 use std::marker::Model;
@@ -116,6 +119,16 @@ impl Track {
         ensures at_most { result ≤ MOST_STEPS }
     {
         self.grade_steps
+    }
+
+    /// How many metres from its balise group an authority may end.
+    pub fn farthest_end(&self) -> u32
+        ensures end { result ≡ farthest self.now.format }
+        ensures near { self.now.format ≡ Near }
+    {
+        // Every track is of the near format.
+        let _ = &self.speed_steps;
+        FARTHEST_END
     }
 
     /// How many sections the track has: 1 to 4,096.

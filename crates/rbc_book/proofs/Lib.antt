@@ -1,0 +1,4 @@
+mod CopyLemmas
+mod EntryLemmas
+mod GoodBookLemmas
+mod LegPlaceLemmas

@@ -1,0 +1,227 @@
+//! The trains of a track in order of arrival.
+
+ghost use Rattle.std.specs.Prelude.{◌≡◌, ◌<◌, ◌≤◌, [], length, map, None, Some, IfOk, IsTrue, OnErr, OnOk, find, is_some, option_map};
+ghost use Rattle.std.specs.Arc.{arc_value};
+ghost use Rattle.std.specs.Map.Iter.{ShowsInOrder, deref};
+ghost use Rattle.std.specs.Option.{option_copied};
+ghost use Rattle.rbc_model.specs.Events.{cut_at, stands_on, with_authority, with_train};
+ghost use Rattle.rbc_model.specs.Histories.{AuthoritiesAreApart};
+ghost use Rattle.rbc_model.specs.Scenes.{authority_has, extent_has};
+ghost use Rattle.rbc_scene_laws.specs.Good.{IsGoodTrain};
+ghost use Rattle.rbc_book.specs.Books.{HoldsOfTrain, IsGoodBook, book_with, book_without, number_in, scene_of, train_in};
+ghost use Rattle.indexmap.specs.IndexMap.{values};
+ghost use Rattle.rbc_extent.specs.TrainsOnTracks.{TrainOnTrack};
+ghost use Rattle.rbc_book.specs.Entries.{number_on, on_track};
+
+use crate::places::{authority_has, extent_has, stands_on};
+use indexmap::IndexMap;
+use indexmap::map::Values;
+use rbc_extent::Train;
+use rbc_line::Line;
+use rbc_model::{Memory, Metre, SectionId};
+use rbc_track::Track;
+use std::alloc::Global;
+use std::marker::Model;
+use std::sync::Arc;
+
+/// The trains of a track in order of arrival. No two have one number, and no metre stands in the authorities of two.
+#[derive(Drop)]
+pub struct Book {
+    track: Arc<Track>,
+    trains: IndexMap<u32, Train>,
+}
+
+impl Model for Book {
+    ghost use Rattle.std.specs.Arc.{arc_value};
+    ghost use Rattle.rbc_book.specs.Books.{Book};
+    ghost use Rattle.rbc_book.specs.Entries.{AreEntries, book_of};
+
+    ghost Value = { Book };
+
+    ghost view = { λ b. book_of (arc_value b.track) b.trains.entries };
+
+    ghost invariant = { λ b. AreEntries (arc_value b.track) b.trains.entries };
+}
+
+/// The first of the trains whose authority has the metre.
+fn first_holder(trains: &IndexMap<u32, Train>, metre: Metre) -> Option<u32>
+    ensures { result ≡ option_map number_on
+        (find (λ (t : TrainOnTrack). authority_has t.track metre t.train) (values trains.now)) }
+{
+    let holder = trains.values().find(|train| authority_has(train, metre))?;
+    Some(holder.number())
+}
+
+/// The first of the trains whose extent has the metre.
+fn first_occupant(trains: &IndexMap<u32, Train>, metre: Metre) -> Option<u32>
+    ensures { result ≡ option_map number_on
+        (find (λ (t : TrainOnTrack). extent_has t.track metre t.train) (values trains.now)) }
+{
+    let occupant = trains.values().find(|train| extent_has(train, metre))?;
+    Some(occupant.number())
+}
+
+/// The first of the trains whose extent or authority has a metre of the section.
+fn first_standing_on(trains: &IndexMap<u32, Train>, section: SectionId) -> Option<u32>
+    ensures { result ≡ option_map number_on
+        (find (λ (t : TrainOnTrack). stands_on t.track section t.train) (values trains.now)) }
+{
+    let standing = trains.values().find(|train| stands_on(train, section))?;
+    Some(standing.number())
+}
+
+/// The same entries, in the same order.
+fn copy_of(alloc: Global, trains: &IndexMap<u32, Train>) -> Result<IndexMap<u32, Train>, Memory>
+    ensures { IfOk result (λ copy. copy.entries ≡ trains.now.entries) }
+{
+    let mut copy = IndexMap::new(alloc);
+    for index in 0..trains.len() {
+        let (number, train) = trains.get_index(index).unwrap();
+        copy.insert(*number, train.copy(alloc)?)?;
+    }
+    Ok(copy)
+}
+
+impl Book {
+    /// The book of no trains.
+    pub fn new(alloc: Global, track: Arc<Track>) -> Book
+        ensures { result ≡ record { track = arc_value track; trains = [] } }
+    {
+        Book {
+            track,
+            trains: IndexMap::new(alloc),
+        }
+    }
+
+    /// The track that the trains run on.
+    pub fn track(&self) -> &Arc<Track>
+        ensures track { arc_value result.now ≡ self.now.track }
+        ensures good { IsGoodBook self.now }
+    {
+        let _trains = &self.trains;
+        &self.track
+    }
+
+    /// How many trains there are.
+    pub fn len(&self) -> usize
+        ensures { result ≡ length self.now.trains }
+    {
+        self.trains.len()
+    }
+
+    /// The trains in order of arrival.
+    pub fn trains(&self) -> Values<'_, u32, Train>
+        ensures trains { result ≡ map (on_track self.now.track) self.now.trains }
+        ensures runs { ShowsInOrder (deref {X = TrainOnTrack}) }
+    {
+        self.trains.values()
+    }
+
+    /// The train of this number, if it is there.
+    pub fn get(&self, number: u32) -> Option<&Train>
+        ensures { option_copied result ≡ option_map (on_track self.now.track) (train_in self.now number) }
+    {
+        self.trains.get(&number)
+    }
+
+    /// Puts in the train as it is now, in the place of the one of its number; a new train is last. It may hold no
+    /// metre that another train holds. Where memory is refused nothing changes.
+    ///
+    /// # Errors
+    ///
+    /// `Memory`, where the allocator refuses room for a new train. A train that is there needs none.
+    pub fn set_place(&mut self, train: Train) -> Result<(), Memory>
+        requires track { train.track ≡ self.old.track }
+        requires apart { AuthoritiesAreApart self.old.track (with_train (scene_of self.old.trains) train.train) }
+        ensures placed { OnOk result (self.new ≡ book_with self.old train.train) }
+        ensures refused { OnErr result (self.new ≡ self.old) }
+        ensures new { OnErr result (train_in self.old train.train.report.train ≡ None) }
+    {
+        let _line = train.line();
+        self.trains.insert(train.number(), train)?;
+        Ok(())
+    }
+
+    /// Gives a train another authority, on a line that has both its extent and this authority. It may hold no
+    /// metre that another train holds. It takes no memory.
+    pub fn set_held(&mut self, number: u32, line: Line, from: u32, to: u32)
+        requires known { IsTrue (is_some (train_in self.old number)) }
+        requires track { line.track ≡ self.old.track }
+        requires good { HoldsOfTrain self.old number
+            (λ train. IsGoodTrain self.old.track (with_authority train line.legs from to)) }
+        requires apart { HoldsOfTrain self.old number (λ train. AuthoritiesAreApart self.old.track
+            (with_train (scene_of self.old.trains) (with_authority train line.legs from to))) }
+        ensures { HoldsOfTrain self.old number
+            (λ train. self.new ≡ book_with self.old (with_authority train line.legs from to)) }
+    {
+        let held = self
+            .trains
+            .get(&number)
+            .unwrap()
+            .with_authority(line, from, to);
+        let _line = held.line();
+        match self.trains.insert(number, held) {
+            Ok(_) => {}
+            Err(_) => unreachable!(),
+        }
+    }
+
+    /// A train gives back what its authority has from a place on, which is not behind its front. The legs that
+    /// neither its extent nor its authority needs then are dropped. It takes no memory.
+    pub fn give_back(&mut self, number: u32, to: u32)
+        requires known { IsTrue (is_some (train_in self.old number)) }
+        requires front { HoldsOfTrain self.old number (λ train. train.front ≤ to) }
+        requires from { HoldsOfTrain self.old number (λ train. train.from ≤ to) }
+        requires to { HoldsOfTrain self.old number (λ train. to < train.to) }
+        requires apart { HoldsOfTrain self.old number (λ train. AuthoritiesAreApart self.old.track
+            (with_train (scene_of self.old.trains) (cut_at self.old.track train to))) }
+        ensures { HoldsOfTrain self.old number
+            (λ train. self.new ≡ book_with self.old (cut_at self.old.track train to)) }
+    {
+        let train = self.trains.get_mut(&number).unwrap();
+        train.cut_at(to);
+        let _line = train.line();
+    }
+
+    /// Takes out the train of this number. Tells whether it was there. A train that comes again is last.
+    pub fn leave(&mut self, number: u32) -> bool
+        ensures left { self.new ≡ book_without self.old number }
+        ensures known { result ≡ is_some (train_in self.old number) }
+    {
+        self.trains.shift_remove(&number).is_some()
+    }
+
+    /// The first train whose authority has the metre.
+    pub fn holder(&self, metre: Metre) -> Option<u32>
+        ensures { result ≡ option_map number_in (find (authority_has self.now.track metre) self.now.trains) }
+    {
+        first_holder(&self.trains, metre)
+    }
+
+    /// The first train whose extent has the metre.
+    pub fn occupant(&self, metre: Metre) -> Option<u32>
+        ensures { result ≡ option_map number_in (find (extent_has self.now.track metre) self.now.trains) }
+    {
+        first_occupant(&self.trains, metre)
+    }
+
+    /// The first train whose extent or authority has a metre of the section.
+    pub fn standing_on(&self, section: SectionId) -> Option<u32>
+        ensures { result ≡ option_map number_in (find (stands_on self.now.track section) self.now.trains) }
+    {
+        first_standing_on(&self.trains, section)
+    }
+
+    /// A book of the same trains on the same track.
+    ///
+    /// # Errors
+    ///
+    /// `Memory`, where the allocator refuses room for the trains.
+    pub fn copy(&self, alloc: Global) -> Result<Book, Memory>
+        ensures { IfOk result (λ book. book ≡ self.now) }
+    {
+        let track = self.track.clone()?;
+        let trains = copy_of(alloc, &self.trains)?;
+        Ok(Book { track, trains })
+    }
+}

@@ -1,0 +1,8 @@
+//! The book: the trains of a track in order of arrival, each found by its number, and which of them has a metre.
+#![tactic(auto)]
+
+mod book;
+mod places;
+
+pub use book::Book;
+pub use rbc_model::Memory;

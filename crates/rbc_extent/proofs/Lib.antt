@@ -1,0 +1,9 @@
+mod CourseLemmas
+mod CoveringLemmas
+mod FindingLemmas
+mod GroupLemmas
+mod LeavingLemmas
+mod LengthenedLemmas
+mod PositionLemmas
+mod OutcomeLemmas
+mod LockedLemmas

@@ -1,0 +1,90 @@
+//! Where a report places its train.
+
+ghost use Rattle.std.specs.Prelude.{◌≡◌, ◌≤◌, ◌*◌};
+ghost use Rattle.rbc_model.specs.Lines.{line_length};
+ghost use Rattle.rbc_model.specs.declared.limits.TheConstants.{LONGEST_TRACK, MOST_SECTIONS};
+
+use rbc_line::Line;
+use std::marker::Model;
+
+/// Where a report places its train: its line, the place on it of the balise group that the report counts from (the
+/// origin), and its extent from the min safe rear end to the front. A place is so many metres from the line's start.
+#[derive(Drop)]
+pub struct Placed {
+    line: Line,
+    origin: u32,
+    rear: u32,
+    front: u32,
+}
+
+impl Model for Placed {
+    ghost use Rattle.rbc_extent.specs.TrainsOnTracks.{PlacedOnTrack, placed_on_line, StandsOnLine};
+
+    ghost Value = { PlacedOnTrack };
+
+    ghost view = { λ p. record { track = p.line.track; placed = placed_on_line p.line p.origin p.rear p.front } };
+
+    ghost invariant = { λ p. StandsOnLine p.line p.origin p.rear p.front };
+}
+
+impl Placed {
+    ghost use Rattle.rbc_extent.specs.TrainsOnTracks.{placed_on_line, StandsOnLine};
+
+    /// The placing on this line.
+    pub(crate) fn new(line: Line, origin: u32, rear: u32, front: u32) -> Placed
+        requires { StandsOnLine line origin rear front }
+        ensures track { result.track ≡ line.track }
+        ensures placed { result.placed ≡ placed_on_line line origin rear front }
+    {
+        Placed {
+            line,
+            origin,
+            rear,
+            front,
+        }
+    }
+
+    /// The legs that the train runs along.
+    pub fn line(&self) -> &Line
+        ensures track { result.now.track ≡ self.now.track }
+        ensures legs { result.now.legs ≡ self.now.placed.line }
+    {
+        &self.line
+    }
+
+    /// The place of the balise group that the report counts from.
+    pub fn origin(&self) -> u32
+        ensures origin { result ≡ self.now.placed.origin }
+        ensures at_most { result ≤ self.now.placed.front }
+        ensures few_metres { result ≤ MOST_SECTIONS * LONGEST_TRACK }
+    {
+        prove!(self.front <= self.line.length());
+        self.origin
+    }
+
+    /// The place of the first metre that the train may stand on.
+    pub fn rear(&self) -> u32
+        ensures rear { result ≡ self.now.placed.rear }
+        ensures at_most { result ≤ self.now.placed.front }
+    {
+        self.rear
+    }
+
+    /// The place behind the last metre that the train may stand on.
+    pub fn front(&self) -> u32
+        ensures front { result ≡ self.now.placed.front }
+        ensures on_line { result ≤ line_length self.now.track self.now.placed.line }
+        ensures few_metres { result ≤ MOST_SECTIONS * LONGEST_TRACK }
+    {
+        prove!(self.front <= self.line.length());
+        self.front
+    }
+
+    /// The line alone.
+    pub fn into_line(self) -> Line
+        ensures track { result.track ≡ self.track }
+        ensures legs { result.legs ≡ self.placed.line }
+    {
+        self.line
+    }
+}

@@ -1,0 +1,161 @@
+//! Placing a report.
+
+ghost use Rattle.std.specs.Prelude.{◌≡◌, ◌<◌, length, None, Err, IfOk, IfSome, IsTrue, true, option_map};
+ghost use Rattle.std.specs.Arc.{arc_value};
+ghost use Rattle.std.specs.Result.{result_map_both};
+ghost use Rattle.rbc_model.specs.Answers.{AnswersAs};
+ghost use Rattle.rbc_model.specs.Lines.{has_leg};
+ghost use Rattle.rbc_model.specs.Placing.{has_front, leg_told, place, placed_on};
+ghost use Rattle.rbc_model.specs.SoundTracks.{IsSound, is_good_group};
+ghost use Rattle.rbc_model.specs.Tracks.{group_named};
+ghost use Rattle.rbc_model.specs.declared.memory.OrMemory.TheVariants.{Refused};
+ghost use Rattle.rbc_model.specs.declared.refusals.Refusal.TheVariants.{UnknownGroup};
+ghost use Rattle.rbc_scene_laws.specs.Good.{IsGoodLocks};
+ghost use Rattle.rbc_extent.specs.Findings.{finding_view};
+ghost use Rattle.rbc_extent.specs.PlacingSteps.{finding, finding_from, locating_step};
+
+use crate::Placed;
+use crate::counting::{leg_told, metres_ahead, origin_on, rear_from};
+use crate::covering::{continued_to, covering};
+use crate::finding::Finding;
+use rbc_line::Line;
+use rbc_locks::Locks;
+use rbc_model::{BaliseGroup, Leg, OrMemory, Refusal, Report};
+use rbc_track::Track;
+use std::alloc::Global;
+use std::sync::Arc;
+
+/// Where a report places its train, whose line so far is `known`, or which is new. The line of a new train is the leg
+/// told; a known one is continued along the locks as far as needed to have this leg. The legs before both the leg
+/// told and the leg with the train's rear are dropped. Then the line is lengthened along the locks, behind until it
+/// has the rear and ahead until it has the metre before the front.
+///
+/// The train stands between its max safe front end and its min safe rear end (SUBSET-026, 3.6.4).
+///
+/// # Errors
+///
+/// `Refused` with the first of these:
+/// - `UnknownGroup`: the track has no such balise group. This is told before any memory is asked for.
+/// - `Offline`: the locks do not lead from the known line to the leg told.
+/// - `Unplaced`: the locks do not lead to the rear or to the front, or lead back onto the line.
+/// - `TooFar`: the front lies further from the group than an authority may end.
+///
+/// `Memory` may come in place of all but the first.
+pub fn place(
+    alloc: Global,
+    track: &Arc<Track>,
+    locks: &Locks,
+    known: Option<&Line>,
+    report: &Report,
+) -> Result<Placed, OrMemory<Refusal>>
+    requires locks { IsGoodLocks (arc_value track.now) locks.now }
+    requires known { IfSome known (λ line. line.now.track ≡ arc_value track.now) }
+    ensures placed { AnswersAs (λ p. p.placed) result
+        (place (arc_value track.now) locks.now (option_map (λ line. line.now.legs) known.entry) report.now) }
+    ensures track { IfOk result (λ p. p.track ≡ arc_value track.now) }
+    ensures unknown { group_named (arc_value track.now) report.now.group ≡ None
+        → result ≡ Err (Refused UnknownGroup) }
+{
+    let finding = find(alloc, track, locks, known, report)?;
+    Ok(finding.placed)
+}
+
+/// What a report comes to.
+#[tactic(auto, unfolding(crate::specs::PlacingSteps::finding))]
+pub(crate) fn find(
+    alloc: Global,
+    track: &Arc<Track>,
+    locks: &Locks,
+    known: Option<&Line>,
+    report: &Report,
+) -> Result<Finding, OrMemory<Refusal>>
+    requires locks { IsGoodLocks (arc_value track.now) locks.now }
+    requires known { IfSome known (λ line. line.now.track ≡ arc_value track.now) }
+    ensures finding { AnswersAs finding_view result
+        (finding (arc_value track.now) locks.now (option_map (λ line. line.now.legs) known.entry) report.now) }
+    ensures track { IfOk result (λ f. f.placed.track ≡ arc_value track.now) }
+    ensures sound { IsSound (arc_value track.now) }
+    ensures unknown { group_named (arc_value track.now) report.now.group ≡ None
+        → result ≡ Err (Refused UnknownGroup) }
+{
+    match group_of(track, report) {
+        Some(group) => find_from(alloc, track, locks, known, report, &group),
+        None => Err(OrMemory::Refused(Refusal::UnknownGroup)),
+    }
+}
+
+/// The group that the report tells.
+fn group_of(track: &Track, report: &Report) -> Option<BaliseGroup>
+    ensures group { result ≡ group_named track.now report.now.group }
+    ensures good { IfSome result (λ group. IsTrue (is_good_group track.now group)) }
+    ensures sound { IsSound track.now }
+{
+    // A track is sound: its groups stand on its sections.
+    let _sections = track.section_count();
+    track.group(report.group())
+}
+
+/// What a report from this group comes to.
+#[tactic(auto, unfolding(crate::specs::PlacingSteps::finding_from))]
+fn find_from(
+    alloc: Global,
+    track: &Arc<Track>,
+    locks: &Locks,
+    known: Option<&Line>,
+    report: &Report,
+    group: &BaliseGroup,
+) -> Result<Finding, OrMemory<Refusal>>
+    requires locks { IsGoodLocks (arc_value track.now) locks.now }
+    requires known { IfSome known (λ line. line.now.track ≡ arc_value track.now) }
+    requires group { IsTrue (is_good_group (arc_value track.now) group.now) }
+    ensures finding { AnswersAs finding_view result (finding_from (arc_value track.now) locks.now
+        (option_map (λ line. line.now.legs) known.entry) report.now group.now) }
+    ensures track { IfOk result (λ f. f.placed.track ≡ arc_value track.now) }
+{
+    let leg = leg_told(group, report);
+    let start = located(alloc, track, locks, known, leg)?;
+    let old_origin = origin_on(&start, group, report);
+    let line = covering(alloc, locks, group, report, start)?;
+    let placed = placed_on(group, report, line)?;
+    Ok(Finding { old_origin, placed })
+}
+
+/// The line that has the leg told: that of the leg alone, or the known one, continued as far as needed.
+#[tactic(auto, unfolding(crate::specs::PlacingSteps::locating_step))]
+fn located(
+    alloc: Global,
+    track: &Arc<Track>,
+    locks: &Locks,
+    known: Option<&Line>,
+    leg: Leg,
+) -> Result<Line, OrMemory<Refusal>>
+    requires locks { IsGoodLocks (arc_value track.now) locks.now }
+    requires known { IfSome known (λ line. line.now.track ≡ arc_value track.now) }
+    requires leg { leg.section < length (arc_value track.now).sections }
+    ensures line { AnswersAs (λ l. l.legs) result
+        (locating_step (arc_value track.now) locks.now leg (option_map (λ line. line.now.legs) known.entry)) }
+    ensures track { IfOk result (λ l. l.track ≡ arc_value track.now) }
+    ensures has { IfOk result (λ l. has_leg l.legs leg ≡ true) }
+{
+    match known {
+        Some(line) => continued_to(alloc, locks, line.copy(alloc)?, leg),
+        None => Ok(Line::new(alloc, track, leg)?),
+    }
+}
+
+/// The train on its line, if its front lies no farther from its group than an authority may end.
+fn placed_on(group: &BaliseGroup, report: &Report, line: Line) -> Result<Placed, Refusal>
+    requires group { IsTrue (is_good_group line.track group.now) }
+    requires front { has_front line.track group.now report.now line.legs ≡ true }
+    ensures track { IfOk result (λ p. p.track ≡ line.track) }
+    ensures placed { result_map_both (λ p. p.placed) (λ refusal. refusal) result
+        ≡ placed_on line.track group.now report.now line.legs }
+{
+    let ahead = metres_ahead(report);
+    if ahead > line.track().farthest_end() {
+        return Err(Refusal::TooFar);
+    }
+    let origin = origin_on(&line, group, report);
+    let rear = rear_from(origin, report);
+    Ok(Placed::new(line, origin, rear, origin + ahead))
+}

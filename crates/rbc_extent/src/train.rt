@@ -1,0 +1,200 @@
+//! A train, as its last report and its authority leave it.
+
+ghost use Rattle.std.specs.Prelude.{◌≡◌, ◌<◌, ◌≤◌, ◌*◌, IfOk};
+ghost use Rattle.rbc_model.specs.Events.{with_authority, cut_at};
+ghost use Rattle.rbc_model.specs.Lines.{line_length};
+ghost use Rattle.rbc_model.specs.declared.limits.TheConstants.{LONGEST_TRACK, MOST_SECTIONS};
+ghost use Rattle.rbc_scene_laws.specs.Good.{IsGoodTrain};
+ghost use Rattle.rbc_extent.specs.PlacedTrains.{placed_train};
+
+use crate::Placed;
+use crate::through::cut_ahead;
+use rbc_line::Line;
+use rbc_model::{Memory, Report};
+use std::alloc::Global;
+use std::marker::Model;
+
+/// An authority, from one place up to another, which is left out. Empty ones are from a place to the same.
+#[derive(Clone, Copy)]
+pub(crate) struct Authority {
+    pub(crate) from: u32,
+    pub(crate) to: u32,
+}
+
+/// A train: its last report, its line, the place on it of the balise group that the report counts from (the origin),
+/// its extent from the min safe rear end to the front, and its authority from one place to another. A place is so
+/// many metres from the line's start. Its extent and its authority stand on its line, and the authority not behind
+/// the rear.
+#[derive(Drop)]
+pub struct Train {
+    report: Report,
+    line: Line,
+    origin: u32,
+    rear: u32,
+    front: u32,
+    from: u32,
+    to: u32,
+}
+
+impl Model for Train {
+    ghost use Rattle.rbc_extent.specs.TrainsOnTracks.{TrainOnTrack, train_on};
+    ghost use Rattle.rbc_scene_laws.specs.Good.{IsGoodTrain};
+
+    ghost Value = { TrainOnTrack };
+
+    ghost view = { λ t. record {
+      track = t.line.track;
+      train = train_on t.line t.report t.origin t.rear t.front t.from t.to;
+    } };
+
+    ghost invariant = { λ t.
+        IsGoodTrain t.line.track (train_on t.line t.report t.origin t.rear t.front t.from t.to) };
+}
+
+impl Train {
+    /// The train that a report places so, with this authority. The legs ahead that neither its extent nor its
+    /// authority needs are dropped, save the leg told.
+    pub(crate) fn placed(placed: Placed, report: &Report, authority: Authority) -> Train
+        requires { IsGoodTrain placed.track
+            (placed_train placed.track report.now placed.placed authority.from authority.to) }
+        ensures track { result.track ≡ placed.track }
+        ensures train { result.train
+            ≡ placed_train placed.track report.now placed.placed authority.from authority.to }
+    {
+        let Authority { from, to } = authority;
+        let (origin, rear, front) = (placed.origin(), placed.rear(), placed.front());
+        let mut line = placed.into_line();
+        cut_ahead(&mut line, report, front.max(to));
+        Train {
+            report: *report,
+            line,
+            origin,
+            rear,
+            front,
+            from,
+            to,
+        }
+    }
+
+    /// The train's number, 1 to 9,999,999.
+    pub fn number(&self) -> u32
+        ensures { result ≡ self.now.train.report.train }
+    {
+        self.report.train()
+    }
+
+    /// The train's last report.
+    pub fn report(&self) -> Report
+        ensures { result ≡ self.now.train.report }
+    {
+        self.report
+    }
+
+    /// The legs that the train runs along.
+    pub fn line(&self) -> &Line
+        ensures track { result.now.track ≡ self.now.track }
+        ensures legs { result.now.legs ≡ self.now.train.line }
+        ensures good { IsGoodTrain self.now.track self.now.train }
+    {
+        &self.line
+    }
+
+    /// The place of the balise group that the last report counts from.
+    pub fn origin(&self) -> u32
+        ensures origin { result ≡ self.now.train.origin }
+        ensures at_most { result ≤ self.now.train.front }
+    {
+        self.origin
+    }
+
+    /// The place of the first metre that the train may stand on.
+    pub fn rear(&self) -> u32
+        ensures rear { result ≡ self.now.train.rear }
+        ensures at_most { result ≤ self.now.train.front }
+    {
+        self.rear
+    }
+
+    /// The place behind the last metre that the train may stand on.
+    pub fn front(&self) -> u32
+        ensures front { result ≡ self.now.train.front }
+        ensures on_line { result ≤ line_length self.now.track self.now.train.line }
+    {
+        self.front
+    }
+
+    /// The place of the first metre of the train's authority.
+    pub fn from(&self) -> u32
+        ensures from { result ≡ self.now.train.from }
+        ensures at_least { self.now.train.rear ≤ result }
+        ensures at_most { result ≤ self.now.train.to }
+    {
+        self.from
+    }
+
+    /// The place behind the last metre of the train's authority.
+    pub fn to(&self) -> u32
+        ensures to { result ≡ self.now.train.to }
+        ensures on_line { result ≤ line_length self.now.track self.now.train.line }
+        ensures few_metres { result ≤ MOST_SECTIONS * LONGEST_TRACK }
+    {
+        prove!(self.to <= self.line.length());
+        self.to
+    }
+
+    /// The train with another authority, on a line that has both its extent and this authority.
+    pub fn with_authority(&self, line: Line, from: u32, to: u32) -> Train
+        requires track { line.track ≡ self.now.track }
+        requires good { IsGoodTrain line.track (with_authority self.now.train line.legs from to) }
+        ensures track { result.track ≡ self.now.track }
+        ensures train { result.train ≡ with_authority self.now.train line.legs from to }
+    {
+        Train {
+            report: self.report,
+            line,
+            origin: self.origin,
+            rear: self.rear,
+            front: self.front,
+            from,
+            to,
+        }
+    }
+
+    /// Gives back what the authority has from a place on, which is not behind the train's front. The legs that
+    /// neither the extent nor the authority needs then are dropped, save that of the last report. It takes no memory.
+    pub fn cut_at(&mut self, to: u32)
+        requires front { self.old.train.front ≤ to }
+        requires from { self.old.train.from ≤ to }
+        requires to { to < self.old.train.to }
+        ensures track { self.new.track ≡ self.old.track }
+        ensures train { self.new.train ≡ cut_at self.old.track self.old.train to }
+    {
+        cut_ahead(&mut self.line, &self.report, self.front.max(to));
+        if self.from < to {
+            self.to = to;
+        } else {
+            self.from = self.front;
+            self.to = self.front;
+        }
+    }
+
+    /// An equal train.
+    ///
+    /// # Errors
+    ///
+    /// `Memory`, where the allocator refuses room for the line.
+    pub fn copy(&self, alloc: Global) -> Result<Train, Memory>
+        ensures { IfOk result (λ train. train ≡ self.now) }
+    {
+        let line = self.line.copy(alloc)?;
+        Ok(Train {
+            report: self.report,
+            line,
+            origin: self.origin,
+            rear: self.rear,
+            front: self.front,
+            from: self.from,
+            to: self.to,
+        })
+    }
+}

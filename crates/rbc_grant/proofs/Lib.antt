@@ -1,0 +1,2 @@
+mod ReductionLemmas
+mod MadeLemmas

@@ -1,0 +1,105 @@
+//! Candidates: what may be granted for a view.
+
+ghost use Rattle.std.specs.Prelude.{◌≡◌};
+ghost use Rattle.rbc_model.specs.Messages.{message_bytes};
+ghost use Rattle.rbc_grant_laws.specs.Candidates.{IsCandidateOf};
+ghost use Rattle.rbc_grant.specs.Candidates.{HasChosenProfiles, AreLosses, AreGreatestTables};
+
+use crate::{Losses, PriceTables};
+use rbc_model::Obstacle;
+use rbc_packet::Authority;
+use rbc_reach::View;
+use std::marker::Model;
+
+pub(crate) mod of_view;
+
+/// What may be granted to a train that was shown a view: the authority that is best for it, with its message 3 and
+/// the tables of prices that show that no profiles lose less. It knows the version of the history that the view is of.
+#[derive(Drop)]
+pub struct Candidate {
+    view: View,
+    version: u64,
+    authority: Authority,
+    message: Vec<u8>,
+    losses: Losses,
+    prices: PriceTables,
+}
+
+impl Model for Candidate {
+    ghost use Rattle.rbc_grant.specs.Candidates.{Candidate, candidate_with, granted, IsCandidate};
+
+    ghost Value = { Candidate };
+
+    ghost view = { λ c. candidate_with c.view c.version c.authority };
+
+    ghost invariant = { λ c. IsCandidate c.view (granted c.view c.authority) c.message.items c.losses c.prices };
+}
+
+impl Candidate {
+    /// The view that it is made for.
+    pub fn view(&self) -> &View
+        ensures view { result.now ≡ self.now.view }
+        ensures best { IsCandidateOf self.now.view self.now.grant }
+        ensures chosen { HasChosenProfiles self.now.view self.now.grant }
+    {
+        &self.view
+    }
+
+    /// The version of the history that the view is of.
+    pub fn version(&self) -> u64
+        ensures { result ≡ self.now.version }
+    {
+        self.version
+    }
+
+    /// The number of the train that is to be granted the authority.
+    pub fn train(&self) -> u32
+        ensures { result ≡ self.now.grant.train }
+    {
+        self.view.train()
+    }
+
+    /// Where the authority begins, in metres from the group; it is negative before the group.
+    pub fn from(&self) -> i64
+        ensures { result ≡ self.now.grant.from }
+    {
+        i64::from(self.view.start()) - i64::from(self.view.origin())
+    }
+
+    /// The authority.
+    pub fn authority(&self) -> &Authority
+        ensures authority { result.now ≡ self.now.grant.authority }
+        ensures best { IsCandidateOf self.now.view self.now.grant }
+        ensures chosen { HasChosenProfiles self.now.view self.now.grant }
+    {
+        &self.authority
+    }
+
+    /// What stands beyond the authority's end.
+    pub fn obstacle(&self) -> Obstacle
+        ensures { result ≡ self.now.grant.obstacle }
+    {
+        self.view.obstacle()
+    }
+
+    /// The authority as message 3: 39 to 234 bytes.
+    pub fn message(&self) -> &[u8]
+        ensures { result.now ≡ message_bytes self.now.grant.authority }
+    {
+        self.message.as_slice()
+    }
+
+    /// What the authority's profiles lose against the view's speeds and gradients.
+    pub fn losses(&self) -> Losses
+        ensures { AreLosses self.now.view self.now.grant result }
+    {
+        self.losses
+    }
+
+    /// The tables of prices that show that no profiles lose less.
+    pub fn prices(&self) -> &PriceTables
+        ensures { AreGreatestTables self.now.view self.now.grant result.now }
+    {
+        &self.prices
+    }
+}

@@ -1,0 +1,54 @@
+//! The candidate of a view.
+
+ghost use Rattle.std.specs.Prelude.{◌≡◌, IfOk};
+ghost use Rattle.rbc_grant_laws.specs.Candidates.{IsCandidateOf};
+ghost use Rattle.rbc_grant.specs.Candidates.{HasChosenProfiles};
+
+use super::Candidate;
+use crate::{Losses, PriceTables};
+use rbc_model::Memory;
+use rbc_packet::{Authority, write_message};
+use rbc_reach::View;
+use rbc_reduce::reduce;
+use std::alloc::Global;
+use std::thread::Threads;
+
+/// The candidate of a view at a version of the history: its time, group, direction, end and obstacle are the view's,
+/// and both its profiles are the chosen ones for the view's speeds, gradients and limits of steps. The runtime serves
+/// the reductions, which compute long rows of prices in threads.
+///
+/// # Errors
+///
+/// [`Memory`] where there is none for the reductions or for the message.
+pub fn candidate(
+    rt: &(impl Threads + Sync),
+    alloc: Global,
+    view: View,
+    version: u64,
+) -> Result<Candidate, Memory>
+    ensures view { IfOk result (λ c. c.view ≡ view) }
+    ensures version { IfOk result (λ c. c.version ≡ version) }
+    ensures best { IfOk result (λ c. IsCandidateOf view c.grant) }
+    ensures chosen { IfOk result (λ c. HasChosenProfiles view c.grant) }
+{
+    let speeds = reduce(rt, alloc, view.speeds(), view.speed_steps())?;
+    let grades = reduce(rt, alloc, view.grades(), view.grade_steps())?;
+    let (time, group, nominal) = (view.time(), view.group(), view.nominal());
+    // Both profiles end where the view does, 1 to 32,000 m from the group.
+    let authority = Authority::new(time, group, nominal, speeds.profile, grades.profile).unwrap();
+    let message = write_message(alloc, &authority)?;
+    Ok(Candidate {
+        view,
+        version,
+        authority,
+        message,
+        losses: Losses {
+            speeds: speeds.loss,
+            grades: grades.loss,
+        },
+        prices: PriceTables {
+            speeds: speeds.prices,
+            grades: grades.prices,
+        },
+    })
+}

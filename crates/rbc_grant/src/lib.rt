@@ -1,0 +1,14 @@
+//! What a train may be granted: from the view that it is shown, the authority that is best for it, with its message 3
+//! and the tables of prices that show that no profiles lose less.
+#![tactic(auto)]
+
+mod candidates;
+mod certificates;
+
+pub use candidates::Candidate;
+pub use candidates::of_view::candidate;
+pub use certificates::{Losses, PriceTables};
+pub use rbc_model::Memory;
+
+#[cfg(test)]
+mod tests;

@@ -1,0 +1,14 @@
+//! Lines: the legs that a train runs along, the metres of its places, and the speeds and gradients along them.
+#![tactic(auto)]
+
+mod along;
+mod legs;
+mod line;
+mod section_set;
+#[cfg(test)]
+mod tests;
+mod track_level;
+
+pub use line::Line;
+pub use rbc_model::Memory;
+pub use section_set::SectionSet;

@@ -1,0 +1,10 @@
+//! Locks: which sections the interlocking has locked, in which direction and behind which leg.
+//!
+//! Each question about a section or a leg is answered by one look-up, however many sections are locked.
+#![tactic(auto)]
+
+mod locks;
+mod next_table;
+
+pub use locks::Locks;
+pub use rbc_model::{Lock, Memory, Refusal};

@@ -1,0 +1,150 @@
+-- The view on the legs that were walked is the definition's, which has all legs of the way.
+use Rattle.std.proofs.Common.{◌≡◌, ℕ, ◌+◌, ◌<◌, ◌≤◌, min, Bool, true, false, cond, ◌&&◌, ◌++◌, List, length, take, drop, Option, Some, None, Result, Ok, Err, refl, sym, ap, ◌∙◌, subst, arith, nat_lt, nat_le}
+use Rattle.std.specs.Prelude.{◌==◌, IsSome, find}
+use Rattle.std.specs.Option.{option_map_or}
+use Rattle.std.proofs.lemmas.Bool.{ltb-true}
+use Rattle.std.proofs.lemmas.List.{take-append-drop}
+use Rattle.rbc_model.specs.declared.places.Format.TheVariants.{Near}
+use Rattle.rbc_model.specs.declared.refusals.ViewFault.{ViewFault}
+use Rattle.rbc_model.specs.declared.refusals.ViewFault.TheVariants.{Blocked, UnknownTrain}
+use Rattle.rbc_model.specs.Lines.{Line, grades, legs_begun_before, line_length, speeds}
+use Rattle.rbc_model.specs.Obstacles.{way}
+use Rattle.rbc_model.specs.Locks.{Locks}
+use Rattle.rbc_model.specs.Scenes.{Scene, train_numbered}
+use Rattle.rbc_model.specs.Tracks.{Track}
+use Rattle.rbc_model.specs.Trains.{Train}
+use Rattle.rbc_model.specs.Views.{View, from_group, greatest_end, reach, start_of, stop, view, view_of}
+use Rattle.rbc_scene_laws.proofs.BasicLemmas.{and_right}
+use Rattle.rbc_reach_laws.specs.Nearest.{greatest_end_near, nearest_end}
+use Rattle.rbc_reach_laws.proofs.GreatestEndLemmas.{greatest_end-near}
+use Rattle.rbc_reach_laws.proofs.ShownLemmas.{grades_shown, legs_shown, speeds_shown}
+use Rattle.rbc_way.specs.Reaches.{BeginsWay, ReachOnTrack}
+use Rattle.rbc_reach.specs.Found.{view_found}
+
+-- ---- where the greatest end lies
+
+-- it lies beyond the group, no farther than a message can tell, and not beyond the reach
+pub record IsEndBefore (train : Train) (reached end : ℕ) : Type 0 where
+  pub ahead : train.origin < end
+  pub near : end ≤ train.origin + 32000
+  pub before : end ≤ reached
+
+bounds_of : (b : Bool) (x end : ℕ) → cond b (Some x) None ≡ Some end → (b ≡ true) × (x ≡ end)
+bounds_of true x end h = (refl, cc)
+bounds_of false x end h = cc
+
+end_before : (train : Train) (reached end : ℕ) → greatest_end_near train reached ≡ Some end → IsEndBefore train reached end
+end_before train reached end h =
+    let near = nearest_end train reached in
+    let b = bounds_of (nat_lt train.front near && nat_le train.to near && nat_lt train.origin near) near end h in
+    let ahead = ltb-true train.origin near (and_right (nat_lt train.front near && nat_le train.to near) (nat_lt train.origin near) b.0) in
+    let is : min reached (train.origin + 32000) ≡ end = b.1 in
+    let low : train.origin < min reached (train.origin + 32000) = ahead in
+    record { ahead = omega arith; near = omega arith; before = omega arith }
+
+module _ (track : Track) (scene : Scene) (train : Train) where
+  abbrev seen : Option ℕ → Result View ViewFault
+  seen None = Err (Blocked (stop track scene train) (from_group train (reach track scene train)))
+  seen (Some end) =
+      Ok
+      (record {
+        train = train.report.train;
+        group = train.report.group;
+        nominal = train.report.nominal;
+        time = train.report.time;
+        line = take (legs_begun_before track (reach track scene train) (way track scene train)) (way track scene train);
+        origin = train.origin;
+        start = start_of train;
+        front = train.front;
+        to = train.to;
+        end = end;
+        reach = reach track scene train;
+        obstacle = stop track scene train;
+        speed_steps = track.speed_steps;
+        grade_steps = track.grade_steps;
+        speeds = speeds track (way track scene train) train.origin end;
+        grades = grades track (way track scene train) train.origin end;
+      })
+
+  view_of-seen : (o : Option ℕ) → o ≡ greatest_end track scene train → view_of track scene train ≡ seen o
+  view_of-seen o h = ap seen (sym h)
+
+  module _ (found : ReachOnTrack) (of_track : found.track ≡ track) (at : found.place ≡ reach track scene train) (stops : found.obstacle ≡ stop track scene train) where
+    -- no end is given
+    pub blocked : (o : Option ℕ) → o ≡ greatest_end track scene train → o ≡ None → view_of track scene train ≡ Err (Blocked found.obstacle (from_group train found.place))
+    blocked o h none = view_of-seen o h ∙ ap seen none ∙ sym (λ j. Err (Blocked (stops j) (from_group train (at j))))
+
+    module _ (near : track.format ≡ Near) (end : ℕ) (o : Option ℕ) (h : o ≡ greatest_end track scene train) (some : o ≡ Some end) where
+      pub end_is : IsEndBefore train found.place end
+      end_is =
+          subst (λ r. IsEndBefore train r end) (sym at)
+          (end_before train (reach track scene train) end (sym (greatest_end-near track scene train near) ∙ sym h ∙ some))
+
+      -- an end is given, and the legs that were walked reach it
+      pub shown : (begins : BeginsWay track scene train found.line) → found.place ≤ line_length track found.line → view_of track scene train ≡ Ok (view_found train found end)
+      shown begins on =
+          let b = end_is in
+          let rest = drop (length found.line) (way track scene train) in
+          let parts : way track scene train ≡ found.line ++ rest = sym (take-append-drop (length found.line) (way track scene train)) ∙ ap (λ (l : Line). l ++ rest) (sym begins) in
+          let legs : take (legs_begun_before track found.place (way track scene train)) (way track scene train) ≡ take (legs_begun_before track found.place found.line) found.line =
+          ap (λ (w : Line). take (legs_begun_before track found.place w) w) parts ∙ legs_shown track found.line rest found.place on in
+          let end_on : end ≤ line_length track found.line = (let k = b.before in omega arith) in
+          let fast : speeds track (way track scene train) train.origin end ≡ speeds track found.line train.origin end =
+          ap (λ (w : Line). speeds track w train.origin end) parts ∙ speeds_shown track found.line rest train.origin end end_on in
+          let steep : grades track (way track scene train) train.origin end ≡ grades track found.line train.origin end =
+          ap (λ (w : Line). grades track w train.origin end) parts ∙ grades_shown track found.line rest train.origin end end_on in
+          view_of-seen o h ∙ ap seen some
+          ∙ sym (λ j.
+          Ok
+          (record {
+            train = train.report.train;
+            group = train.report.group;
+            nominal = train.report.nominal;
+            time = train.report.time;
+            line = take (legs_begun_before track (at j) (way track scene train)) (way track scene train);
+            origin = train.origin;
+            start = start_of train;
+            front = train.front;
+            to = train.to;
+            end = end;
+            reach = at j;
+            obstacle = stops j;
+            speed_steps = track.speed_steps;
+            grade_steps = track.grade_steps;
+            speeds = speeds track (way track scene train) train.origin end;
+            grades = grades track (way track scene train) train.origin end;
+          }))
+          ∙ sym (λ j.
+          Ok
+          (record {
+            train = train.report.train;
+            group = train.report.group;
+            nominal = train.report.nominal;
+            time = train.report.time;
+            line = sym legs j;
+            origin = train.origin;
+            start = start_of train;
+            front = train.front;
+            to = train.to;
+            end = end;
+            reach = found.place;
+            obstacle = found.obstacle;
+            speed_steps = track.speed_steps;
+            grade_steps = track.grade_steps;
+            speeds = sym fast j;
+            grades = sym steep j;
+          }))
+          ∙ ap (λ (t : Track). Ok (view_found train (record { track = t; place = found.place; obstacle = found.obstacle; line = found.line }) end)) (sym of_track)
+
+-- ---- of the train of this number
+
+pub viewed : (track : Track) (scene : Scene) (of_track : Track) (locks : Locks) (trains : List Train) (known : Train) (number : ℕ) → of_track ≡ track → locks ≡ scene.locks → trains ≡ scene.trains
+    → train_numbered (record { locks = locks; trains = trains }) number ≡ Some known → view_of of_track (record { locks = locks; trains = trains }) known ≡ view track scene number
+viewed track scene of_track locks trains known number same held run there =
+    (λ j. view_of (same j) (record { locks = held j; trains = run j }) known)
+    ∙ sym (ap (λ (o : Option Train). option_map_or (view_of track scene) o (Err UnknownTrain)) ((λ j. find (λ (t : Train). t.report.train == number) (sym run j)) ∙ there))
+
+-- ---- a value that is there
+
+pub some_by : {X : Type 0} (o : Option X) (b : Bool) (x : X) → o ≡ cond b (Some x) None → b ≡ true → IsSome o
+some_by o b x e h = subst IsSome (sym (e ∙ ap (λ c. cond c (Some x) None) h)) refl

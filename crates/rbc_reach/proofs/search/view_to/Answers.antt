@@ -1,0 +1,39 @@
+-- What is shown ends where the speeds and gradients do, and the line is too short for a place that is no number.
+use Rattle.std.proofs.Common.{◌≡◌, ◌-◌, ap, sym, ◌∙◌, arith}
+use Rattle.rbc_model.specs.Lines.{line_length}
+use Rattle.rbc_reach.specs.declared.parts.ViewParts.{ViewParts}
+use Rattle.rbc_reach.specs.Forms.{are_in_form, view_of_parts}
+use Rattle.rbc_reach.proofs.FormLemmas.{parts-in_form}
+use Rattle.rbc_reach.proofs.FoundLemmas.{some_by}
+use Rattle.rbc_reach.proofs.search.view_to.Goals as goal
+
+pub unwrap-requires : goal.unwrap-requires
+unwrap-requires c =
+    let parts : ViewParts = record {
+      train = c.train.result;
+      group = c.group.result;
+      nominal = c.nominal.result;
+      time = c.time.result;
+      legs = c.in_ok-legs_to.field-0;
+      origin = c.origin-origin.result;
+      start = c.min.result;
+      front = c.front-2.result;
+      to = c.to.result;
+      reach = c.place-2.result;
+      obstacle = c.obstacle.result;
+      speed_steps = c.speed_steps.result;
+      grade_steps = c.grade_steps.result;
+      speeds = c.in_ok-speeds.field-0;
+      grades = c.in_ok-grades.field-0;
+    } in
+    let fast : parts.speeds.end ≡ c.args.end - c.origin-origin.result = ap (λ r. r.end) c.in_ok-speeds.ensures in
+    let steep : parts.grades.end ≡ c.args.end - c.origin-origin.result = ap (λ r. r.end) c.in_ok-grades.ensures in
+    let origin = c.origin-origin.ensures.origin in
+    let ahead = c.requires.ahead in
+    let near = c.requires.near in
+    let on = c.requires.on_line in
+    let metres : c.length-metres.result ≡ line_length c.args.found.now.track c.args.found.now.line = c.length-metres.ensures.length ∙ (λ j. line_length (c.line-line.ensures.track j) (c.line-line.ensures.legs j)) in
+    let few = c.length-metres.ensures.at_most in
+    some_by c.new.result (are_in_form parts) (view_of_parts parts) c.new.ensures
+    (parts-in_form parts (steep ∙ sym fast) (omega arith) (omega arith) (omega arith)
+    c.speed_steps.ensures.at_least c.speed_steps.ensures.at_most c.grade_steps.ensures.at_least c.grade_steps.ensures.at_most)

@@ -1,0 +1,2 @@
+pub mod GrantingLemmas
+mod KeepingLemmas

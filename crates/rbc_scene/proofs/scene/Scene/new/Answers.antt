@@ -1,0 +1,11 @@
+use Rattle.std.proofs.Common.{◌∙◌, ap, subst}
+use Rattle.std.specs.Arc.{arc_value}
+use Rattle.rbc_model.specs.Locks.{no_locks}
+use Rattle.rbc_model.specs.SoundTracks.{IsSound}
+use Rattle.rbc_scene.proofs.KeepingLemmas.{kept_empty}
+use Rattle.rbc_scene.proofs.scene.Scene.new.Goals as goal
+
+pub invariant_of-result : goal.invariant_of-result
+invariant_of-result c =
+    kept_empty (arc_value c.args.track) c.in_ok-locks.locks c.new-book.result (c.in_ok-locks.ensures ∙ ap no_locks c.deref-2.ensures) c.new-book.ensures
+    (subst IsSound c.deref.ensures c.section_count-sections.ensures.sound)

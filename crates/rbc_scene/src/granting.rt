@@ -1,0 +1,78 @@
+//! What a grant gives a train: an authority up to a safe end, on a line that has its metres.
+
+ghost use Rattle.std.specs.Prelude.{◌≡◌, ◌≤◌, ◌<◌, IfOk};
+ghost use Rattle.rbc_model.specs.Answers.{AnswersAs};
+ghost use Rattle.rbc_model.specs.Events.{with_authority};
+ghost use Rattle.rbc_model.specs.Lines.{line_length};
+ghost use Rattle.rbc_model.specs.Scenes.{Scene};
+ghost use Rattle.rbc_scene.specs.Grants.{granted_train, line_to};
+ghost use Rattle.rbc_scene_laws.specs.Good.{IsGoodLocks};
+ghost use Rattle.rbc_way.specs.Reaches.{BeginsWay, scene_of};
+
+use rbc_book::Book;
+use rbc_extent::Train;
+use rbc_line::Line;
+use rbc_locks::Locks;
+use rbc_model::{Memory, OrMemory, Refusal};
+use rbc_way::{Reach, reach};
+use std::alloc::Global;
+
+/// An authority from one place to another, and the train's line, continued to have its metres.
+#[derive(Drop)]
+pub(crate) struct Granted {
+    pub(crate) line: Line,
+    pub(crate) from: u32,
+    pub(crate) to: u32,
+}
+
+/// The train's line, continued to have the metre before a place that its way reaches.
+fn line_to(alloc: Global, train: &Train, found: Reach, to: u32) -> Result<Line, Memory>
+    requires track { found.track ≡ train.now.track }
+    requires some { 0 < to }
+    requires on_line { to ≤ line_length found.track found.line }
+    ensures track { IfOk result (λ line. line.track ≡ train.now.track) }
+    ensures legs { (scene : Scene) → IsGoodLocks train.now.track scene.locks
+        → BeginsWay train.now.track scene train.now.train found.line
+        → IfOk result (λ line. line.legs ≡ line_to train.now.track scene train.now.train to) }
+{
+    let known = train.line();
+    if to <= known.length() {
+        return known.copy(alloc);
+    }
+    let mut line = found.into_line();
+    let kept = line.legs_begun_before(to);
+    let count = line.legs().len();
+    line.cut_back(count - kept);
+    Ok(line)
+}
+
+/// The authority that the train is granted up to so many metres beyond its group, if that is a safe end that a
+/// message can give.
+pub(crate) fn granted_to(
+    alloc: Global,
+    locks: &Locks,
+    book: &Book,
+    train: &Train,
+    distance: u32,
+) -> Result<Granted, OrMemory<Refusal>>
+    requires track { train.now.track ≡ book.now.track }
+    requires locks { IsGoodLocks book.now.track locks.now }
+    ensures track { IfOk result (λ granted. granted.line.track ≡ book.now.track) }
+    ensures granted { AnswersAs (λ g. with_authority train.now.train g.line.legs g.from g.to) result
+        (granted_train book.now.track (scene_of locks.now book.now.trains) train.now.train distance) }
+{
+    let line = train.line();
+    if distance > line.track().farthest_end() {
+        return Err(OrMemory::Refused(Refusal::NotSafe));
+    }
+    prove!(train.origin() <= train.front());
+    prove!(train.front() <= line.length());
+    let to = train.origin() + distance;
+    let found = reach(alloc, locks, book, train)?;
+    if !found.may_end_at(train, to) {
+        return Err(OrMemory::Refused(Refusal::NotSafe));
+    }
+    let line = line_to(alloc, train, found, to)?;
+    let from = train.from().min(train.front());
+    Ok(Granted { line, from, to })
+}

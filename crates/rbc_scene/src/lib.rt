@@ -1,0 +1,8 @@
+//! The scene: the locks and the trains at one moment, what may happen to them, and how far trains may run.
+#![tactic(auto)]
+
+mod granting;
+mod scene;
+
+pub use rbc_model::{Event, Memory, Obstacle, OrMemory, Refusal, Told};
+pub use scene::Scene;

@@ -1,0 +1,349 @@
+//! A scene, and what is told in it.
+
+ghost use Rattle.std.specs.Prelude.{◌≡◌, ◌<◌, length, false, true, None, Some, Err, IfOk, IfSome};
+ghost use Rattle.std.specs.Arc.{arc_value};
+ghost use Rattle.std.specs.Result.{result_map_both};
+ghost use Rattle.rbc_model.specs.declared.memory.OrMemory.TheVariants.{Refused, Memory as NoMemory};
+ghost use Rattle.rbc_model.specs.declared.refusals.Refusal.TheVariants.{Crowded, UnknownGroup, UnknownTrain};
+ghost use Rattle.rbc_model.specs.Answers.{AnswersAs, AnswersOrMemory};
+ghost use Rattle.rbc_model.specs.Events.{after_free, after_give_back, after_grant, after_leave, after_lock, after_report, after_told, step, with_authority};
+ghost use Rattle.rbc_model.specs.Histories.{AuthoritiesAreApart, HeldAreLocked};
+ghost use Rattle.rbc_model.specs.Placing.{reported};
+ghost use Rattle.rbc_model.specs.Scenes.{empty_scene, train_numbered};
+ghost use Rattle.rbc_model.specs.Tracks.{group_named};
+ghost use Rattle.rbc_model.specs.Trains.{Train as KnownTrain};
+ghost use Rattle.rbc_scene.specs.Grants.{granted_train};
+ghost use Rattle.rbc_scene_laws.specs.Good.{IsGoodScene};
+ghost use Rattle.rbc_scene.specs.Steps.{IsEventOfTrack, IsOfTrack, IsReportTold, MayNeedMemory, StepsOrMemory, StepsTo, end_cut, end_given_back, is_crowded, reach_of, refused_at_once, told_at_once};
+
+use crate::granting::{Granted, granted_to};
+use rbc_book::Book;
+use rbc_extent::{Train, reported};
+use rbc_locks::Locks;
+use rbc_model::limits::MOST_TRAINS;
+use rbc_model::{Event, Memory, Obstacle, OrMemory, Refusal, Report, RouteId, SectionId, Told};
+use rbc_track::Track;
+use rbc_way::reach;
+use std::alloc::Global;
+use std::marker::Model;
+use std::sync::Arc;
+
+/// The locks and the trains of a track at one moment. No metre stands in the authorities of two trains, and each
+/// metre of an authority is locked in the direction of its leg.
+#[derive(Drop)]
+pub struct Scene {
+    locks: Locks,
+    book: Book,
+}
+
+impl Model for Scene {
+    ghost use Rattle.rbc_scene.specs.ScenesOnTracks.{SceneOnTrack, IsKept, scene_on};
+
+    ghost Value = { SceneOnTrack };
+
+    ghost view = { λ s. scene_on s.locks s.book };
+
+    ghost invariant = { λ s. IsKept (scene_on s.locks s.book) };
+}
+
+/// The place so many metres beyond the train's group, if the train may give back what its authority has from
+/// there on.
+fn end_cut(train: &Train, distance: u32) -> Option<u32>
+    ensures { result ≡ end_cut train.now.train distance }
+{
+    let end = train.to();
+    let to = train.origin().checked_add(distance)?;
+    if to < end && train.front() <= to && train.from() <= to {
+        Some(to)
+    } else {
+        None
+    }
+}
+
+/// The answer of a call that takes no memory.
+fn or_memory(answer: Result<(), Refusal>) -> Result<(), OrMemory<Refusal>>
+    ensures { result ≡ result_map_both (λ done. done) (λ refusal. Refused refusal) answer }
+{
+    match answer {
+        Ok(()) => Ok(()),
+        Err(refusal) => Err(OrMemory::Refused(refusal)),
+    }
+}
+
+impl Scene {
+    /// The scene in which nothing is locked and no train has reported.
+    ///
+    /// # Errors
+    ///
+    /// `Memory`, where the allocator refuses room for the locks.
+    pub fn new(alloc: Global, track: Arc<Track>) -> Result<Scene, Memory>
+        ensures { IfOk result (λ scene.
+            scene ≡ record { track = arc_value track; scene = empty_scene (arc_value track) }) }
+    {
+        let _sections = track.section_count();
+        let locks = Locks::new(alloc, &track)?;
+        let book = Book::new(alloc, track);
+        Ok(Scene { locks, book })
+    }
+
+    /// The track.
+    pub fn track(&self) -> &Arc<Track>
+        ensures { arc_value result.now ≡ self.now.track }
+    {
+        self.book.track()
+    }
+
+    /// The locks.
+    pub fn locks(&self) -> &Locks
+        ensures locks { result.now ≡ self.now.scene.locks }
+        ensures good { IsGoodScene self.now.track self.now.scene }
+    {
+        &self.locks
+    }
+
+    /// The trains.
+    pub fn book(&self) -> &Book
+        ensures track { result.now.track ≡ self.now.track }
+        ensures trains { result.now.trains ≡ self.now.scene.trains }
+        ensures apart { AuthoritiesAreApart self.now.track self.now.scene }
+        ensures locked { HeldAreLocked self.now.track self.now.scene }
+    {
+        &self.book
+    }
+
+    /// A train reports where it is. Where the report is refused, or memory is, nothing changes.
+    ///
+    /// # Errors
+    ///
+    /// `Refused` with the first of these:
+    /// - `Crowded`: the train is new, and there are 1,024,
+    /// - `UnknownGroup`, before any memory is asked for,
+    /// - `Offline`, `Unplaced` or `TooFar`.
+    ///
+    /// `Memory` may come in place of all but the first two.
+    pub fn report(&mut self, alloc: Global, report: &Report) -> Result<(), OrMemory<Refusal>>
+        ensures reported { StepsOrMemory result self.old self.new
+            (after_report self.old.track self.old.scene report.now) }
+        ensures crowded { is_crowded self.old.scene report.now ≡ true → result ≡ Err (Refused Crowded) }
+        ensures unknown { is_crowded self.old.scene report.now ≡ false
+            → group_named self.old.track report.now.group ≡ None → result ≡ Err (Refused UnknownGroup) }
+    {
+        if self.is_crowded(report) {
+            return Err(OrMemory::Refused(Refusal::Crowded));
+        }
+        let train = self.train_after(alloc, report)?;
+        self.book.set_place(train)?;
+        Ok(())
+    }
+
+    /// Whether the train that reports is new, and there are 1,024.
+    fn is_crowded(&self, report: &Report) -> bool
+        ensures { result ≡ is_crowded self.now.scene report.now }
+    {
+        self.book.get(report.train()).is_none() && self.book.len() >= MOST_TRAINS
+    }
+
+    /// The train that reports, after its report.
+    fn train_after(&self, alloc: Global, report: &Report) -> Result<Train, OrMemory<Refusal>>
+        ensures reported { AnswersAs (λ t. t.train) result (reported self.now.track self.now.scene.locks
+            (train_numbered self.now.scene report.now.train) report.now) }
+        ensures track { IfOk result (λ t. t.track ≡ self.now.track) }
+        ensures unknown { group_named self.now.track report.now.group ≡ None → result ≡ Err (Refused UnknownGroup) }
+    {
+        let known = self.book.get(report.train());
+        reported(alloc, self.book.track(), &self.locks, known, report)
+    }
+
+    /// A route is locked. It takes no memory.
+    ///
+    /// # Errors
+    ///
+    /// `Clash` or `LinkTaken`, as `Locks::lock` says. Nothing changes.
+    pub fn lock(&mut self, route: RouteId) -> Result<(), Refusal>
+        requires { route < length self.old.track.routes }
+        ensures { StepsTo result self.old self.new (after_lock self.old.track self.old.scene route) }
+    {
+        self.locks.lock(self.book.track(), route)
+    }
+
+    /// A section is freed. It takes no memory.
+    ///
+    /// # Errors
+    ///
+    /// The first of these, and nothing changes:
+    /// - `NotLocked`: the section is not locked,
+    /// - `Busy` with the first train whose extent or authority has a metre of it.
+    pub fn free(&mut self, section: SectionId) -> Result<(), Refusal>
+        ensures { StepsTo result self.old self.new (after_free self.old.track self.old.scene section) }
+    {
+        if self.locks.row(section).is_none() {
+            return Err(Refusal::NotLocked(section));
+        }
+        if let Some(train) = self.book.standing_on(section) {
+            return Err(Refusal::Busy(section, train));
+        }
+        self.locks.free(section)
+    }
+
+    /// A train leaves. It takes no memory.
+    ///
+    /// # Errors
+    ///
+    /// `UnknownTrain`: there is no train of this number. Nothing changes.
+    pub fn leave(&mut self, train: u32) -> Result<(), Refusal>
+        ensures { StepsTo result self.old self.new (after_leave self.old.scene train) }
+    {
+        if self.book.leave(train) {
+            Ok(())
+        } else {
+            Err(Refusal::UnknownTrain(train))
+        }
+    }
+
+    /// A train gives back what its authority has from so many metres beyond its group on, but not what it stands
+    /// on or has run over. It takes no memory.
+    ///
+    /// # Errors
+    ///
+    /// The first of these, and nothing changes:
+    /// - `UnknownTrain`: there is no train of this number,
+    /// - `YieldRange`: its authority does not end beyond that place, or the place lies behind its front or before its
+    ///   authority.
+    pub fn give_back(&mut self, train: u32, distance: u32) -> Result<(), Refusal>
+        ensures { StepsTo result self.old self.new
+            (after_give_back self.old.track self.old.scene train distance) }
+    {
+        let to = self.end_given_back(train, distance)?;
+        self.book.give_back(train, to);
+        Ok(())
+    }
+
+    /// The place at which the train's authority ends once it has given back what lies beyond.
+    fn end_given_back(&self, train: u32, distance: u32) -> Result<u32, Refusal>
+        ensures { result ≡ end_given_back self.now.scene train distance }
+    {
+        match self.book.get(train) {
+            Some(known) => end_cut(known, distance).ok_or(Refusal::YieldRange(train)),
+            None => Err(Refusal::UnknownTrain(train)),
+        }
+    }
+
+    /// A train is granted an authority, from the start of the one it has, or from its front where that lies behind, to
+    /// a place so many metres beyond its group. Its line is continued to have the last metre. Where the grant is
+    /// refused, or memory is, nothing changes.
+    ///
+    /// # Errors
+    ///
+    /// `Refused` with the first of these:
+    /// - `UnknownTrain`, before any memory is asked for: there is no train of this number,
+    /// - `NotSafe`: the place does not lie beyond the front, takes something back, has an obstacle before it, or no
+    ///   message can give it.
+    ///
+    /// `Memory` may come in place of `NotSafe`.
+    pub fn grant(
+        &mut self,
+        alloc: Global,
+        train: u32,
+        distance: u32,
+    ) -> Result<(), OrMemory<Refusal>>
+        ensures granted { StepsOrMemory result self.old self.new
+            (after_grant self.old.track self.old.scene train distance) }
+        ensures unknown { train_numbered self.old.scene train ≡ None → result ≡ Err (Refused (UnknownTrain train)) }
+    {
+        let Granted { line, from, to } = self.granted(alloc, train, distance)?;
+        self.book.set_held(train, line, from, to);
+        Ok(())
+    }
+
+    /// The authority that the train is granted up to so many metres beyond its group.
+    fn granted(
+        &self,
+        alloc: Global,
+        train: u32,
+        distance: u32,
+    ) -> Result<Granted, OrMemory<Refusal>>
+        ensures unknown { train_numbered self.now.scene train ≡ None → result ≡ Err (Refused (UnknownTrain train)) }
+        ensures track { IfOk result (λ granted. granted.line.track ≡ self.now.track) }
+        ensures granted { (known : KnownTrain) → train_numbered self.now.scene train ≡ Some known
+            → AnswersAs (λ g. with_authority known g.line.legs g.from g.to) result
+            (granted_train self.now.track self.now.scene known distance) }
+    {
+        match self.book.get(train) {
+            Some(known) => granted_to(alloc, &self.locks, &self.book, known, distance),
+            None => Err(OrMemory::Refused(Refusal::UnknownTrain(train))),
+        }
+    }
+
+    /// What is told happens. Where it is refused, or memory is, nothing changes.
+    ///
+    /// # Errors
+    ///
+    /// Those of the call for its kind. `Memory` comes only for a report.
+    pub fn tell(&mut self, alloc: Global, told: &Told) -> Result<(), OrMemory<Refusal>>
+        requires { IsOfTrack self.old.track told.now }
+        ensures told { StepsOrMemory result self.old self.new (after_told self.old.track self.old.scene told.now) }
+        ensures memory { result ≡ Err NoMemory → IsReportTold told.now }
+        ensures at_once { IfSome (told_at_once self.old.track self.old.scene told.now)
+            (λ refusal. result ≡ Err (Refused refusal)) }
+    {
+        match told {
+            Told::Report(report) => self.report(alloc, report),
+            Told::Lock(route) => or_memory(self.lock(*route)),
+            Told::Free(section) => or_memory(self.free(*section)),
+            Told::Leave(train) => or_memory(self.leave(*train)),
+            Told::GiveBack(train, distance) => or_memory(self.give_back(*train, *distance)),
+        }
+    }
+
+    /// An event happens: something is told, or a train is granted an authority. Where it is refused, or memory is,
+    /// nothing changes.
+    ///
+    /// # Errors
+    ///
+    /// Those of the call for its kind. `Memory` comes only for a report and a grant.
+    pub fn apply(&mut self, alloc: Global, event: &Event) -> Result<(), OrMemory<Refusal>>
+        requires { IsEventOfTrack self.old.track event.now }
+        ensures steps { StepsOrMemory result self.old self.new (step self.old.track self.old.scene event.now) }
+        ensures memory { result ≡ Err NoMemory → MayNeedMemory event.now }
+        ensures at_once { IfSome (refused_at_once self.old.track self.old.scene event.now)
+            (λ refusal. result ≡ Err (Refused refusal)) }
+    {
+        match event {
+            Event::Tell(told) => self.tell(alloc, told),
+            Event::Grant(train, distance) => self.grant(alloc, *train, *distance),
+        }
+    }
+
+    /// How far the way of a train is clear: what stands at the first place with an obstacle, from the start of its
+    /// authority on, or from its front where that lies behind, and that place in metres from the start of its line.
+    ///
+    /// # Errors
+    ///
+    /// `Refused` with `UnknownTrain`, before any memory is asked for: there is no train of this number. `Memory`,
+    /// where the allocator refuses room for the search.
+    pub fn reach(&self, alloc: Global, train: u32) -> Result<(Obstacle, i64), OrMemory<Refusal>>
+        ensures reach { AnswersOrMemory result (reach_of self.now.track self.now.scene train) }
+        ensures unknown { train_numbered self.now.scene train ≡ None → result ≡ Err (Refused (UnknownTrain train)) }
+    {
+        match self.book.get(train) {
+            Some(known) => {
+                let found = reach(alloc, &self.locks, &self.book, known)?;
+                Ok((found.obstacle(), i64::from(found.place())))
+            }
+            None => Err(OrMemory::Refused(Refusal::UnknownTrain(train))),
+        }
+    }
+
+    /// A scene of the same locks and trains on the same track.
+    ///
+    /// # Errors
+    ///
+    /// `Memory`, where the allocator refuses room for them.
+    pub fn copy(&self, alloc: Global) -> Result<Scene, Memory>
+        ensures { IfOk result (λ scene. scene ≡ self.now) }
+    {
+        let locks = self.locks.copy(alloc)?;
+        let book = self.book.copy(alloc)?;
+        Ok(Scene { locks, book })
+    }
+}

@@ -1,0 +1,5 @@
+pub mod LegLemmas
+pub mod StopOnLegLemmas
+pub mod WayLemmas
+pub mod EndLemmas
+pub mod TableLemmas

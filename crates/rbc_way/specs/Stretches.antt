@@ -1,0 +1,54 @@
+-- What trains have of a section, and a table of it for all sections of a track.
+use Rattle.std.specs.Prelude.{◌≡◌, ℕ, ◌+◌, ◌-◌, min, Bool, true, false, ◌&&◌, ◌==◌, nat_le, nat_lt, if◌then◌else◌, List, [], ◌∷◌, length, flat_map, slice_get, All}
+use Rattle.std.specs.Option.{option_map_or}
+use Rattle.std.specs.Global.{Vec}
+use Rattle.rbc_model.specs.Tracks.{Track, metres_of}
+use Rattle.rbc_model.specs.declared.places.Leg.{Leg}
+use Rattle.rbc_model.specs.Lines.{Line}
+use Rattle.rbc_model.specs.Trains.{Train}
+use Rattle.rbc_scene_laws.specs.Good.{IsGoodTrain}
+use Rattle.rbc_way.specs.declared.stretches.Span.{Span}
+use Rattle.rbc_way.specs.declared.stretches.Stretch.{Stretch}
+
+-- what the places from a up to b are on a leg of so many metres that begins at q
+abbrev pub span_on : ℕ → ℕ → ℕ → ℕ → Span
+span_on metres q a b = record { low = a - q; high = min (b - q) metres }
+
+-- the same as a train meets it on a leg of the same section, in the same direction or not
+abbrev pub span_met_on : Bool → ℕ → Span → Span
+span_met_on true metres span = span
+span_met_on false metres span = record { low = metres - span.high; high = metres - span.low }
+
+-- whether the span has the metre
+abbrev pub span_has : Span → ℕ → Bool
+span_has span k = nat_le span.low k && nat_lt k span.high
+
+-- what a train has of the section of a leg of its line that begins at q
+abbrev pub stretch_of : Track → Train → ℕ → Leg → Stretch
+stretch_of track train q leg = record {
+  train = train.report.train;
+  direction = leg.direction;
+  extent = span_on (metres_of track leg.section) q train.rear train.front;
+  authority = span_on (metres_of track leg.section) q train.from train.to;
+}
+
+-- what it has of a section by the legs of a line that begins at q
+abbrev pub stretches_along : Track → Train → ℕ → ℕ → Line → List Stretch
+stretches_along track train section q [] = []
+stretches_along track train section q (leg ∷ line) =
+    let rest = stretches_along track train section (q + metres_of track leg.section) line in
+    if leg.section == section then stretch_of track train q leg ∷ rest else rest
+
+-- what trains have of a section, in their order
+abbrev pub stretches_of : Track → List Train → ℕ → List Stretch
+stretches_of track trains section = flat_map (λ other. stretches_along track other section 0 other.line) trains
+
+-- what a table has for a section
+abbrev pub stretches_at : List (Vec Stretch) → ℕ → List Stretch
+stretches_at table section = option_map_or (λ stretches. stretches.items) (slice_get table section) []
+
+-- the table has for each section of the track what these trains have of it
+pub record IsTableOf (track : Track) (trains : List Train) (table : List (Vec Stretch)) : Type 0 where
+  pub as_many : length table ≡ length track.sections
+  pub good : All (IsGoodTrain track) trains
+  pub stretches : (section : ℕ) → stretches_at table section ≡ stretches_of track trains section

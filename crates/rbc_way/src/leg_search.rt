@@ -1,0 +1,190 @@
+//! The search for the first obstacle on one leg.
+
+ghost use Rattle.std.specs.Prelude.{◌≡◌, ℕ, ◌+◌, ◌<◌, ◌≤◌, ◌^◌, length, fold, IfSome};
+ghost use Rattle.rbc_model.specs.Obstacles.{is_locked};
+ghost use Rattle.rbc_model.specs.Scales.{farthest};
+ghost use Rattle.rbc_model.specs.Scenes.{others as other_trains};
+ghost use Rattle.rbc_model.specs.Tracks.{metres_of};
+ghost use Rattle.rbc_model.specs.Views.{start_of};
+ghost use Rattle.rbc_model.specs.declared.refusals.Obstacle.{Obstacle};
+ghost use Rattle.rbc_reach_laws.specs.Nearest.{nearer};
+ghost use Rattle.rbc_way.specs.OnLegs.{authority_met, clear_of, extent_met, first_from, first_train, free_of, nearest_in, stop_met, stop_or, told};
+ghost use Rattle.rbc_way.specs.Reaches.{Trains, scene_of};
+ghost use Rattle.rbc_way.specs.Stretches.{IsTableOf, stretches_at};
+
+use crate::bounds::{limit_of, start_of};
+use crate::stretches::{Span, Stretch, Stretches, metres_of};
+use rbc_extent::Train;
+use rbc_locks::Locks;
+use rbc_model::{Direction, Leg, Obstacle, SectionId};
+
+/// A place with an obstacle, and the obstacle.
+#[derive(Clone, Copy)]
+pub(crate) struct Stop {
+    pub(crate) place: u32,
+    pub(crate) obstacle: Obstacle,
+}
+
+/// A leg of a train's way: the leg before it, if there is one, and the place at which it begins.
+#[derive(Clone, Copy)]
+pub(crate) struct WayLeg {
+    pub(crate) before: Option<Leg>,
+    pub(crate) begin: u32,
+    pub(crate) leg: Leg,
+}
+
+/// Whether the leg is locked in its direction, and behind the leg before if there is one.
+fn is_locked(locks: &Locks, before: Option<Leg>, leg: Leg) -> bool
+    ensures { result ≡ is_locked locks.now before leg }
+{
+    match locks.row(leg.section) {
+        Some(lock) => {
+            lock.direction == leg.direction && (before.is_none() || lock.before == before)
+        }
+        None => false,
+    }
+}
+
+/// The nearer of a metre and of the first one of a span from `first` on.
+fn nearer(near: u32, first: u32, span: Span) -> u32
+    ensures { result ≡ nearer near (first_from first span) }
+{
+    let met = first.max(span.low);
+    if met < span.high { near.min(met) } else { near }
+}
+
+/// The extent's span, as it is met on a leg in this direction.
+fn extent_met(stretch: &Stretch, direction: Direction, metres: u32) -> Span
+    ensures { result ≡ extent_met direction metres stretch.now }
+{
+    stretch.extent.met(stretch.direction == direction, metres)
+}
+
+/// The authority's span, as it is met on a leg in this direction.
+fn authority_met(stretch: &Stretch, direction: Direction, metres: u32) -> Span
+    ensures { result ≡ authority_met direction metres stretch.now }
+{
+    stretch
+        .authority
+        .met(stretch.direction == direction, metres)
+}
+
+/// The nearest of a metre and of what the stretches have from `first` on.
+fn nearest(stretches: &[Stretch], direction: Direction, metres: u32, first: u32, free: u32) -> u32
+    ensures near { result ≡ fold (nearest_in direction metres first) free stretches.now }
+    ensures at_most { result ≤ free }
+{
+    let mut near = free;
+    for stretch in stretches {
+        near = nearer(near, first, extent_met(stretch, direction, metres));
+        near = nearer(near, first, authority_met(stretch, direction, metres));
+    }
+    near
+}
+
+/// The first of the trains whose extent has the metre.
+fn occupant(stretches: &[Stretch], direction: Direction, metres: u32, metre: u32) -> Option<u32>
+    ensures { result ≡ first_train (extent_met direction metres) metre stretches.now }
+{
+    let found = stretches.iter().find(|stretch| extent_met(stretch, direction, metres).has(metre))?;
+    Some(found.train)
+}
+
+/// The first of the trains whose authority has the metre.
+fn holder(stretches: &[Stretch], direction: Direction, metres: u32, metre: u32) -> Option<u32>
+    ensures { result ≡ first_train (authority_met direction metres) metre stretches.now }
+{
+    let found = stretches.iter().find(|stretch| authority_met(stretch, direction, metres).has(
+        metre,
+    ))?;
+    Some(found.train)
+}
+
+/// What stands at a metre of a leg, of so many metres, that is the first with an obstacle.
+fn obstacle_at(stretches: &[Stretch], locked: bool, leg: Leg, metres: u32, metre: u32) -> Obstacle
+    ensures { result ≡ stop_met stretches.now locked leg metres metre }
+{
+    if !locked {
+        return Obstacle::NotLocked(leg.section);
+    }
+    if let Some(train) = occupant(stretches, leg.direction, metres, metre) {
+        return Obstacle::Occupied(train);
+    }
+    if let Some(train) = holder(stretches, leg.direction, metres, metre) {
+        return Obstacle::Held(train);
+    }
+    Obstacle::Limit
+}
+
+/// How many metres of a leg, which begins at `begin` and has so many, lie before the limit.
+fn free_of(train: &Train, begin: u32, metres: u32) -> u32
+    ensures near { result ≡ free_of (train.now.train.origin + farthest train.now.track.format)
+        (start_of train.now.train) begin metres }
+    ensures at_most { result ≤ metres }
+{
+    let limit = limit_of(train);
+    if start_of(train).max(begin) <= limit {
+        metres.min(limit - begin)
+    } else {
+        metres
+    }
+}
+
+/// How many metres of a leg are clear, if so many lie before the limit and the search begins at `first`.
+fn clear_of(
+    stretches: &[Stretch],
+    locked: bool,
+    direction: Direction,
+    metres: u32,
+    first: u32,
+    free: u32,
+) -> u32
+    ensures clear { result ≡ clear_of stretches.now locked direction metres first free }
+    ensures at_most { result ≤ free }
+{
+    let high = if locked { 0 } else { metres };
+    let free = nearer(free, first, Span { low: 0, high });
+    nearest(stretches, direction, metres, first, free)
+}
+
+/// What the trains have of a section of the table.
+fn stretches_at(others: &Stretches, section: SectionId) -> &[Stretch]
+    requires { section < length others.now.items }
+    ensures { result.now ≡ stretches_at others.now.items section }
+{
+    others[section.index()].as_slice()
+}
+
+/// The first obstacle on a leg of the train's way, if there is one before the leg's end.
+pub(crate) fn stop_on(
+    locks: &Locks,
+    others: &Stretches,
+    train: &Train,
+    way_leg: &WayLeg,
+) -> Option<Stop>
+    requires of_track { way_leg.now.leg.section < length train.now.track.sections }
+    requires table { length others.now.items ≡ length train.now.track.sections }
+    requires fits { way_leg.now.begin + metres_of train.now.track way_leg.now.leg.section < 2 ^ 32 }
+    ensures found { (trains : Trains)
+        → IsTableOf train.now.track (other_trains (scene_of locks.now trains) train.now.train) others.now.items
+        → (rest : ℕ × Obstacle) → told result rest ≡ stop_or train.now.track (scene_of locks.now trains)
+        train.now.train way_leg.now.before way_leg.now.begin way_leg.now.leg rest }
+    ensures on_leg { IfSome result (λ stop.
+        stop.place < way_leg.now.begin + metres_of train.now.track way_leg.now.leg.section) }
+{
+    let leg = &way_leg.leg;
+    let metres = metres_of(train.line().track(), *leg);
+    let stretches = stretches_at(others, leg.section);
+    let locked = is_locked(locks, way_leg.before, *leg);
+    let first = start_of(train).saturating_sub(way_leg.begin);
+    let free = free_of(train, way_leg.begin, metres);
+    let clear = clear_of(stretches, locked, leg.direction, metres, first, free);
+    if clear < metres {
+        Some(Stop {
+            place: way_leg.begin + clear,
+            obstacle: obstacle_at(stretches, locked, *leg, metres, clear),
+        })
+    } else {
+        None
+    }
+}

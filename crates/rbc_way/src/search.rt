@@ -1,0 +1,163 @@
+//! The walk along a train's way, leg by leg, up to the first obstacle.
+
+ghost use Rattle.std.specs.Prelude.{◌≡◌, ℕ, ◌≤◌, None, Some, length, IfOk, IfSome, OnOk};
+ghost use Rattle.rbc_model.specs.Lines.{last_leg, line_length};
+ghost use Rattle.rbc_model.specs.Locks.{lengthened_fully, longer_ahead};
+ghost use Rattle.rbc_model.specs.Scenes.{others as other_trains};
+ghost use Rattle.rbc_model.specs.SoundTracks.{IsSound};
+ghost use Rattle.rbc_model.specs.Views.{reach, stop};
+ghost use Rattle.rbc_model.specs.declared.places.Leg.{Leg};
+ghost use Rattle.rbc_model.specs.declared.refusals.Obstacle.{Obstacle};
+ghost use Rattle.rbc_reach_laws.specs.Nearest.{end_obstacle, walk_on, walk_then};
+ghost use Rattle.rbc_scene_laws.specs.Good.{IsGoodLocks};
+ghost use Rattle.rbc_way.specs.OnLegs.{told};
+ghost use Rattle.rbc_way.specs.Reaches.{BeginsWay, Trains, scene_of};
+ghost use Rattle.rbc_way.specs.Stretches.{IsTableOf};
+
+use crate::found::Reach;
+use crate::leg_search::{Stop, WayLeg, stop_on};
+use crate::stretches::{Stretches, metres_of, stretches_of};
+use rbc_book::Book;
+use rbc_extent::Train;
+use rbc_line::{Line, SectionSet};
+use rbc_locks::Locks;
+use rbc_model::{Leg, Memory, Obstacle};
+use std::alloc::Global;
+
+/// The first obstacle on the train's line, if there is one before its end.
+fn stop_on_line(locks: &Locks, others: &Stretches, train: &Train) -> Option<Stop>
+    requires table { length others.now.items ≡ length train.now.track.sections }
+    ensures found { (trains : Trains)
+        → IsTableOf train.now.track (other_trains (scene_of locks.now trains) train.now.train) others.now.items
+        → (finish : ℕ → ℕ × Obstacle)
+        → walk_then finish train.now.track (scene_of locks.now trains) train.now.train None 0 train.now.train.line
+        ≡ told result (finish (line_length train.now.track train.now.train.line)) }
+    ensures on_line { IfSome result (λ stop. stop.place ≤ line_length train.now.track train.now.train.line) }
+{
+    let line = train.line();
+    let legs = line.legs();
+    let _metres = line.length();
+    let mut before = None;
+    let mut begin = 0;
+    for leg in legs {
+        let way_leg = WayLeg {
+            before,
+            begin,
+            leg: *leg,
+        };
+        if let Some(found) = stop_on(locks, others, train, &way_leg) {
+            return Some(found);
+        }
+        before = Some(*leg);
+        begin += metres_of(line.track(), *leg);
+    }
+    None
+}
+
+/// What stands at the end of a way with this last leg.
+fn end_obstacle(locks: &Locks, last: &Leg) -> Obstacle
+    ensures { (trains : Trains) → result ≡ end_obstacle (scene_of locks.now trains) last.now }
+{
+    match locks.next(*last) {
+        Some(_) => Obstacle::Own,
+        None => Obstacle::NoLink(*last),
+    }
+}
+
+/// The end of the line, where the locks lead no further or back onto it.
+fn end_stop(locks: &Locks, line: &Line) -> Stop
+    ensures place { result.place ≡ line_length line.now.track line.now.legs }
+    ensures obstacle { (trains : Trains) (last : Leg) → last_leg line.now.legs ≡ Some last
+        → result.obstacle ≡ end_obstacle (scene_of locks.now trains) last }
+{
+    Stop {
+        place: line.length(),
+        obstacle: end_obstacle(locks, &line.last()),
+    }
+}
+
+/// How many sections the line's track has.
+fn sections_of(line: &Line) -> usize
+    ensures count { result ≡ length line.now.track.sections }
+    ensures sound { IsSound line.now.track }
+{
+    line.track().section_count()
+}
+
+/// The first obstacle ahead of the line, on which there is none. The line gains the legs up to there.
+fn stop_ahead(
+    alloc: Global,
+    locks: &Locks,
+    others: &Stretches,
+    train: &Train,
+    line: &mut Line,
+) -> Result<Stop, Memory>
+    requires track { line.old.track ≡ train.now.track }
+    requires locks { IsGoodLocks train.now.track locks.now }
+    requires table { length others.now.items ≡ length train.now.track.sections }
+    ensures track { line.new.track ≡ line.old.track }
+    ensures stop { IfOk result (λ found. (trains : Trains)
+        → IsTableOf train.now.track (other_trains (scene_of locks.now trains) train.now.train) others.now.items
+        → walk_on train.now.track (scene_of locks.now trains) train.now.train (length train.now.track.sections)
+        line.old.legs (line_length train.now.track line.old.legs) ≡ (found.place, found.obstacle)) }
+    ensures on_line { IfOk result (λ found. found.place ≤ line_length line.new.track line.new.legs) }
+    ensures begins { OnOk result ((n : ℕ) × (lengthened_fully n (longer_ahead locks.now) line.new.legs
+        ≡ lengthened_fully (length train.now.track.sections) (longer_ahead locks.now) line.old.legs)) }
+{
+    let mut sections = SectionSet::of(alloc, line)?;
+    let count = sections_of(line);
+    for _added in 0..count {
+        let last = &line.last();
+        let leg = match locks.next(*last) {
+            Some(leg) => leg,
+            None => return Ok(end_stop(locks, line)),
+        };
+        let leg = &leg;
+        if sections.has(leg.section) {
+            return Ok(end_stop(locks, line));
+        }
+        let way_leg = WayLeg {
+            before: Some(*last),
+            begin: line.length(),
+            leg: *leg,
+        };
+        line.extend(*leg)?;
+        let _longer = line.length();
+        sections.insert(leg.section);
+        if let Some(found) = stop_on(locks, others, train, &way_leg) {
+            return Ok(found);
+        }
+    }
+    let _last = line.last();
+    Ok(end_stop(locks, line))
+}
+
+/// How far the way of a train is clear: the first place with an obstacle on its line, continued as far as the locks
+/// lead, and what stands there. The search begins at the start of the train's authority, or at its front where that
+/// lies behind. Another train of its number does not stand in its way.
+///
+/// It walks the legs up to the first one that is blocked or has the limit; the next leg, and what other trains have of
+/// its section, are one look-up each.
+///
+/// # Errors
+///
+/// [`Memory`] where there is none for what other trains have of the sections, or for the line.
+pub fn reach(alloc: Global, locks: &Locks, book: &Book, train: &Train) -> Result<Reach, Memory>
+    requires track { train.now.track ≡ book.now.track }
+    requires locks { IsGoodLocks book.now.track locks.now }
+    ensures track { IfOk result (λ found. found.track ≡ book.now.track) }
+    ensures place { IfOk result (λ found. found.place
+        ≡ reach book.now.track (scene_of locks.now book.now.trains) train.now.train) }
+    ensures obstacle { IfOk result (λ found. found.obstacle
+        ≡ stop book.now.track (scene_of locks.now book.now.trains) train.now.train) }
+    ensures line { IfOk result (λ found.
+        BeginsWay book.now.track (scene_of locks.now book.now.trains) train.now.train found.line) }
+{
+    let others = stretches_of(alloc, book, train)?;
+    let mut line = train.line().copy(alloc)?;
+    if let Some(found) = stop_on_line(locks, &others, train) {
+        return Ok(Reach::new(found.place, found.obstacle, line));
+    }
+    let found = stop_ahead(alloc, locks, &others, train, &mut line)?;
+    Ok(Reach::new(found.place, found.obstacle, line))
+}
