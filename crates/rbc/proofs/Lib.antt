@@ -1,2 +1,3 @@
 mod CertifyingLemmas
+mod LayoutLemmas
 mod OverlongLemmas

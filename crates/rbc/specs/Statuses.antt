@@ -8,7 +8,7 @@ use Rattle.rbc_model.specs.declared.sessions.SessionFault.TheVariants.{Memory}
 use Rattle.rbc.specs.declared.load.LoadFault.{LoadFault}
 use Rattle.rbc.specs.declared.load.LoadFault.TheVariants.{Memory as NoLoadMemory}
 use Rattle.rbc.specs.declared.failure.Failure.{Failure}
-use Rattle.rbc.specs.declared.failure.Failure.TheVariants.{CommandLine, NotText, Load, Session, Memory as NoMemory}
+use Rattle.rbc.specs.declared.failure.Failure.TheVariants.{CommandLine, NotText, NotCertified, Load, Session, Memory as NoMemory}
 
 -- after a command line that asks for help, or that is refused
 abbrev pub status_of_kind : ErrorKind → ℕ
@@ -30,6 +30,7 @@ status_of_load _ = 3
 abbrev pub status_of : Failure → ℕ
 status_of (CommandLine error) = status_of_kind (kind_of error)
 status_of NotText = 2
+status_of NotCertified = 1
 status_of (Load fault) = status_of_load fault
 status_of (Session fault) = status_of_fault fault
 status_of NoMemory = 5

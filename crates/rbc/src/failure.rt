@@ -10,6 +10,8 @@ use rbc_words::SessionFault;
 use std::alloc::AllocError;
 use std::io;
 
+/// The exit status after a certificate that is refused.
+const NOT_CERTIFIED: u8 = 1;
 /// The exit status after a command line that is refused.
 const REFUSED: u8 = 2;
 /// The exit status after a track that can't be had.
@@ -30,13 +32,15 @@ pub enum Failure {
     Load(LoadFault),
     /// A session ended before its input.
     Session(SessionFault),
+    /// A certificate was refused, as the output tells.
+    NotCertified,
     /// Memory was refused.
     Memory,
 }
 
 impl Failure {
-    /// The program's exit status: 0 after help, 2 for a command line, 3 for a track, 4 for a session's fault and 5
-    /// for want of memory.
+    /// The program's exit status: 0 after help, 1 for a certificate, 2 for a command line, 3 for a track, 4 for a
+    /// session's fault and 5 for want of memory.
     pub fn status(&self) -> u8
         ensures { result ≡ status_of self.now }
     {
@@ -46,6 +50,7 @@ impl Failure {
                 _ => REFUSED,
             },
             Failure::NotText => REFUSED,
+            Failure::NotCertified => NOT_CERTIFIED,
             Failure::Load(LoadFault::Memory)
             | Failure::Session(SessionFault::Memory)
             | Failure::Memory => NO_MEMORY,
@@ -63,6 +68,7 @@ impl Failure {
             ),
             Failure::Load(fault) => eprintln!(rt; "rbc: {fault}"),
             Failure::Session(fault) => eprintln!(rt; "rbc: {fault}"),
+            Failure::NotCertified => Ok(()),
             Failure::Memory => eprintln!(rt; "rbc: out of memory"),
         };
     }

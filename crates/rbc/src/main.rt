@@ -12,11 +12,16 @@ mod tests;
 use command_line::Task;
 use failure::Failure;
 pub use load::{LoadFault, load};
+pub use rbc_checks::check;
+use rbc_model::Memory;
+use rbc_record::Record;
 use rbc_track::Track;
 use rbc_words::Stream;
 use std::env::Env;
 use std::fs::Files;
 use std::process::ExitCode;
+use std::sync::Arc;
+use std::thread::Threads;
 use std::{env, fs, io};
 pub use steps::steps;
 
@@ -31,23 +36,53 @@ fn main(rt: HostRuntime) -> ExitCode {
 }
 
 /// Does what the command line asks for.
-fn run(rt: &(impl Env + Files + Input + Print + AllocGlobal)) -> Result<(), Failure> {
+fn run(
+    rt: &(impl Env + Files + Input + Print + AllocGlobal + Threads + Sync),
+) -> Result<(), Failure> {
     let alloc = rt.alloc();
     let words: Vec<String> = env::args(rt)?.collect(alloc)?;
     match command_line::read(alloc, words.as_slice())? {
         Task::Steps => {
             steps(
+                rt,
                 alloc,
                 &mut Stream::reader(rt.reader()),
                 &mut Stream::writer(alloc, io::writer(rt))?,
             )?;
             Ok(())
         }
-        Task::Run(path) => {
-            let _track = read_track(rt, path)?;
-            Ok(())
+        Task::Check => {
+            let all_certified = check(
+                rt,
+                alloc,
+                &mut Stream::reader(rt.reader()),
+                &mut Stream::writer(alloc, io::writer(rt))?,
+            )?;
+            if all_certified {
+                Ok(())
+            } else {
+                Err(Failure::NotCertified)
+            }
         }
+        Task::Run(path) => run_centre(rt, path),
     }
+}
+
+/// Runs a centre on the track of a file: it answers the lines of the standard input.
+fn run_centre(
+    rt: &(impl Files + Input + Print + AllocGlobal + Threads + Sync),
+    path: &str,
+) -> Result<(), Failure> {
+    let alloc = rt.alloc();
+    let track = Arc::new(alloc, read_track(rt, path)?).map_err(Memory::from)?;
+    rbc_server::run(
+        rt,
+        alloc,
+        &mut Stream::reader(rt.reader()),
+        &mut Stream::writer(alloc, io::writer(rt))?,
+        &mut Record::new(alloc, track)?,
+    )?;
+    Ok(())
 }
 
 /// The track of this file.

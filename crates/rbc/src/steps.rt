@@ -7,11 +7,13 @@ ghost use Rattle.rbc_model.specs.StepsReply.{AnswersLine};
 ghost use Rattle.rbc_model.specs.Talks.{IsTalk, EachByItself};
 
 use crate::answers::reply_to;
+use rbc_model::limits::LONGEST_LINE;
 use rbc_model::{LineFault, StepsRefusal};
 use rbc_session::{Answers, SessionFault, converse};
 use rbc_streams::{Sink, Source, WriteFailed};
 use rbc_words::{StepsReply, print};
 use std::alloc::Global;
+use std::thread::Threads;
 
 /// Answers each line by itself: it keeps nothing.
 #[derive(Drop)]
@@ -20,22 +22,30 @@ struct Certifier;
 impl Answers<()> for Certifier {
     type State = ();
 
+    ghost use Rattle.rbc_model.specs.declared.limits.TheConstants.{LONGEST_LINE};
     ghost use Rattle.rbc_model.specs.declared.places.Format.TheVariants.{Near};
     ghost use Rattle.rbc_model.specs.StepsReply.{AnswersLine};
     ghost use Rattle.rbc_model.specs.Talks.{EachByItself};
+
+    ghost longest = { LONGEST_LINE };
 
     ghost state = { λ _. tt };
 
     ghost answers = { EachByItself (AnswersLine Near) };
 
-    fn answer<W: Sink>(
+    fn longest_line() -> usize {
+        LONGEST_LINE
+    }
+
+    fn answer<T: Threads + Sync, W: Sink>(
         &mut self,
+        rt: &T,
         alloc: Global,
         _help: &(),
         line: &[u8],
         writer: &mut W,
     ) -> Result<(), WriteFailed> {
-        print(&reply_to(alloc, line), writer)
+        print(&reply_to(rt, alloc, line), writer)
     }
 
     fn refuse<W: Sink>(&mut self, _help: &(), writer: &mut W) -> Result<(), WriteFailed> {
@@ -52,6 +62,7 @@ impl Answers<()> for Certifier {
 /// where the writer does, `Overlong` behind the reply to a line that is too long; `Lines` where a further byte comes
 /// after the last line that a session treats.
 pub fn steps<R: Source, W: Sink>(
+    rt: &(impl Threads + Sync),
     alloc: Global,
     reader: &mut R,
     writer: &mut W,
@@ -71,10 +82,10 @@ pub fn steps<R: Source, W: Sink>(
 
     // What was written answers the lines of what was read.
     ensures talk { (input : List ℕ) × Consumes (R.left reader.old) (R.left reader.new) input
-        × IsTalk (EachByItself (AnswersLine Near)) tt tt input (W.written writer.old) (W.written writer.new) result }
+        × IsTalk LONGEST_LINE (EachByItself (AnswersLine Near)) tt tt input (W.written writer.old) (W.written writer.new) result }
 
     // And it was handed on, unless the writer failed.
     ensures handed_on { W.failed writer.new ≡ false → W.held_back writer.old ≡ [] → W.held_back writer.new ≡ [] }
 {
-    converse(alloc, reader, writer, &mut Certifier, &())
+    converse(rt, alloc, reader, writer, &mut Certifier, &())
 }

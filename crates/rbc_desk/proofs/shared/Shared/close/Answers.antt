@@ -1,0 +1,26 @@
+use Rattle.std.proofs.Common.{◌≡◌, ◌+◌, [], length, subst, arith}
+use Rattle.rbc_desk.specs.Closing.{all_receipts, AreAtPlaces, IsFirstMisplaced}
+use Rattle.rbc_desk.proofs.ClosingLemmas.{goes_on, matches}
+use Rattle.rbc_desk.proofs.shared.Shared.close.Goals as goal
+
+pub returns-in-None-clause-matches : goal.returns-in-None-clause-matches
+returns-in-None-clause-matches g c =
+    let log = c.args.self.log in
+    let start = c.args.self.start in
+    let receipts = all_receipts c.args.seats.items in
+    let parts : c.merge_all.new.all.parts ≡ g.L.Ledger.parts = omega (arith, c.args.seats.ok.0, c.merge_all.ensures.parts, c.merge_all.ensures.most, c.requires) in
+    let many : length receipts + start ≡ length log.entries = omega (arith, c.audit.ensures.whole parts, c.merge_all.ensures.amount, c.args.self.counted) in
+    matches log.entries start _ receipts c.args.self.starts
+    (subst (λ seats. AreAtPlaces log.entries start [] (all_receipts seats)) c.as_slice.ensures.value c.in-None.ensures.0) many
+
+pub returns-in-Some-clause-unmatched : goal.returns-in-Some-clause-unmatched
+returns-in-Some-clause-unmatched g c =
+    let log = c.args.self.log in
+    let start = c.args.self.start in
+    let receipts = all_receipts c.args.seats.items in
+    let parts : c.merge_all.new.all.parts ≡ g.L.Ledger.parts = omega (arith, c.args.seats.ok.0, c.merge_all.ensures.parts, c.merge_all.ensures.most, c.requires) in
+    let many : length receipts + start ≡ length log.entries = omega (arith, c.audit.ensures.whole parts, c.merge_all.ensures.amount, c.args.self.counted) in (
+      goes_on log g.L.DeskName.opened start receipts c.args.self.track c.args.self.base c.args.self.starts c.version-version.ensures.legal many,
+      subst (λ begun. IsFirstMisplaced log.entries begun [] receipts c.in-Some.receipt) c.args.self.starts
+          (subst (λ seats. IsFirstMisplaced log.entries start [] (all_receipts seats) c.in-Some.receipt) c.as_slice.ensures.value c.in-Some.ensures),
+    )

@@ -1,0 +1,52 @@
+-- What a train that asks at the desk is answered.
+use Rattle.std.specs.Prelude.{◌≡◌, ℕ, true, length, Option, Some, None, Result, Ok, Err}
+use Rattle.std.specs.Result.{result_map_both}
+use Rattle.rbc_model.specs.declared.memory.OrMemory.{OrMemory}
+use Rattle.rbc_model.specs.declared.memory.OrMemory.TheVariants.{Refused, Memory}
+use Rattle.rbc_model.specs.declared.refusals.ViewFault.{ViewFault}
+use Rattle.rbc_model.specs.declared.refusals.ViewFault.TheVariants.{UnknownTrain as NoSuchTrain, Blocked as BlockedAt}
+use Rattle.rbc_model.specs.Views.{View, view}
+use Rattle.rbc_model.specs.Histories.{Granted, Receipt}
+use Rattle.rbc_grant.specs.Candidates.{Candidate}
+use Rattle.rbc_record.specs.declared.faults.CommitFault.{CommitFault}
+use Rattle.rbc_record.specs.declared.faults.CommitFault.TheVariants.{Full as FullToGrants, Stale, Foreign}
+use Rattle.rbc_record.specs.Records.{HistoryOnTrack, scene_now, is_full, with_entry}
+use Rattle.rbc_desk.specs.declared.faults.AskFault.{AskFault}
+use Rattle.rbc_desk.specs.declared.faults.AskFault.TheVariants.{UnknownTrain, Blocked, Full}
+
+-- why the train is shown no end, told with the version of the history
+abbrev pub fault_at : ℕ → ViewFault → AskFault
+fault_at version NoSuchTrain = UnknownTrain
+fault_at version (BlockedAt obstacle at) = Blocked obstacle at version
+
+-- what the train is shown in the scene that the history leads to, or why it is shown no end
+abbrev pub shown : HistoryOnTrack → ℕ → Result View AskFault
+shown history train =
+    result_map_both (λ seen. seen) (fault_at (length history.entries)) (view history.track (scene_now history) train)
+
+-- Nothing is granted: the history is full, or it shows the train no end, or memory was refused.
+abbrev pub IsRefused : HistoryOnTrack → ℕ → OrMemory AskFault → Type 0
+IsRefused history train (Refused Full) = is_full history ≡ true
+IsRefused history train (Refused UnknownTrain) = shown history train ≡ Err UnknownTrain
+IsRefused history train (Refused (Blocked obstacle at version)) = shown history train ≡ Err (Blocked obstacle at version)
+IsRefused history train Memory = Unit {0}
+
+-- The candidate was made of what the history shows its train, at its version.
+pub record IsCurrent (history : HistoryOnTrack) (candidate : Candidate) : Type 0 where
+  pub version : candidate.version ≡ length history.entries
+  pub view : shown history candidate.view.train ≡ Ok candidate.view
+
+-- what a try is answered: a receipt, or nothing where the candidate is not current
+abbrev pub tried : Result Receipt (OrMemory CommitFault) → Result (Option Receipt) (OrMemory AskFault)
+tried (Ok receipt) = Ok (Some receipt)
+tried (Err (Refused FullToGrants)) = Err (Refused Full)
+tried (Err (Refused (Stale version))) = Ok None
+tried (Err (Refused Foreign)) = Ok None
+tried (Err Memory) = Err Memory
+
+-- The try entered what the candidate would grant; or it entered nothing, since the candidate is not current; or it was refused.
+abbrev pub Tries : Result (Option Receipt) (OrMemory AskFault) → HistoryOnTrack → HistoryOnTrack → Candidate → Type 0
+Tries (Ok (Some receipt)) old new candidate =
+    (receipt.entry ≡ Granted candidate.grant) × (receipt.place ≡ length old.entries) × (new ≡ with_entry old (Granted candidate.grant))
+Tries (Ok None) old new candidate = (IsCurrent old candidate → ⊥) × (new ≡ old)
+Tries (Err fault) old new candidate = IsRefused old candidate.view.train fault × (new ≡ old)

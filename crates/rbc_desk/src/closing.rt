@@ -1,0 +1,93 @@
+//! Whether the receipts of all seats are the history.
+
+ghost use Rattle.std.specs.Prelude.{◌≡◌, ◌↔◌, IsTrue, ◌+◌, ◌≤◌, ◌<◌, ◌++◌, ◌∷◌, [], List, length, vec_len};
+ghost use Rattle.rbc_model.specs.Histories.{Receipt};
+ghost use Rattle.rbc_record.specs.Entries.{entry_of};
+ghost use Rattle.rbc_desk.specs.Closing.{all_receipts, AreMarked, FindsAll, Finds};
+
+use crate::{DeskName, Seat};
+use rbc_record::{Entry, Receipt, Record};
+use std::sync::ledger::Share;
+
+/// Whether both entries say the same.
+fn is_same_entry(one: &Entry, other: &Entry) -> bool
+    ensures { IsTrue result ↔ (entry_of one.now ≡ entry_of other.now) }
+{
+    *one == *other
+}
+
+/// Whether the receipt is at its place, for which no other was found yet. If so, it is marked as found.
+fn find(log: &Record, start: u64, marks: &mut Vec<bool>, receipt: &Receipt) -> bool
+    requires { vec_len marks.old + start ≡ length log.now.entries }
+    ensures length { vec_len marks.new ≡ vec_len marks.old }
+    ensures finds { (earlier : List Receipt) → AreMarked start earlier marks.old.items
+        → Finds log.now.entries start earlier receipt.now marks.new.items result }
+{
+    let place = receipt.place();
+    let Some(entry) = log.entry(place) else {
+        return false;
+    };
+    if place < start || !is_same_entry(entry, receipt.entry()) {
+        return false;
+    }
+    let index = (place - start) as usize;
+    let is_new = !marks[index];
+    marks[index] = true;
+    is_new
+}
+
+/// Finds the receipts of a seat, up to the first that is not at its place.
+fn find_all(
+    log: &Record,
+    start: u64,
+    marks: &mut Vec<bool>,
+    receipts: &[Receipt],
+) -> Option<Receipt>
+    requires { vec_len marks.old + start ≡ length log.now.entries }
+    ensures length { vec_len marks.new ≡ vec_len marks.old }
+    ensures finds { (earlier : List Receipt) → AreMarked start earlier marks.old.items
+        → FindsAll log.now.entries start earlier receipts.now marks.new.items result }
+{
+    for receipt in receipts {
+        if !find(log, start, marks, receipt) {
+            return Some(receipt.copy());
+        }
+    }
+    None
+}
+
+/// Finds the receipts of all seats, up to the first that is not at its place.
+pub(crate) fn find_seats<L: DeskName>(
+    log: &Record,
+    start: u64,
+    marks: &mut Vec<bool>,
+    seats: &[Seat<L>],
+) -> Option<Receipt>
+    requires length { vec_len marks.old + start ≡ length log.now.entries }
+    requires unmarked { AreMarked start [] marks.old.items }
+    ensures { FindsAll log.now.entries start [] (all_receipts seats.now) marks.new.items result }
+{
+    for seat in seats {
+        if let Some(receipt) = find_all(log, start, marks, seat.receipts()) {
+            return Some(receipt);
+        }
+    }
+    None
+}
+
+/// Puts the shares of all seats into one.
+pub(crate) fn merge_all<L: DeskName>(all: &mut Share<L>, seats: Vec<Seat<L>>)
+    requires none { all.old.parts ≡ 0 }
+    requires empty { all.old.amount ≡ 0 }
+    ensures parts { all.new.parts ≡ length seats.items }
+    ensures amount { all.new.amount ≡ length (all_receipts seats.items) }
+    ensures most { all.new.parts ≤ L.parts }
+{
+    for seat in seats {
+        let Seat { share, .. } = seat;
+        all.merge(share);
+    }
+    // There are no more parts than the ledger has.
+    let none = all.empty();
+    all.merge(none);
+}

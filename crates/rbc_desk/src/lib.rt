@@ -1,0 +1,21 @@
+//! The desk: one record that many workers share. Each worker has a seat with the receipts of what it entered, and when
+//! the desk is closed the receipts of all seats are exactly the history.
+#![tactic(auto)]
+
+mod closing;
+mod desk;
+mod faults;
+mod gate;
+mod granted;
+mod name;
+mod seat;
+mod shared;
+
+pub use desk::Desk;
+pub use faults::{AskFault, CloseFault};
+pub use gate::{Gate, OpenGate};
+pub use granted::Granted;
+pub use name::DeskName;
+pub use rbc_model::{Memory, OrMemory, Told};
+pub use rbc_record::{ApplyFault, Receipt, Record};
+pub use seat::Seat;

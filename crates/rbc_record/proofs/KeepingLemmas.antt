@@ -1,0 +1,162 @@
+-- A record keeps what it keeps, when an entry is added that may follow.
+use Rattle.std.proofs.Common.{◌≡◌, ℕ, ◌<◌, List, [], ◌∷◌, ◌++◌, true, false, length, map, take, Result, Ok, Err, refl, sym, ap, ◌∙◌, subst, arith, length-append}
+use Rattle.std.specs.Prelude.{IsTrue, is_ok, IfOk}
+use Rattle.std.proofs.lemmas.Bool.{leb-false}
+use Rattle.std.proofs.lemmas.List.{map-append}
+use Rattle.std.specs.Result.{result_unwrap_or}
+use Rattle.std.proofs.lemmas.List.Sums.{fold_push}
+use Rattle.rbc_model.specs.declared.reports.Told.{Told}
+use Rattle.rbc_model.specs.Tracks.{Track}
+use Rattle.rbc_model.specs.SoundTracks.{IsInForm, IsSound}
+use Rattle.rbc_model.specs.Scenes.{Scene, empty_scene}
+use Rattle.rbc_model.specs.Views.{View, view}
+use Rattle.rbc_model.specs.declared.memory.OrMemory.{OrMemory}
+use Rattle.rbc_model.specs.declared.memory.OrMemory.TheVariants.{Refused}
+use Rattle.rbc_model.specs.declared.refusals.Refusal.{Refusal}
+use Rattle.rbc_model.specs.declared.refusals.ViewFault.{ViewFault}
+use Rattle.rbc_model.specs.Answers.{AnswersOrMemory, RefusesOrMemory}
+use Rattle.rbc_model.specs.Events.{after_grant, after_told, step}
+use Rattle.rbc_model.specs.Histories.{Entry, Heard, Granted, Grants, MayFollow, IsLegal, IsBestHistory, event_of, scene_after, replay}
+use Rattle.rbc_model.proofs.LegalLemmas.{IsLegal-empty, IsLegal-append}
+use Rattle.rbc_grant_laws.specs.Candidates.{IsCandidateOf}
+use Rattle.rbc_grant_laws.proofs.CandidateLemmas.{MayFollow-candidate, is_ok-candidate, view-train}
+use Rattle.rbc_reach.specs.SameViews.{is_same_view-decides}
+use Rattle.rbc_scene.specs.ScenesOnTracks.{SceneOnTrack}
+use Rattle.rbc_record.specs.declared.limits.TheConstants.{MOST_ENTRIES}
+use Rattle.rbc_scene_laws.proofs.KeptLemmas.{IsBestHistory-of_legal}
+use Rattle.rbc_record.specs.declared.entry.Entry.{Entry as EntryHeld}
+use Rattle.rbc_record.specs.declared.entry.Entry.TheVariants.{Heard as HeardHeld, Granted as GrantedHeld}
+use Rattle.rbc_record.specs.Entries.{entry_of}
+use Rattle.rbc_record.specs.Entering.{is_just, is_shown}
+use Rattle.rbc_record.specs.Records.{HistoryOnTrack, IsKept, history_on, is_full, scene_now}
+use Rattle.rbc_record.proofs.HistoryLemmas.{IsLegal-take}
+
+-- ---- the empty history
+
+pub kept_empty : (track : Track) → IsInForm track → IsSound track → IsKept (record { track = track; scene = empty_scene track }) []
+kept_empty track form sound = record { form = form; sound = sound; legal = IsLegal-empty track; replayed = refl; few = omega arith }
+
+-- ---- views
+
+shown_just : (wanted : View) (answer : Result View ViewFault) → is_just wanted answer ≡ true → answer ≡ Ok wanted
+shown_just wanted (Ok shown) h = ap Ok (sym ((is_same_view-decides wanted shown).0 h))
+shown_just wanted (Err fault) h = cc
+
+-- the train of the view is shown it
+pub view_shown : (now : HistoryOnTrack) (v : View) → is_shown now v ≡ true → view now.track (scene_now now) v.train ≡ Ok v
+view_shown now v h = shown_just v (view now.track (scene_now now) v.train) h
+
+shown_before : (scene : SceneOnTrack) (entries : List Entry) (now : HistoryOnTrack) → history_on scene.track entries ≡ now → IsKept scene entries → (v : View) → is_shown now v ≡ true
+    → view scene.track scene.scene v.train ≡ Ok v
+shown_before scene entries now is kept v h =
+    let k = kept in
+    subst (λ s. view scene.track s v.train ≡ Ok v) (sym k.replayed)
+    (subst (λ (history : HistoryOnTrack). view history.track (scene_now history) v.train ≡ Ok v) (sym is) (view_shown now v h))
+
+pub train_shown : (track : Track) (scene : Scene) (number : ℕ) (result : Result View (OrMemory ViewFault)) → AnswersOrMemory result (view track scene number) → IfOk result (λ v. v.train ≡ number)
+train_shown track scene number (Ok v) h = view-train track scene number v h
+train_shown track scene number (Err fault) h = tt
+
+-- ---- one entry more
+
+-- the scene after an entry whose event is accepted
+replay_push : (track : Track) (entries : List Entry) (entry : Entry) (scene after : Scene) → scene ≡ replay track entries → step track scene (event_of entry) ≡ Ok after
+    → after ≡ replay track (entries ++ entry ∷ [])
+replay_push track entries entry scene after is steps =
+    sym
+    (fold_push (scene_after track) (empty_scene track) entries entry
+    ∙ ap (λ s. scene_after track s entry) (sym is)
+    ∙ ap (λ r. result_unwrap_or r scene) steps)
+
+-- something told may follow where its event is accepted
+told_may_follow : (track : Track) (entries : List Entry) (told : Told) (scene after : Scene) → scene ≡ replay track entries → step track scene (event_of (Heard told)) ≡ Ok after
+    → MayFollow track entries (Heard told)
+told_may_follow track entries told scene after is steps = record {
+  accepted = subst (λ s. IsTrue (is_ok (step track s (event_of (Heard told))))) is (subst (λ r. IsTrue (is_ok r)) (sym steps) refl);
+  best = λ grant same. no_grant grant same;
+}
+  where
+    no_grant : {P : Type 0} (grant : Grants) → Heard told ≡ Granted grant → P
+    no_grant grant same = cc
+
+module _ (before after : SceneOnTrack) (entries : List Entry) (kept : IsKept before entries) (room : length entries < MOST_ENTRIES) (same : after.track ≡ before.track) where
+  kept_with : (entry : Entry) → step before.track before.scene (event_of entry) ≡ Ok after.scene → MayFollow before.track entries entry → IsKept after (entries ++ entry ∷ [])
+  kept_with entry steps may =
+      let k = kept in
+      subst (λ t. IsKept (record { track = t; scene = after.scene }) (entries ++ entry ∷ [])) (sym same)
+      (record {
+        form = k.form;
+        sound = k.sound;
+        legal = IsLegal-append before.track entries entry k.legal may;
+        replayed = replay_push before.track entries entry before.scene after.scene k.replayed steps;
+        few = let few = room in omega (arith, length-append entries (entry ∷ []));
+      })
+
+  pub kept_told : (told : Told) → step before.track before.scene (event_of (Heard told)) ≡ Ok after.scene → IsKept after (entries ++ Heard told ∷ [])
+  kept_told told steps =
+      let k = kept in
+      kept_with (Heard told) steps (told_may_follow before.track entries told before.scene after.scene k.replayed steps)
+
+  pub kept_granted : (number : ℕ) (v : View) (grant : Grants) → view before.track before.scene number ≡ Ok v → IsCandidateOf v grant
+      → step before.track before.scene (event_of (Granted grant)) ≡ Ok after.scene → IsKept after (entries ++ Granted grant ∷ [])
+  kept_granted number v grant shown candidate steps =
+      let k = kept in
+      kept_with (Granted grant) steps (MayFollow-candidate before.track entries before.scene number v grant k.form (sym k.replayed) shown candidate)
+
+-- ---- one entry more in the program
+
+module _ (before after : SceneOnTrack) (items more : List EntryHeld) (now : HistoryOnTrack) (is : history_on before.track (map entry_of items) ≡ now) (kept : IsKept before (map entry_of items)) (full : is_full now ≡ false) (same : after.track ≡ before.track) where
+  room : length (map entry_of items) < MOST_ENTRIES
+  room = leb-false MOST_ENTRIES (length (map entry_of items)) (ap (λ h. is_full h) is ∙ full)
+
+  grown : (held : EntryHeld) → more ≡ items ++ held ∷ [] → map entry_of items ++ entry_of held ∷ [] ≡ map entry_of more
+  grown held e = sym (ap (map entry_of) e ∙ map-append entry_of items (held ∷ []))
+
+  pub kept_after_told : (told : Told) → more ≡ items ++ HeardHeld told ∷ [] → after_told before.track before.scene told ≡ Ok after.scene → IsKept after (map entry_of more)
+  kept_after_told told e steps =
+      subst (λ entries. IsKept after entries) (grown (HeardHeld told) e) (kept_told before after (map entry_of items) kept room same told steps)
+
+  module _ (v : View) (grant : Grants) (candidate : IsCandidateOf v grant) (shown : is_shown now v ≡ true) (train end : ℕ) (its_train : train ≡ grant.train) (its_end : end ≡ grant.authority.end) where
+    pub kept_after_granted : more ≡ items ++ GrantedHeld grant ∷ [] → after_grant before.track before.scene train end ≡ Ok after.scene → IsKept after (map entry_of more)
+    kept_after_granted e steps =
+        subst (λ entries. IsKept after entries) (grown (GrantedHeld grant) e)
+        (kept_granted before after (map entry_of items) kept room same v.train v grant (shown_before before (map entry_of items) now is kept v shown) candidate
+        (sym (λ i. after_grant before.track before.scene (its_train i) (its_end i)) ∙ steps))
+
+-- the scene does not refuse what a candidate would grant, where its view is shown
+accepted_not_refused : (answer : Result Scene Refusal) (refusal : Refusal) → is_ok answer ≡ true → answer ≡ Err refusal → ⊥
+accepted_not_refused (Ok scene) refusal h e = cc
+accepted_not_refused (Err other) refusal h e = cc
+
+pub never_refused : (before : SceneOnTrack) (entries : List Entry) (now : HistoryOnTrack) → history_on before.track entries ≡ now → IsKept before entries
+    → (v : View) (grant : Grants) → IsCandidateOf v grant → is_shown now v ≡ true → (train end : ℕ) → train ≡ grant.train → end ≡ grant.authority.end
+    → (fault : OrMemory Refusal) (refusal : Refusal) → fault ≡ Refused refusal → RefusesOrMemory fault (after_grant before.track before.scene train end) → ⊥
+never_refused before entries now is kept v grant candidate shown train end its_train its_end fault refusal e refused =
+    let k = kept in
+    accepted_not_refused (after_grant before.track before.scene grant.train grant.authority.end) refusal
+    (is_ok-candidate before.track before.scene v.train v grant k.form (shown_before before entries now is kept v shown) candidate)
+    (sym (λ i. after_grant before.track before.scene (its_train i) (its_end i))
+    ∙ subst (λ f. RefusesOrMemory f (after_grant before.track before.scene train end)) e refused)
+
+-- ---- what each record shows
+
+pub best_of_kept : (scene : SceneOnTrack) (entries : List Entry) → IsKept scene entries → IsBestHistory scene.track entries
+best_of_kept scene entries kept = let k = kept in IsBestHistory-of_legal scene.track entries k.sound k.legal
+
+pub best_of_same : (scene after : SceneOnTrack) (items others : List EntryHeld) → IsKept scene (map entry_of items) → after ≡ scene → others ≡ items → IsBestHistory after.track (map entry_of others)
+best_of_same scene after items others kept same_scene same_items =
+    subst (λ es. IsBestHistory after.track (map entry_of es)) (sym same_items)
+    (subst (λ (s : SceneOnTrack). IsBestHistory s.track (map entry_of items)) (sym same_scene) (best_of_kept scene (map entry_of items) kept))
+
+module _ (scene : SceneOnTrack) (entries : List Entry) (now : HistoryOnTrack) (is : history_on scene.track entries ≡ now) (kept : IsKept scene entries) where
+  pub legal_now : IsLegal now.track now.entries
+  legal_now = let k = kept in subst (λ (h : HistoryOnTrack). IsLegal h.track h.entries) is k.legal
+
+  pub best_now : IsBestHistory now.track now.entries
+  best_now = subst (λ (h : HistoryOnTrack). IsBestHistory h.track h.entries) is (best_of_kept scene entries kept)
+
+  pub beginning_now : (moment : ℕ) → IsBestHistory now.track (take moment now.entries)
+  beginning_now moment =
+      let k = kept in
+      subst (λ (h : HistoryOnTrack). IsBestHistory h.track (take moment h.entries)) is
+      (IsBestHistory-of_legal scene.track (take moment entries) k.sound (IsLegal-take scene.track entries moment k.legal))

@@ -1,0 +1,29 @@
+//! Why an entry is refused.
+
+use rbc_model::Refusal;
+use thiserror::Error;
+
+/// Why what is told is not entered.
+#[derive(Clone, Copy, Debug, PartialEq, Eq, Error)]
+pub enum ApplyFault {
+    /// The record has 100,000 entries.
+    #[error("the record is full")]
+    Full,
+    /// The scene refuses it.
+    #[error("the scene refuses it")]
+    Refused(Refusal),
+}
+
+/// Why what a candidate would grant is not entered.
+#[derive(Clone, Copy, Debug, PartialEq, Eq, Error)]
+pub enum CommitFault {
+    /// The record has 100,000 entries.
+    #[error("the record is full")]
+    Full,
+    /// The candidate has another version than this, which is the record's.
+    #[error("the record is at version {0}")]
+    Stale(u64),
+    /// The candidate has the record's version, but its view is not what the record shows its train.
+    #[error("the candidate is of another record")]
+    Foreign,
+}

@@ -1,0 +1,244 @@
+//! The record of a track.
+
+ghost use Rattle.std.specs.Prelude.{◌≡◌, ◌≢◌, ◌++◌, ◌∷◌, ◌<◌, ◌≤◌, ℕ, [], length, take, true, false, slice_get, option_map, None, Ok, Err, IfOk, vec_len, vec_capacity};
+ghost use Rattle.std.specs.Arc.{arc_value};
+ghost use Rattle.std.specs.Option.{option_copied};
+ghost use Rattle.rbc_model.specs.declared.memory.OrMemory.TheVariants.{Refused};
+ghost use Rattle.rbc_model.specs.declared.refusals.ViewFault.TheVariants.{UnknownTrain};
+ghost use Rattle.rbc_model.specs.Answers.{AnswersOrMemory};
+ghost use Rattle.rbc_model.specs.Histories.{IsLegal, IsBestHistory, NoMetreIsHeldTwice};
+ghost use Rattle.rbc_model.specs.Scenes.{train_numbered};
+ghost use Rattle.rbc_model.specs.SoundTracks.{IsInForm};
+ghost use Rattle.rbc_model.specs.Views.{view};
+ghost use Rattle.rbc_scene.specs.Steps.{IsOfTrack};
+ghost use Rattle.rbc_record.specs.declared.limits.TheConstants.{MOST_ENTRIES};
+ghost use Rattle.rbc_record.specs.declared.faults.ApplyFault.TheVariants.{Full as FullToTold};
+ghost use Rattle.rbc_record.specs.declared.faults.CommitFault.TheVariants.{Full as FullToGrants, Stale};
+ghost use Rattle.rbc_record.specs.Entries.{entry_of};
+ghost use Rattle.rbc_record.specs.Entering.{EntersOrMemory, as_apply_fault, entry_told, entry_granted, is_shown};
+ghost use Rattle.rbc_record.specs.Headline.{EachEndIsFarthest, EachProfileIsBest};
+ghost use Rattle.rbc_record.specs.Records.{scene_now, is_full};
+
+use crate::limits::MOST_ENTRIES;
+use crate::{ApplyFault, CommitFault, Entry, Grant, Receipt};
+use rbc_grant::Candidate;
+use rbc_model::{Event, Memory, OrMemory, Refusal, Told, ViewFault};
+use rbc_reach::View;
+use rbc_scene::Scene;
+use rbc_track::Track;
+use std::alloc::Global;
+use std::marker::Model;
+use std::sync::Arc;
+
+/// All that was told and granted on a track, up to 100,000 entries, and the scene that it leads to.
+///
+/// However it came about, each authority in it was the best for its train at its moment: no safe end that a message
+/// can give lies further, the obstacle that it names stood there, and no steps tell more of the track's speeds and
+/// gradients up to the end. And at no moment did a metre stand in the authorities of two trains.
+#[derive(Drop)]
+pub struct Record {
+    scene: Scene,
+    entries: Vec<Entry>,
+}
+
+impl Model for Record {
+    ghost use Rattle.std.specs.Prelude.{map};
+    ghost use Rattle.rbc_record.specs.Entries.{entry_of};
+    ghost use Rattle.rbc_record.specs.Records.{HistoryOnTrack, IsKept};
+
+    ghost Value = { HistoryOnTrack };
+
+    ghost view = { λ r. record { track = r.scene.track; entries = map entry_of r.entries.items } };
+
+    ghost invariant = { λ r. IsKept r.scene (map entry_of r.entries.items) };
+}
+
+/// A refusal of the scene as a refusal of the record.
+fn as_apply_fault(fault: OrMemory<Refusal>) -> OrMemory<ApplyFault>
+    ensures { result ≡ as_apply_fault fault }
+{
+    match fault {
+        OrMemory::Refused(refusal) => OrMemory::Refused(ApplyFault::Refused(refusal)),
+        OrMemory::Memory => OrMemory::Memory,
+    }
+}
+
+/// Puts the entry behind the others, where there is room for it.
+fn append(entries: &mut Vec<Entry>, entry: Entry) -> Receipt
+    requires { vec_len entries.old < vec_capacity entries.old }
+    ensures items { entries.new.items ≡ entries.old.items ++ entry ∷ [] }
+    ensures receipt { result ≡ record { place = length entries.old.items; entry = entry_of entry } }
+{
+    let receipt = Receipt::new(entries.len() as u64, entry.copy());
+    entries.push_reserved(entry);
+    receipt
+}
+
+impl Record {
+    /// The record of a track, in which nothing was told yet.
+    ///
+    /// # Errors
+    ///
+    /// `Memory`, where the allocator refuses room for the scene.
+    pub fn new(alloc: Global, track: Arc<Track>) -> Result<Record, Memory>
+        ensures { IfOk result (λ r. r ≡ record { track = arc_value track; entries = [] }) }
+    {
+        let _sections = track.section_count();
+        let scene = Scene::new(alloc, track)?;
+        Ok(Record {
+            scene,
+            entries: Vec::new(alloc),
+        })
+    }
+
+    /// The track.
+    pub fn track(&self) -> &Arc<Track>
+        ensures { arc_value result.now ≡ self.now.track }
+    {
+        self.scene.track()
+    }
+
+    /// How many entries the record has: 0 to 100,000.
+    ///
+    /// Whatever they are, they are a history in which each authority was the best at its place, and in which no two
+    /// ever overlapped; and so is each beginning of it.
+    pub fn version(&self) -> u64
+        ensures count { result ≡ length self.now.entries }
+        ensures few { result ≤ MOST_ENTRIES }
+        ensures form { IsInForm self.now.track }
+        ensures legal { IsLegal self.now.track self.now.entries }
+        ensures best { IsBestHistory self.now.track self.now.entries }
+        ensures ends { EachEndIsFarthest self.now.track self.now.entries }
+        ensures profiles { EachProfileIsBest self.now.track self.now.entries }
+        ensures apart { NoMetreIsHeldTwice self.now.track self.now.entries }
+        ensures beginnings { (moment : ℕ) → IsBestHistory self.now.track (take moment self.now.entries) }
+    {
+        self.entries.len() as u64
+    }
+
+    /// The entry before which so many others stand. None from the version on.
+    pub fn entry(&self, place: u64) -> Option<&Entry>
+        ensures { option_map entry_of (option_copied result) ≡ slice_get self.now.entries place }
+    {
+        self.entries.get(place as usize)
+    }
+
+    /// Whether the record has as many entries as it may have.
+    fn is_full(&self) -> bool
+        ensures full { result ≡ is_full self.now }
+        ensures best { IsBestHistory self.now.track self.now.entries }
+    {
+        self.entries.len() >= MOST_ENTRIES
+    }
+
+    /// Enters what a train or the interlocking tells. Where it is refused, or memory is, nothing changes.
+    ///
+    /// # Errors
+    ///
+    /// `Refused` with the first of these:
+    /// - `Full`, before all else: the record has 100,000 entries,
+    /// - `Refused` with the refusal of the scene.
+    ///
+    /// `Memory` may come in place of `Refused`.
+    pub fn apply(&mut self, alloc: Global, told: &Told) -> Result<Receipt, OrMemory<ApplyFault>>
+        requires { IsOfTrack self.old.track told.now }
+        ensures entered { EntersOrMemory result self.old self.new (entry_told self.old told.now) }
+        ensures full { is_full self.old ≡ true → result ≡ Err (Refused FullToTold) }
+        ensures best { IsBestHistory self.new.track self.new.entries }
+    {
+        if self.is_full() {
+            return Err(OrMemory::Refused(ApplyFault::Full));
+        }
+        self.entries.reserve(1)?;
+        match self.scene.tell(alloc, told) {
+            Ok(()) => Ok(append(&mut self.entries, Entry::Heard(*told))),
+            Err(fault) => Err(as_apply_fault(fault)),
+        }
+    }
+
+    /// Enters what the candidate would grant, where it was made of this record's view at this record's version. Where
+    /// it is refused, or memory is, nothing changes.
+    ///
+    /// # Errors
+    ///
+    /// `Refused` with the first of these:
+    /// - `Full`, before all else: the record has 100,000 entries,
+    /// - `Stale` with the record's version, before any memory is asked for: the candidate has another version,
+    /// - `Foreign`: the record shows the candidate's train another view, or none.
+    ///
+    /// `Memory` may come in place of `Foreign`.
+    pub fn commit(
+        &mut self,
+        alloc: Global,
+        candidate: &Candidate,
+    ) -> Result<Receipt, OrMemory<CommitFault>>
+        ensures entered { EntersOrMemory result self.old self.new (entry_granted self.old candidate.now) }
+        ensures full { is_full self.old ≡ true → result ≡ Err (Refused FullToGrants) }
+        ensures stale { is_full self.old ≡ false → candidate.now.version ≢ length self.old.entries
+            → result ≡ Err (Refused (Stale (length self.old.entries))) }
+        ensures shown { IfOk result (λ _.
+            view self.old.track (scene_now self.old) candidate.now.view.train ≡ Ok candidate.now.view) }
+        ensures best { IsBestHistory self.new.track self.new.entries }
+    {
+        if self.is_full() {
+            return Err(OrMemory::Refused(CommitFault::Full));
+        }
+        let version = self.version();
+        if candidate.version() != version {
+            return Err(OrMemory::Refused(CommitFault::Stale(version)));
+        }
+        if !self.shows(alloc, candidate.view())? {
+            return Err(OrMemory::Refused(CommitFault::Foreign));
+        }
+        self.entries.reserve(1)?;
+        match self
+            .scene
+            .grant(alloc, candidate.train(), candidate.authority().end())
+        {
+            Ok(()) => Ok(append(&mut self.entries, Entry::Granted(Grant::of(candidate)))),
+            Err(OrMemory::Memory) => Err(OrMemory::Memory),
+            // What is best for the view that the train is shown is safe.
+            Err(OrMemory::Refused(_)) => unreachable!(),
+        }
+    }
+
+    /// Whether the train of the view is shown just this view.
+    fn shows(&self, alloc: Global, wanted: &View) -> Result<bool, Memory>
+        ensures { IfOk result (λ shown. shown ≡ is_shown self.now wanted.now) }
+    {
+        match self.view(alloc, wanted.train()) {
+            Ok(shown) => Ok(*wanted == shown),
+            Err(OrMemory::Refused(_)) => Ok(false),
+            Err(OrMemory::Memory) => Err(Memory),
+        }
+    }
+
+    /// What the train of this number is shown where it asks how far it may run.
+    ///
+    /// # Errors
+    ///
+    /// `Refused` with the first of these:
+    /// - `UnknownTrain`, before any memory is asked for: there is no train of this number,
+    /// - `Blocked` with what stands at the reach, and the reach in metres from the train's group, where no safe end can
+    ///   be given by a message.
+    ///
+    /// `Memory`, where the allocator refuses room for the search or the view.
+    pub fn view(&self, alloc: Global, train: u32) -> Result<View, OrMemory<ViewFault>>
+        ensures view { AnswersOrMemory result (view self.now.track (scene_now self.now) train) }
+        ensures train { IfOk result (λ v. v.train ≡ train) }
+        ensures unknown { train_numbered (scene_now self.now) train ≡ None → result ≡ Err (Refused UnknownTrain) }
+    {
+        rbc_reach::view(alloc, &self.scene, train)
+    }
+
+    /// The scene that the history leads to, apart from the record.
+    ///
+    /// # Errors
+    ///
+    /// `Memory`, where the allocator refuses room for it.
+    pub fn snapshot(&self, alloc: Global) -> Result<Scene, Memory>
+        ensures { IfOk result (λ s. s ≡ record { track = self.now.track; scene = scene_now self.now }) }
+    {
+        Ok(self.scene.copy(alloc)?)
+    }
+}

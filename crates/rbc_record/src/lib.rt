@@ -1,0 +1,20 @@
+//! The record of a track: all that was told and granted, entry by entry, and the scene that it leads to. Each authority
+//! in it was the best for its train at its moment, and at no moment did a metre stand in two.
+#![tactic(auto)]
+
+mod entry;
+mod faults;
+mod grant;
+mod history;
+mod laws;
+pub mod limits;
+mod receipt;
+mod sameness;
+
+pub use entry::Entry;
+pub use faults::{ApplyFault, CommitFault};
+pub use grant::Grant;
+pub use history::Record;
+pub use laws::legal_histories_are_best;
+pub use rbc_model::{Memory, OrMemory, Refusal, Told, ViewFault};
+pub use receipt::Receipt;

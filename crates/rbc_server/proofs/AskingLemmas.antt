@@ -1,0 +1,265 @@
+-- A train that asks: what it is shown, and what the record answers, as the reply to its line.
+use Rattle.std.proofs.Common.{◌≡◌, ◌≢◌, ℕ, zero, suc, lit<, ◌+◌, ◌-◌, ◌<◌, Bool, true, false, cond, not, List, ◌∷◌, [], ◌++◌, length, Option, Some, None, Result, Ok, Err, refl, sym, ap, ◌∙◌, subst, inl, inr, ◌⊎◌, ℤ, arith}
+use Rattle.std.specs.Prelude.{MatchBool, ◌==◌, IsTrue, codes, decimal}
+use Rattle.std.specs.Fmt.{signed_decimal}
+use Rattle.std.specs.Cmp.{IsEquivalence}
+use Rattle.std.specs.Option.{option_map_or}
+use Rattle.rbc_model.specs.declared.memory.OrMemory.{OrMemory}
+use Rattle.rbc_model.specs.declared.memory.OrMemory.TheVariants.{Refused, Memory as NoMemory}
+use Rattle.rbc_model.specs.declared.places.Format.TheVariants.{Near}
+use Rattle.rbc_model.specs.declared.refusals.Obstacle.{Obstacle}
+use Rattle.rbc_model.specs.declared.refusals.Refusal.TheVariants.{UnknownTrain as NoSuchTrain}
+use Rattle.rbc_model.specs.declared.refusals.ViewFault.{ViewFault}
+use Rattle.rbc_model.specs.declared.refusals.ViewFault.TheVariants.{UnknownTrain, Blocked}
+use Rattle.rbc_model.specs.Answers.{RefusesOrMemory}
+use Rattle.rbc_model.specs.Levels.{Levels, speed_levels, grade_levels}
+use Rattle.rbc_model.specs.Profiles.{StepFunction, value_at, IsChosenProfile}
+use Rattle.rbc_model.specs.Bits.{IsBytes, bytes_of, padded_bits, field_bits}
+use Rattle.rbc_model.specs.Messages.{Authority, IsAuthority, message_3, sized_fields, message_bytes}
+use Rattle.rbc_model.proofs.BitLemmas.{number_of-below}
+use Rattle.rbc_model.proofs.RoundTripLemmas.{round_trip_near}
+use Rattle.rbc_model.specs.Reading.{read_message}
+use Rattle.rbc_model.specs.SoundTracks.{IsInForm, IsSound}
+use Rattle.rbc_model.specs.Tracks.{Track}
+use Rattle.rbc_model.specs.Trains.{Train}
+use Rattle.rbc_model.specs.Scenes.{Scene, train_numbered}
+use Rattle.rbc_model.specs.Views.{View, view, view_of, reach, greatest_end}
+use Rattle.rbc_model.specs.Histories.{Entry, Granted, Grants, Receipt, replay}
+use Rattle.rbc_model.specs.SessionReply.{Full, Memory, BadEvent, obstacle_words, blocked_reply, refused_reply, grant_reply}
+use Rattle.rbc_model.specs.StepsReply.{certificate}
+use Rattle.rbc_model.specs.Kinds.{speed_kind, grade_kind}
+use Rattle.rbc_model.specs.Words.{line_of, hex_of}
+use Rattle.rbc_scene_laws.proofs.KeptLemmas.{good_replay}
+use Rattle.rbc_grant_laws.specs.Candidates.{IsCandidateOf}
+use Rattle.rbc_grant_laws.proofs.CandidateLemmas.{IsBest-candidate}
+use Rattle.rbc_reach.specs.Forms.{metres_shown}
+use Rattle.rbc_reach.specs.SameViews.{is_same_view, same_views}
+use Rattle.rbc_grant.specs.Candidates.{Candidate, HasChosenProfiles}
+use Rattle.rbc_record.specs.declared.faults.CommitFault.{CommitFault}
+use Rattle.rbc_record.specs.declared.faults.CommitFault.TheVariants.{Full as FullToGrants, Stale, Foreign}
+use Rattle.rbc_record.specs.Entering.{EntersOrMemory, entry_granted, is_shown}
+use Rattle.rbc_record.specs.Records.{HistoryOnTrack, scene_now, is_full, with_entry}
+use Rattle.rbc_replies.specs.Certificates.{IsBasisOf}
+use Rattle.rbc_words.specs.PriceText.{prices_of}
+use Rattle.rbc_replies.specs.Replies.{ObstacleIsOfTrack, IsWhole, grant_text}
+use Rattle.rbc_replies.specs.declared.replies.Granted.{Granted as ToldGrant}
+use Rattle.rbc_server.specs.Turns.{AnswersAuthority, AnswersAsker, IsGrantFor, IsGranted, IsRefused, IsGivenUp}
+use Rattle.rbc_server.specs.Changes.{Comes, with_added}
+use Rattle.rbc_server.specs.Shown.{IsToldOf}
+use Rattle.rbc_server.proofs.NamingLemmas.{IsNamedIn, named_view}
+use Rattle.rbc_server.proofs.TellingLemmas.{nothing_added}
+
+-- ---- what stands in the way
+
+-- a train that is there is shown an end, or what stands in its way
+shown_or_blocked : (track : Track) (scene : Scene) (train : Train) → view_of track scene train ≡ Err UnknownTrain → ⊥
+shown_or_blocked track scene train e = by_end (greatest_end track scene train) refl
+  where
+    by_end : (o : Option ℕ) → greatest_end track scene train ≡ o → ⊥
+    by_end None h = let same = rw h at e in cc
+    by_end (Some end) h = let same = rw h at e in cc
+
+pub unknown_train : (track : Track) (scene : Scene) (number : ℕ) → view track scene number ≡ Err UnknownTrain → train_numbered scene number ≡ None
+unknown_train track scene number e = by_train (train_numbered scene number) e
+  where
+    by_train : (o : Option Train) → option_map_or (view_of track scene) o (Err UnknownTrain) ≡ Err UnknownTrain → o ≡ None
+    by_train None h = refl
+    by_train (Some train) h = absurd (shown_or_blocked track scene train h)
+
+module _ (history : HistoryOnTrack) (number : ℕ) where
+  abbrev Asked : List ℕ → Option Entry → Result View ViewFault → Type 0
+  Asked reply added answer = AnswersAsker history.track history.entries reply added number answer
+
+  pub asked_comes : (reply : List ℕ) (added : Option Entry) (after : HistoryOnTrack) (answer : Result View ViewFault) → view history.track (scene_now history) number ≡ answer
+      → Asked reply added answer → after ≡ with_added history added
+      → Comes (λ track entries said more. AnswersAuthority track entries said more number) history reply after
+  asked_comes reply added after answer e said leads = (added, subst (Asked reply added) (sym e) said, leads)
+
+  pub unknown_comes : view history.track (scene_now history) number ≡ Err UnknownTrain
+      → Comes (λ track entries said more. AnswersAuthority track entries said more number) history (refused_reply history.track (BadEvent (NoSuchTrain number))) history
+  unknown_comes e = asked_comes (refused_reply history.track (BadEvent (NoSuchTrain number))) None history (Err UnknownTrain) e (refl, refl) (nothing_added history)
+
+  pub blocked_comes : (obstacle : Obstacle) (at : ℤ) → view history.track (scene_now history) number ≡ Err (Blocked obstacle at) → (version : ℕ) → version ≡ length history.entries
+      → Comes (λ track entries said more. AnswersAuthority track entries said more number) history (blocked_reply history.track number version at obstacle) history
+  blocked_comes obstacle at e version is =
+      asked_comes (blocked_reply history.track number version at obstacle) None history (Err (Blocked obstacle at)) e
+      (inl (ap (λ n. blocked_reply history.track number n at obstacle) is, refl)) (nothing_added history)
+
+  given_up : (answer : Result View ViewFault) → (answer ≡ Err UnknownTrain → ⊥) → Asked (refused_reply history.track Memory) None answer
+  given_up (Ok shown) there = inr (refl, refl)
+  given_up (Err (Blocked obstacle at)) there = inr (refl, refl)
+  given_up (Err UnknownTrain) there = absurd (there refl)
+
+  pub given_up_comes : (train_numbered (scene_now history) number ≡ None → ⊥)
+      → Comes (λ track entries said more. AnswersAuthority track entries said more number) history (refused_reply history.track Memory) history
+  given_up_comes there =
+      asked_comes (refused_reply history.track Memory) None history (view history.track (scene_now history) number) refl
+      (given_up (view history.track (scene_now history) number) (λ e. there (unknown_train history.track (scene_now history) number e))) (nothing_added history)
+
+  pub blocked_named : (obstacle : Obstacle) (at : ℤ) → IsSound history.track → view history.track (scene_now history) number ≡ Err (Blocked obstacle at) → ObstacleIsOfTrack history.track obstacle
+  blocked_named obstacle at sound e = subst (IsNamedIn history.track) e (named_view history.track (scene_now history) number (good_replay history.track history.entries sound))
+
+  pub shown_named : (shown : View) → IsSound history.track → view history.track (scene_now history) number ≡ Ok shown → ObstacleIsOfTrack history.track shown.obstacle
+  shown_named shown sound e = subst (IsNamedIn history.track) e (named_view history.track (scene_now history) number (good_replay history.track history.entries sound))
+
+  -- ---- a train that is shown an end
+
+  module _ (shown : View) (e : view history.track (scene_now history) number ≡ Ok shown) where
+    pub shown_given_up : (after : HistoryOnTrack) → after ≡ history → Comes (λ track entries said more. AnswersAuthority track entries said more number) history (refused_reply history.track Memory) after
+    shown_given_up after same = asked_comes (refused_reply history.track Memory) None after (Ok shown) e (inr (refl, refl)) (same ∙ nothing_added history)
+
+    full_said : (full : Bool) → full ≡ true
+        → MatchBool full (IsRefused history.track history.entries (refused_reply history.track Full) None Full) (IsGranted history.track history.entries (refused_reply history.track Full) None number shown)
+    full_said true h = (refl, refl)
+    full_said false h = absurd (let c : ⊥ = cc in c)
+
+    pub shown_full : (after : HistoryOnTrack) → after ≡ history → is_full history ≡ true → Comes (λ track entries said more. AnswersAuthority track entries said more number) history (refused_reply history.track Full) after
+    shown_full after same full = asked_comes (refused_reply history.track Full) None after (Ok shown) e (inl (full_said (is_full history) full)) (same ∙ nothing_added history)
+
+    granted_said : (full : Bool) (reply : List ℕ) (added : Option Entry) → full ≡ false → IsGranted history.track history.entries reply added number shown
+        → MatchBool full (IsRefused history.track history.entries reply added Full) (IsGranted history.track history.entries reply added number shown)
+    granted_said true reply added h said = absurd (let c : ⊥ = cc in c)
+    granted_said false reply added h said = said
+
+    pub shown_granted : (reply : List ℕ) (added : Option Entry) (after : HistoryOnTrack) → is_full history ≡ false → IsGranted history.track history.entries reply added number shown → after ≡ with_added history added
+        → Comes (λ track entries said more. AnswersAuthority track entries said more number) history reply after
+    shown_granted reply added after free said leads = asked_comes reply added after (Ok shown) e (inl (granted_said (is_full history) reply added free said)) leads
+
+-- ---- what the record answers to a candidate of its own view, at its version
+
+module _ (history : HistoryOnTrack) (candidate : Candidate) where
+  abbrev entering : Bool → Bool → Bool → Result Entry CommitFault
+  entering full current shown =
+      cond full (Err FullToGrants)
+      (cond (not current) (Err (Stale (length history.entries))) (cond shown (Ok (Granted candidate.grant)) (Err Foreign)))
+
+  entered : (full current shown : Bool) (entry : Entry) → entering full current shown ≡ Ok entry → (full ≡ false) × (Granted candidate.grant ≡ entry)
+  entered true current shown entry e = absurd (let c : ⊥ = cc in c)
+  entered false false shown entry e = absurd (let c : ⊥ = cc in c)
+  entered false true false entry e = absurd (let c : ⊥ = cc in c)
+  entered false true true entry e = (refl, let same : Granted candidate.grant ≡ entry = cc in same)
+
+  pub grant_entered : (entry : Entry) → entry_granted history candidate ≡ Ok entry → (is_full history ≡ false) × (Granted candidate.grant ≡ entry)
+  grant_entered entry e = entered (is_full history) (candidate.version == length history.entries) (is_shown history candidate.view) entry e
+
+  full_for : (full current shown : Bool) → entering full current shown ≡ Err FullToGrants → full ≡ true
+  full_for true current shown e = refl
+  full_for false false shown e = absurd (let c : ⊥ = cc in c)
+  full_for false true false e = absurd (let c : ⊥ = cc in c)
+  full_for false true true e = absurd (let c : ⊥ = cc in c)
+
+  pub full_to_grants : entry_granted history candidate ≡ Err FullToGrants → is_full history ≡ true
+  full_to_grants e = full_for (is_full history) (candidate.version == length history.entries) (is_shown history candidate.view) e
+
+  stale_for : (full current shown : Bool) (version : ℕ) → current ≡ true → entering full current shown ≡ Err (Stale version) → ⊥
+  stale_for true current shown version h e = cc
+  stale_for false false shown version h e = cc
+  stale_for false true false version h e = cc
+  stale_for false true true version h e = cc
+
+  same_number : (n : ℕ) → (n == n) ≡ true
+  same_number n = grind arith
+
+  pub never_stale : (version : ℕ) → candidate.version ≡ length history.entries → entry_granted history candidate ≡ Err (Stale version) → ⊥
+  never_stale version current e =
+      stale_for (is_full history) (candidate.version == length history.entries) (is_shown history candidate.view) version
+      (subst (λ n. (candidate.version == n) ≡ true) current (same_number candidate.version)) e
+
+  foreign_for : (full current shown : Bool) → shown ≡ true → entering full current shown ≡ Err Foreign → ⊥
+  foreign_for true current shown h e = cc
+  foreign_for false false shown h e = cc
+  foreign_for false true false h e = cc
+  foreign_for false true true h e = cc
+
+  abbrev is_wanted : Result View ViewFault → Bool
+  is_wanted (Ok shown) = is_same_view candidate.view shown
+  is_wanted (Err fault) = false
+
+  pub never_foreign : view history.track (scene_now history) candidate.view.train ≡ Ok candidate.view → entry_granted history candidate ≡ Err Foreign → ⊥
+  never_foreign e answer =
+      foreign_for (is_full history) (candidate.version == length history.entries) (is_shown history candidate.view)
+      (subst (λ r. is_wanted r ≡ true) (sym e) (same_views.refl candidate.view)) answer
+
+-- ---- what is told of a grant
+
+-- a message is made of bytes
+are_bytes : (bits : List Bool) → IsBytes (bytes_of bits)
+are_bytes (a ∷ b ∷ c ∷ d ∷ e ∷ f ∷ g ∷ h ∷ rest) zero = number_of-below (a ∷ b ∷ c ∷ d ∷ e ∷ f ∷ g ∷ h ∷ [])
+are_bytes (a ∷ b ∷ c ∷ d ∷ e ∷ f ∷ g ∷ h ∷ rest) (suc i) = are_bytes rest i
+are_bytes _ i = lit< tt
+
+-- and reading it gives the authority back
+pub reads_back : (authority : Authority) → IsAuthority Near authority → read_message Near (message_bytes authority) ≡ Ok authority
+reads_back authority is = (round_trip_near (message_bytes authority) authority (are_bytes (padded_bits (field_bits (sized_fields (message_3 authority)))))).1 (is, refl)
+
+basis_is : {V : Type 0} (levels : Levels V) (unit limit n m : ℕ) (runs steps : List (ℕ × V)) (track : StepFunction V)
+    → IsChosenProfile levels unit limit n (value_at runs) steps → track ≡ record { steps = runs; end = m } → m ≡ n → IsBasisOf levels (record { steps = steps; end = n }) track
+basis_is levels unit limit n m runs steps track chosen is ends =
+    subst (IsBasisOf levels (record { steps = steps; end = n })) (sym is) (record { ends = ends; below = let best = chosen.best in let fits = best.fits in fits.below })
+
+nine : {A B C D E F G H I : Type 0} {X : Type 0} (f : A → B → C → D → E → F → G → H → I → X) (a a' : A) (b b' : B) (c c' : C) (d d' : D) (e e' : E) (f1 f2 : F) (g g' : G) (h h' : H) (i i' : I)
+    → a ≡ a' → b ≡ b' → c ≡ c' → d ≡ d' → e ≡ e' → f1 ≡ f2 → g ≡ g' → h ≡ h' → i ≡ i' → f a b c d e f1 g h i ≡ f a' b' c' d' e' f2 g' h' i'
+nine f a a' b b' c c' d d' e e' f1 f2 g g' h h' i i' p q r s t u v w x = rw (p, q, r, s, t, u, v, w, x) refl
+
+module _ (track : Track) (candidate : Candidate) (count : ℕ) (granted : ToldGrant) (is : IsToldOf candidate count granted) where
+  abbrev shown_text : ℕ → ℕ → ℤ → Obstacle → Authority → ℕ → StepFunction ℕ → ℕ → StepFunction ℤ → List ℕ
+  shown_text train version from obstacle authority speed_steps speeds grade_steps grades =
+      line_of (codes "granted" ∷ decimal train ∷ decimal version ∷ signed_decimal from ∷ decimal authority.end ∷ obstacle_words track obstacle)
+      ++ line_of (codes "message" ∷ hex_of (message_bytes authority) ∷ [])
+      ++ certificate speed_kind (record { limit = speed_steps; runs = speeds.steps; end = authority.end }) authority.speeds (prices_of granted.speeds.prices.now)
+      ++ certificate grade_kind (record { limit = grade_steps; runs = grades.steps; end = authority.end }) authority.grades (prices_of granted.grades.prices.now)
+      ++ line_of (codes "done" ∷ [])
+
+  pub told_text : grant_text track granted ≡ grant_reply track count candidate.view candidate.grant (prices_of granted.speeds.prices.now) (prices_of granted.grades.prices.now)
+  told_text =
+      nine shown_text granted.train candidate.grant.train granted.version count granted.from candidate.grant.from granted.obstacle candidate.grant.obstacle granted.authority.now candidate.grant.authority
+      granted.speeds.limit candidate.view.speed_steps granted.speeds.track.now (record { steps = candidate.view.speeds; end = metres_shown candidate.view })
+      granted.grades.limit candidate.view.grade_steps granted.grades.track.now (record { steps = candidate.view.grades; end = metres_shown candidate.view })
+      is.train is.version is.from is.obstacle is.authority is.speed_steps is.speeds is.grade_steps is.grades
+
+  module _ (best : IsCandidateOf candidate.view candidate.grant) (chosen : HasChosenProfiles candidate.view candidate.grant) where
+    ends : metres_shown candidate.view ≡ candidate.grant.authority.end
+    ends = let whole = best.end in omega arith
+
+    pub told_whole : ObstacleIsOfTrack track candidate.view.obstacle → IsWhole track granted
+    told_whole named =
+        record {
+          obstacle = subst (ObstacleIsOfTrack track) (sym (is.obstacle ∙ best.obstacle)) named;
+          message = is.message ∙ ap message_bytes (sym is.authority);
+          speeds = subst (λ (a : Authority). IsBasisOf speed_levels (record { steps = a.speeds; end = a.end }) granted.speeds.track.now) (sym is.authority)
+              (basis_is speed_levels _ _ candidate.grant.authority.end (metres_shown candidate.view) candidate.view.speeds candidate.grant.authority.speeds granted.speeds.track.now chosen.speeds is.speeds ends);
+          grades = subst (λ (a : Authority). IsBasisOf grade_levels (record { steps = a.grades; end = a.end }) granted.grades.track.now) (sym is.authority)
+              (basis_is grade_levels _ _ candidate.grant.authority.end (metres_shown candidate.view) candidate.view.grades candidate.grant.authority.grades granted.grades.track.now chosen.grades is.grades ends);
+        }
+
+    pub told_grant : (scene : Scene) → IsInForm track → track.format ≡ Near → view track scene candidate.view.train ≡ Ok candidate.view
+        → IsGrantFor track scene candidate.view.train candidate.view candidate.grant (prices_of granted.speeds.prices.now) (prices_of granted.grades.prices.now)
+    told_grant scene form near e =
+        record {
+          train = best.train;
+          best = IsBest-candidate track scene candidate.view.train candidate.view candidate.grant form e best;
+          speeds = chosen.speeds;
+          grades = chosen.grades;
+          speed_prices = is.speed_prices;
+          grade_prices = is.grade_prices;
+          message = subst (λ f. read_message f (message_bytes candidate.grant.authority) ≡ Ok candidate.grant.authority) (sym near) is.reads;
+        }
+
+-- the train is granted what the candidate is, and the reply tells it
+pub granted_comes : (history after : HistoryOnTrack) (candidate : Candidate) (receipt : Receipt) (place : ℕ) (granted : ToldGrant)
+    → EntersOrMemory {E = CommitFault} (Ok receipt) history after (entry_granted history candidate) → place ≡ receipt.place → IsToldOf candidate (place + 1) granted
+    → IsCandidateOf candidate.view candidate.grant → HasChosenProfiles candidate.view candidate.grant → IsInForm history.track → history.track.format ≡ Near
+    → view history.track (scene_now history) candidate.view.train ≡ Ok candidate.view
+    → Comes (λ track entries said more. AnswersAuthority track entries said more candidate.view.train) history (grant_text history.track granted) after
+granted_comes history after candidate receipt place granted enters at is best chosen form near e =
+    let entry = grant_entered history candidate receipt.entry enters.0 in
+    shown_granted history candidate.view.train candidate.view e (grant_text history.track granted) (Some (Granted candidate.grant)) after entry.0 (
+      candidate.grant,
+      prices_of granted.speeds.prices.now,
+      prices_of granted.grades.prices.now,
+      told_grant history.track candidate (place + 1) granted is best chosen (scene_now history) form near e,
+      told_text history.track candidate (place + 1) granted is
+          ∙ ap (λ n. grant_reply history.track (n + 1) candidate.view candidate.grant (prices_of granted.speeds.prices.now) (prices_of granted.grades.prices.now)) (at ∙ enters.1),
+      refl,
+    )
+    (enters.2 ∙ ap (with_entry history) (sym entry.1))

@@ -1,0 +1,5 @@
+pub mod AskingLemmas
+pub mod CentreLemmas
+pub mod NamingLemmas
+pub mod SessionLemmas
+pub mod TellingLemmas

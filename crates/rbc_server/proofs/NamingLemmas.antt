@@ -1,0 +1,305 @@
+-- The sections that an obstacle or a refusal names are the track's.
+use Rattle.std.proofs.Common.{◌≡◌, ℕ, zero, suc, ◌+◌, ◌-◌, ◌<◌, Bool, true, false, cond, ◌&&◌, not, List, [], ◌∷◌, map, take, length, Option, Some, None, unwrap_or, Result, Ok, Err, refl, subst, sym, ap}
+use Rattle.std.specs.Prelude.{option_map, option_and_then, find, filter_map, is_some, is_none, slice_get, slice_set, fold, nat_lt, nat_le, ◌==◌, if◌then◌else◌}
+use Rattle.std.specs.Option.{option_map_or, option_or}
+use Rattle.std.specs.Result.{result_map_both}
+use Rattle.std.specs.List.{AllByRecursion, list_all, list_any}
+use Rattle.std.proofs.lemmas.Bool.{ltb-true}
+use Rattle.std.proofs.lemmas.List.Elements.{recursion_from_All}
+use Rattle.rbc_model.specs.declared.places.Leg.{Leg}
+use Rattle.rbc_model.specs.declared.refusals.Obstacle.{Obstacle}
+use Rattle.rbc_model.specs.declared.refusals.Obstacle.TheVariants.{NoLink, NotLocked as NotLockedAhead, Own, Occupied, Held, Limit}
+use Rattle.rbc_model.specs.declared.refusals.Refusal.{Refusal}
+use Rattle.rbc_model.specs.declared.refusals.Refusal.TheVariants.{Crowded, UnknownGroup, Offline, Unplaced, TooFar, Clash, LinkTaken, NotLocked, Busy, UnknownTrain, YieldRange, NotSafe}
+use Rattle.rbc_model.specs.declared.refusals.ViewFault.{ViewFault}
+use Rattle.rbc_model.specs.declared.refusals.ViewFault.TheVariants.{UnknownTrain as NoSuchTrain, Blocked}
+use Rattle.rbc_model.specs.declared.reports.Told.{Told}
+use Rattle.rbc_model.specs.declared.reports.Told.TheVariants.{Report as ToldReport, Lock as ToldLock, Free as ToldFree, Leave as ToldLeave, GiveBack as ToldGiveBack}
+use Rattle.rbc_model.specs.declared.reports.Event.TheVariants.{Tell}
+use Rattle.rbc_model.specs.Results.{unless}
+use Rattle.rbc_model.specs.Reports.{Report}
+use Rattle.rbc_model.specs.declared.tracks.BaliseGroup.{BaliseGroup}
+use Rattle.rbc_model.specs.Tracks.{Track, Route, group_named, is_linked, leg_eq, metres_of}
+use Rattle.rbc_model.specs.SoundTracks.{IsSound, is_leg_of, is_good_route, is_good_entry, but_last}
+use Rattle.rbc_model.specs.Lines.{Line, last_leg, legs_begun_before, speeds, grades}
+use Rattle.rbc_model.specs.Locks.{Locks, row, next, clash, taken_link, needed_rows, with_leg_before, locked, freed, with_row}
+use Rattle.rbc_model.specs.Trains.{Train}
+use Rattle.rbc_model.specs.Scenes.{Scene, train_numbered}
+use Rattle.rbc_model.specs.Placing.{place, reported, placed_on, Placed, located, covered, leg_told, without_legs_behind}
+use Rattle.rbc_model.specs.Obstacles.{obstacle, obstacle_on, first_some, no_link, not_locked, own, occupied, held, limit, unlocked_section, is_locked, first_with, way}
+use Rattle.rbc_model.specs.Views.{View, view, view_of, reach, stop, greatest_end, from_group, start_of}
+use Rattle.rbc_model.specs.Events.{step, after_report, after_lock, after_free, after_leave, after_give_back, with_locks, with_train, without_train, cut_at, stands_on}
+use Rattle.rbc_scene_laws.specs.Good.{IsGoodScene, IsGoodTrain}
+use Rattle.rbc_scene_laws.proofs.BasicLemmas.{and_left, and_right}
+use Rattle.rbc_scene_laws.proofs.OnLineLemmas.{OnLine, OnLine-IsLine}
+use Rattle.rbc_scene_laws.proofs.LengtheningLemmas.{ahead_fully, linked_from_below}
+use Rattle.rbc_scene_laws.proofs.LockingLemmas.{all_got, good_route}
+use Rattle.rbc_scene_laws.proofs.TrainListLemmas.{find-holds}
+use Rattle.rbc_replies.specs.Replies.{ObstacleIsOfTrack, EventIsOfTrack}
+use Rattle.rbc_server.specs.Demands.{IsToldOfTrack}
+
+module _ (track : Track) where
+  abbrev IsOfTrack : Leg → Type 0
+  IsOfTrack leg = leg.section < length track.sections
+
+  -- ---- obstacles
+
+  -- an obstacle, if there is one, names what the track has
+  abbrev Named : Option Obstacle → Type 0
+  Named None = Unit {0}
+  Named (Some named) = ObstacleIsOfTrack track named
+
+  named_or : (a b : Option Obstacle) → Named a → Named b → Named (option_or a b)
+  named_or None b h k = k
+  named_or (Some x) b h k = h
+
+  last_of_track : (line : Line) (leg : Leg) → last_leg line ≡ Some leg → AllByRecursion IsOfTrack line → IsOfTrack leg
+  last_of_track [] leg e h = cc
+  last_of_track (a ∷ []) leg e h = subst IsOfTrack (let same : a ≡ leg = cc in same) h.0
+  last_of_track (a ∷ b ∷ line) leg e h = last_of_track (b ∷ line) leg e h.1
+
+  named_no_link : (test : Leg → Bool) (o : Option Leg) → ((leg : Leg) → o ≡ Some leg → IsOfTrack leg) → Named (option_and_then (λ leg. cond (test leg) (Some (NoLink leg)) None) o)
+  named_no_link test None h = tt
+  named_no_link test (Some leg) h = by_test (test leg)
+    where
+      by_test : (b : Bool) → Named (cond b (Some (NoLink leg)) None)
+      by_test true = h leg refl
+      by_test false = tt
+
+  named_own : (test : Leg → Bool) (o : Option Leg) → Named (option_and_then (λ leg. cond (test leg) (Some Own) None) o)
+  named_own test None = tt
+  named_own test (Some leg) = by_test (test leg)
+    where
+      by_test : (b : Bool) → Named (cond b (Some Own) None)
+      by_test true = tt
+      by_test false = tt
+
+  named_section : (o : Option ℕ) → ((section : ℕ) → o ≡ Some section → section < length track.sections) → Named (option_map NotLockedAhead o)
+  named_section None h = tt
+  named_section (Some section) h = h section refl
+
+  named_train : (f : ℕ → Obstacle) → ((train : ℕ) → ObstacleIsOfTrack track (f train)) → (o : Option ℕ) → Named (option_map f o)
+  named_train f h None = tt
+  named_train f h (Some train) = h train
+
+  named_limit : (b : Bool) → Named (cond b (Some Limit) None)
+  named_limit true = tt
+  named_limit false = tt
+
+  one_unlocked : (near there : Bool) (leg : Leg) (rest : Option ℕ) (section : ℕ) → cond near (cond there None (Some leg.section)) rest ≡ Some section → IsOfTrack leg
+      → (rest ≡ Some section → section < length track.sections) → section < length track.sections
+  one_unlocked true true leg rest section e h on = cc
+  one_unlocked true false leg rest section e h on = subst (λ s. s < length track.sections) (let same : leg.section ≡ section = cc in same) h
+  one_unlocked false there leg rest section e h on = on e
+
+  unlocked_of_track : (locks : Locks) (before : Option Leg) (line : Line) (i section : ℕ) → unlocked_section track locks before line i ≡ Some section → AllByRecursion IsOfTrack line → section < length track.sections
+  unlocked_of_track locks before [] i section e h = cc
+  unlocked_of_track locks before (leg ∷ legs) i section e h =
+      one_unlocked (nat_lt i (metres_of track leg.section)) (is_locked locks before leg) leg (unlocked_section track locks (Some leg) legs (i - metres_of track leg.section)) section e h.0
+      (λ f. unlocked_of_track locks (Some leg) legs (i - metres_of track leg.section) section f h.1)
+
+  named_on : (scene : Scene) (train : Train) (line : Line) (i : ℕ) → AllByRecursion IsOfTrack line → Named (obstacle_on track scene train line i)
+  named_on scene train line i of_track =
+      named_or (no_link track scene line i) _ (named_no_link _ (last_leg line) (λ leg e. last_of_track line leg e of_track))
+      (named_or (not_locked track scene line i) _ (named_section (unlocked_section track scene.locks None line i) (λ section e. unlocked_of_track scene.locks None line i section e of_track))
+      (named_or (own track scene line i) _ (named_own _ (last_leg line))
+      (named_or (occupied track scene train line i) _ (named_train Occupied (λ t. tt) _)
+      (named_or (held track scene train line i) _ (named_train Held (λ t. tt) _)
+      (named_or (limit track train i) _ (named_limit _) tt)))))
+
+  -- what stands at a place of a train's continued line
+  named_at : (scene : Scene) (train : Train) (i : ℕ) → IsGoodScene track scene → IsGoodTrain track train → Named (obstacle track scene train i)
+  named_at scene train i good well =
+      let ahead = ahead_fully track scene.locks good.locks (length track.sections) train.line (OnLine-IsLine track train.line well.line) in
+      let on = ahead.on in
+      named_on scene train (way track scene train) i on.of_track
+
+  named_of : (o : Option Obstacle) → Named o → ObstacleIsOfTrack track (unwrap_or o Own)
+  named_of None h = tt
+  named_of (Some named) h = h
+
+  named_stop : (scene : Scene) (train : Train) → IsGoodScene track scene → IsGoodTrain track train → ObstacleIsOfTrack track (stop track scene train)
+  named_stop scene train good well =
+      let i = reach track scene train in named_of (obstacle track scene train i) (named_at scene train i good well)
+
+  -- what a train that asks is shown, or what stands in its way
+  abbrev pub IsNamedIn : Result View ViewFault → Type 0
+  IsNamedIn (Ok shown) = ObstacleIsOfTrack track shown.obstacle
+  IsNamedIn (Err NoSuchTrain) = Unit {0}
+  IsNamedIn (Err (Blocked named at)) = ObstacleIsOfTrack track named
+
+  named_view_of : (scene : Scene) (train : Train) → IsGoodScene track scene → IsGoodTrain track train → IsNamedIn (view_of track scene train)
+  named_view_of scene train good well = by_end (greatest_end track scene train)
+    where
+      seen : Option ℕ → Result View ViewFault
+      seen None = Err (Blocked (stop track scene train) (from_group train (reach track scene train)))
+      seen (Some end) =
+          Ok
+          (record {
+            train = train.report.train;
+            group = train.report.group;
+            nominal = train.report.nominal;
+            time = train.report.time;
+            line = take (legs_begun_before track (reach track scene train) (way track scene train)) (way track scene train);
+            origin = train.origin;
+            start = start_of train;
+            front = train.front;
+            to = train.to;
+            end = end;
+            reach = reach track scene train;
+            obstacle = stop track scene train;
+            speed_steps = track.speed_steps;
+            grade_steps = track.grade_steps;
+            speeds = speeds track (way track scene train) train.origin end;
+            grades = grades track (way track scene train) train.origin end;
+          })
+
+      by_end : (o : Option ℕ) → IsNamedIn (seen o)
+      by_end None = named_stop scene train good well
+      by_end (Some end) = named_stop scene train good well
+
+  pub named_view : (scene : Scene) (number : ℕ) → IsGoodScene track scene → IsNamedIn (view track scene number)
+  named_view scene number good = by_train (train_numbered scene number) refl
+    where
+      by_train : (o : Option Train) → train_numbered scene number ≡ o → IsNamedIn (option_map_or (view_of track scene) o (Err NoSuchTrain))
+      by_train None e = tt
+      by_train (Some train) e =
+          named_view_of scene train good (find-holds (IsGoodTrain track) (λ t. t.report.train == number) scene.trains train e (recursion_from_All (IsGoodTrain track) scene.trains good.trains))
+
+  -- ---- refusals
+
+  -- a refusal, if there is one, names what the track has
+  abbrev pub RefusalIsNamed : {A : Type 0} → Result A Refusal → Type 0
+  RefusalIsNamed (Ok x) = Unit {0}
+  RefusalIsNamed (Err refusal) = EventIsOfTrack track refusal
+
+  named_mapped : {A B : Type 0} (f : A → B) (r : Result A Refusal) → RefusalIsNamed r → RefusalIsNamed (result_map_both f (λ e. e) r)
+  named_mapped f (Ok x) h = tt
+  named_mapped f (Err e) h = h
+
+  named_unless : {A X : Type 0} (f : X → Refusal) (o : Option X) (r : Result A Refusal) → ((x : X) → o ≡ Some x → EventIsOfTrack track (f x)) → RefusalIsNamed r → RefusalIsNamed (unless (option_map f o) r)
+  named_unless f None r h k = k
+  named_unless f (Some x) r h k = h x refl
+
+  named_placed_on : (b : Bool) (placed : Placed) → RefusalIsNamed (cond b (Err TooFar) (Ok placed))
+  named_placed_on true placed = tt
+  named_placed_on false placed = tt
+
+  named_place : (locks : Locks) (known : Option Line) (report : Report) → RefusalIsNamed (place track locks known report)
+  named_place locks known report = by_group (group_named track report.group)
+    where
+      covering : BaliseGroup → Option Line → Result Placed Refusal
+      covering group None = Err Unplaced
+      covering group (Some line) = placed_on track group report line
+
+      by_covering : (group : BaliseGroup) (o : Option Line) → RefusalIsNamed (covering group o)
+      by_covering group None = tt
+      by_covering group (Some line) = named_placed_on _ _
+
+      locating : BaliseGroup → Option Line → Result Placed Refusal
+      locating group None = Err Offline
+      locating group (Some line) = covering group (covered track locks group report (without_legs_behind track group report line))
+
+      by_locating : (group : BaliseGroup) (o : Option Line) → RefusalIsNamed (locating group o)
+      by_locating group None = tt
+      by_locating group (Some line) = by_covering group (covered track locks group report (without_legs_behind track group report line))
+
+      by_group : (o : Option BaliseGroup) → RefusalIsNamed (elim o [ None ↦ Err UnknownGroup | Some group ↦ locating group (located track locks (leg_told group report) known) ])
+      by_group None = tt
+      by_group (Some group) = by_locating group (located track locks (leg_told group report) known)
+
+  named_crowded : {A : Type 0} (b : Bool) (r : Result A Refusal) → RefusalIsNamed r → RefusalIsNamed (cond b (Err Crowded) r)
+  named_crowded true r h = tt
+  named_crowded false r h = h
+
+  named_report : (scene : Scene) (report : Report) → RefusalIsNamed (after_report track scene report)
+  named_report scene report =
+      named_crowded _ _ (named_mapped _ _ (named_mapped _ _ (named_place scene.locks (option_map (λ (t : Train). t.line) (train_numbered scene report.train)) report)))
+
+  -- the legs of a route, and those before them
+  sections_below : (legs : List Leg) → AllByRecursion IsOfTrack legs → AllByRecursion (λ section. section < length track.sections) (map (λ (leg : Leg). leg.section) legs)
+  sections_below [] h = tt
+  sections_below (leg ∷ legs) h = (h.0, sections_below legs h.1)
+
+  legs_below : (legs : List Leg) → list_all (is_leg_of track) legs ≡ true → AllByRecursion IsOfTrack legs
+  legs_below [] h = tt
+  legs_below (leg ∷ legs) h =
+      (ltb-true leg.section (length track.sections) (and_left (is_leg_of track leg) (list_all (is_leg_of track) legs) h), legs_below legs (and_right (is_leg_of track leg) (list_all (is_leg_of track) legs) h))
+
+  abbrev befores : Option Leg → List Leg → List Leg
+  befores before legs = filter_map (λ (need : Leg × Option Leg). need.1) (with_leg_before before legs)
+
+  befores_below : (before : Option Leg) (legs : List Leg) → ((leg : Leg) → before ≡ Some leg → IsOfTrack leg) → AllByRecursion IsOfTrack legs → AllByRecursion IsOfTrack (befores before legs)
+  befores_below before [] h k = tt
+  befores_below None (leg ∷ legs) h k = befores_below (Some leg) legs (λ a e. subst IsOfTrack (let same : leg ≡ a = cc in same) k.0) k.1
+  befores_below (Some before) (leg ∷ legs) h k = (h before refl, befores_below (Some leg) legs (λ a e. subst IsOfTrack (let same : leg ≡ a = cc in same) k.0) k.1)
+
+  entry_below : IsSound track → (after : Option Leg) (legs : List Leg) → option_map_or (is_good_entry track legs) after true ≡ true → (leg : Leg) → after ≡ Some leg → IsOfTrack leg
+  entry_below sound None legs h leg e = cc
+  entry_below sound (Some after) [] h leg e = cc
+  entry_below sound (Some after) (first ∷ legs) h leg e =
+      subst IsOfTrack (let same : after ≡ leg = cc in same)
+      (linked_from_below track after first sound (and_left (is_linked track after first) (not (list_any (leg_eq after) (but_last (first ∷ legs)))) h))
+
+  named_lock : (scene : Scene) (route : ℕ) → IsSound track → RefusalIsNamed (after_lock track scene route)
+  named_lock scene number sound = named_mapped _ _ (by_route (slice_get track.routes number) refl)
+    where
+      locking : Route → Result Locks Refusal
+      locking route =
+          unless (option_map Clash (clash scene.locks route))
+          (unless (option_map LinkTaken (taken_link scene.locks route)) (Ok (fold (with_row number) scene.locks (needed_rows route))))
+
+      by_route : (o : Option Route) → slice_get track.routes number ≡ o → RefusalIsNamed (option_map_or locking o (Ok scene.locks))
+      by_route None e = tt
+      by_route (Some route) e =
+          let good = good_route track route (all_got (is_good_route track) track.routes number route sound.routes e) in
+          let legs = legs_below route.legs good.of_track in
+          named_unless Clash (clash scene.locks route) _
+          (λ section f. find-holds (λ s. s < length track.sections) (λ s. is_some (row scene.locks s)) (map (λ (leg : Leg). leg.section) route.legs) section f (sections_below route.legs legs))
+          (named_unless LinkTaken (taken_link scene.locks route) _
+          (λ leg f. find-holds IsOfTrack (λ l. is_some (next scene.locks l)) (befores route.after route.legs) leg f (befores_below route.after route.legs (entry_below sound route.after route.legs good.entry) legs))
+          tt)
+
+  named_freed : (scene : Scene) (section : ℕ) (b : Bool) → section < length track.sections → RefusalIsNamed (cond b (Ok (slice_set scene.locks section None)) (Err (NotLocked section)))
+  named_freed scene section true within = tt
+  named_freed scene section false within = within
+
+  named_free : (scene : Scene) (section : ℕ) → section < length track.sections → RefusalIsNamed (after_free track scene section)
+  named_free scene section within = by_test (is_some (row scene.locks section))
+    where
+      freeing : Result Scene Refusal
+      freeing = result_map_both (with_locks scene) (λ refusal. refusal) (freed scene.locks section)
+
+      freed_named : RefusalIsNamed freeing
+      freed_named = named_mapped (with_locks scene) (freed scene.locks section) (named_freed scene section (is_some (row scene.locks section)) within)
+
+      by_test : (b : Bool) → RefusalIsNamed (cond b (unless (option_map (λ (train : Train). Busy section train.report.train) (find (stands_on track section) scene.trains)) freeing) freeing)
+      by_test true = named_unless (λ (train : Train). Busy section train.report.train) (find (stands_on track section) scene.trains) freeing (λ train e. within) freed_named
+      by_test false = freed_named
+
+  named_leave : (scene : Scene) (number : ℕ) (b : Bool) → RefusalIsNamed (cond b (Ok scene) (Err (UnknownTrain number)))
+  named_leave scene number true = tt
+  named_leave scene number false = tt
+
+  named_cut : {A : Type 0} (b : Bool) (x : A) (number : ℕ) → RefusalIsNamed (cond b (Ok x) (Err (YieldRange number)))
+  named_cut true x number = tt
+  named_cut false x number = tt
+
+  named_give_back : (scene : Scene) (number distance : ℕ) → RefusalIsNamed (after_give_back track scene number distance)
+  named_give_back scene number distance = by_train (train_numbered scene number)
+    where
+      cut : Train → Result Scene Refusal
+      cut train =
+          let to = train.origin + distance in
+          if nat_lt to train.to && nat_le train.front to && nat_le train.from to then Ok (with_train scene (cut_at track train to)) else Err (YieldRange number)
+
+      by_train : (o : Option Train) → RefusalIsNamed (option_map_or cut o (Err (UnknownTrain number)))
+      by_train None = tt
+      by_train (Some train) = named_cut (nat_lt (train.origin + distance) train.to && nat_le train.front (train.origin + distance) && nat_le train.from (train.origin + distance)) (with_train scene (cut_at track train (train.origin + distance))) number
+
+  pub named_told : (scene : Scene) (told : Told) → IsSound track → IsToldOfTrack track told → RefusalIsNamed (step track scene (Tell told))
+  named_told scene (ToldReport report) sound within = named_report scene report
+  named_told scene (ToldLock route) sound within = named_lock scene route sound
+  named_told scene (ToldFree section) sound within = named_free scene section within
+  named_told scene (ToldLeave train) sound within = named_leave (without_train scene train) train (is_some (train_numbered scene train))
+  named_told scene (ToldGiveBack train distance) sound within = named_give_back scene train distance

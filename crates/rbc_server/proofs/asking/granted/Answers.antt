@@ -1,0 +1,27 @@
+use Rattle.std.proofs.Common.{ap, ◌∙◌, refl, rules, SFits, w64}
+use Rattle.std.proofs.lemmas.Int.{to_z-of_z}
+use Rattle.rbc_model.specs.Views.{View}
+use Rattle.rbc_reach.specs.Forms.{metres_shown}
+use Rattle.rbc_server.proofs.AskingLemmas.{reads_back}
+use Rattle.rbc_server.proofs.asking.granted.Goals as goal
+
+pub returns-clause-told : goal.returns-clause-told
+returns-clause-told c =
+    let fits : SFits w64 c.from.result = search rules in
+    let seen = c.view-view.ensures.view in
+    let authority = c.authority-authority.ensures.authority in
+    record {
+      train = c.train.ensures;
+      version = refl;
+      from = to_z-of_z w64 c.from.result fits ∙ c.from.ensures;
+      obstacle = c.obstacle.ensures;
+      authority = authority;
+      message = c.message-message.ensures;
+      reads = reads_back c.args.candidate.now.grant.authority (rw (← authority) c.end-end.ensures.authority);
+      speed_steps = c.speed_steps.ensures.steps ∙ ap (λ (v : View). v.speed_steps) seen;
+      speeds = c.speeds.ensures.speeds ∙ ap (λ (v : View). record { steps = v.speeds; end = metres_shown v }) seen;
+      speed_prices = rw c.as_slice.ensures.value c.prices-prices.ensures.speeds;
+      grade_steps = c.grade_steps.ensures.steps ∙ ap (λ (v : View). v.grade_steps) seen;
+      grades = c.grades.ensures.grades ∙ ap (λ (v : View). record { steps = v.grades; end = metres_shown v }) seen;
+      grade_prices = rw c.as_slice-2.ensures.value c.prices-prices.ensures.grades;
+    }

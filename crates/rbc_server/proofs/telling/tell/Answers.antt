@@ -1,0 +1,13 @@
+use Rattle.std.proofs.Common.{subst, ◌∙◌}
+use Rattle.rbc_model.specs.SoundTracks.{IsSound}
+use Rattle.rbc_server.proofs.TellingLemmas.{told_comes, not_told_named}
+use Rattle.rbc_server.proofs.telling.tell.Goals as goal
+
+pub returns-in-Ok-clause-comes : goal.returns-in-Ok-clause-comes
+returns-in-Ok-clause-comes c =
+    told_comes c.args.history.now c.args.told.now c.in-Ok.receipt c.apply.new.self c.place.result c.in-Ok.ensures.entered c.place.ensures
+
+pub returns-in-Err-clause-whole : goal.returns-in-Err-clause-whole
+returns-in-Err-clause-whole c =
+    let sound = subst IsSound (c.deref.ensures ∙ c.track.ensures) c.section_count-sections.ensures.sound in
+    rw c.refusal_of.ensures (not_told_named c.args.history.now c.args.told.now c.in-Err.fault sound c.requires c.in-Err.ensures.entered.0)

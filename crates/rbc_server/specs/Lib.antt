@@ -1,0 +1,5 @@
+pub mod Changes
+pub mod Demands
+pub mod SessionRuns
+pub mod Shown
+pub mod Turns

@@ -1,0 +1,40 @@
+-- What the program tells of what it grants and refuses, as the definitions have it.
+use Rattle.std.specs.Prelude.{◌≡◌, ℕ, Ok}
+use Rattle.rbc_model.specs.declared.memory.OrMemory.{OrMemory}
+use Rattle.rbc_model.specs.declared.memory.OrMemory.TheVariants.{Refused, Memory as NoMemory}
+use Rattle.rbc_model.specs.Levels.{speed_levels, grade_levels}
+use Rattle.rbc_model.specs.Messages.{message_bytes}
+use Rattle.rbc_model.specs.Reading.{read_message}
+use Rattle.rbc_model.specs.declared.places.Format.TheVariants.{Near}
+use Rattle.rbc_model.specs.PriceTables.{IsGreatestSoundTable}
+use Rattle.rbc_model.specs.Scales.{unit_of}
+use Rattle.rbc_reach.specs.Forms.{metres_shown}
+use Rattle.rbc_grant.specs.Candidates.{Candidate}
+use Rattle.rbc_record.specs.declared.faults.ApplyFault.{ApplyFault}
+use Rattle.rbc_record.specs.declared.faults.ApplyFault.TheVariants.{Full as FullToTold, Refused as RefusedByScene}
+use Rattle.rbc_words.specs.PriceText.{prices_of}
+use Rattle.rbc_replies.specs.declared.replies.Granted.{Granted}
+use Rattle.rbc_replies.specs.declared.replies.SessionRefusal.{SessionRefusal}
+use Rattle.rbc_replies.specs.declared.replies.SessionRefusal.TheVariants.{BadEvent, Full, Memory}
+
+-- why what is told is refused
+abbrev pub told_refusal : OrMemory ApplyFault → SessionRefusal
+told_refusal (Refused FullToTold) = Full
+told_refusal (Refused (RefusedByScene refusal)) = BadEvent refusal
+told_refusal NoMemory = Memory
+
+-- what is told of a candidate that is granted, where the history has so many entries with it
+pub record IsToldOf (candidate : Candidate) (count : ℕ) (granted : Granted) : Type 0 where
+  pub train : granted.train ≡ candidate.grant.train
+  pub version : granted.version ≡ count
+  pub from : granted.from ≡ candidate.grant.from
+  pub obstacle : granted.obstacle ≡ candidate.grant.obstacle
+  pub authority : granted.authority.now ≡ candidate.grant.authority
+  pub message : granted.message.now ≡ message_bytes candidate.grant.authority
+  pub reads : read_message Near (message_bytes candidate.grant.authority) ≡ Ok candidate.grant.authority
+  pub speed_steps : granted.speeds.limit ≡ candidate.view.speed_steps
+  pub speeds : granted.speeds.track.now ≡ record { steps = candidate.view.speeds; end = metres_shown candidate.view }
+  pub speed_prices : IsGreatestSoundTable speed_levels (unit_of candidate.grant.authority.end) candidate.view.speed_steps candidate.grant.authority.end candidate.view.speeds (prices_of granted.speeds.prices.now)
+  pub grade_steps : granted.grades.limit ≡ candidate.view.grade_steps
+  pub grades : granted.grades.track.now ≡ record { steps = candidate.view.grades; end = metres_shown candidate.view }
+  pub grade_prices : IsGreatestSoundTable grade_levels (unit_of candidate.grant.authority.end) candidate.view.grade_steps candidate.grant.authority.end candidate.view.grades (prices_of granted.grades.prices.now)

@@ -1,0 +1,62 @@
+//! The centre answers lines.
+
+use crate::asking::ask;
+use crate::demand::{Demand, demand_in};
+use crate::telling::tell;
+use rbc_model::LineFault;
+use rbc_model::limits::LONGEST_LINE;
+use rbc_record::Record;
+use rbc_replies::{SessionRefusal, SessionReply, print};
+use rbc_session::Answers;
+use rbc_streams::{Sink, WriteFailed};
+use std::alloc::Global;
+use std::thread::Threads;
+
+/// The centre: what is told to it and asked of it, line by line, is answered by a record.
+#[derive(Drop)]
+pub(crate) struct Centre;
+
+impl Answers<Centre> for Record {
+    type State = Record;
+
+    ghost use Rattle.std.specs.Prelude.{◌≡◌, ◌≤◌};
+    ghost use Rattle.rbc_model.specs.declared.limits.TheConstants.{LONGEST_LINE};
+    ghost use Rattle.rbc_server.specs.Changes.{Goes};
+
+    ghost longest = { LONGEST_LINE };
+
+    ghost state = { λ history. history };
+
+    ghost answers = { Goes };
+
+    fn longest_line() -> usize
+        ensures value { result ≡ LONGEST_LINE }
+        ensures bound { result ≤ 65536 }
+    {
+        LONGEST_LINE
+    }
+
+    fn answer<T: Threads + Sync, W: Sink>(
+        &mut self,
+        rt: &T,
+        alloc: Global,
+        _centre: &Centre,
+        line: &[u8],
+        writer: &mut W,
+    ) -> Result<(), WriteFailed> {
+        match demand_in(self.track(), line) {
+            Ok(Demand::Nothing) => print(self.track(), &SessionReply::Nothing, writer),
+            Ok(Demand::Event(told)) => {
+                let reply = tell(alloc, self, &told);
+                print(self.track(), &reply, writer)
+            }
+            Ok(Demand::Authority(train)) => ask(rt, alloc, self, train, writer),
+            Err(refusal) => print(self.track(), &SessionReply::Refused(refusal), writer),
+        }
+    }
+
+    fn refuse<W: Sink>(&mut self, _centre: &Centre, writer: &mut W) -> Result<(), WriteFailed> {
+        let overlong = SessionReply::Refused(SessionRefusal::BadLine(LineFault::Overlong));
+        print(self.track(), &overlong, writer)
+    }
+}

@@ -1,0 +1,61 @@
+//! What a line of a session asks the centre for.
+
+ghost use Rattle.std.specs.Prelude.{◌≡◌, IfOk};
+ghost use Rattle.std.specs.Result.{result_map_both};
+ghost use Rattle.rbc_replies.specs.Replies.{refusal_view};
+ghost use Rattle.rbc_server.specs.Demands.{looked_up, demand_in, IsDemandOfTrack};
+ghost use Rattle.rbc_words.specs.SessionLines.{request_view};
+
+use rbc_model::Told;
+use rbc_replies::SessionRefusal;
+use rbc_track::Track;
+use rbc_words::{Request, parse};
+
+/// What a line asks for, its names looked up in the track.
+#[derive(Clone, Copy, Debug, PartialEq, Eq)]
+pub enum Demand {
+    /// Nothing: the line has no reply.
+    Nothing,
+    /// Something is told.
+    Event(Told),
+    /// The train of this number asks for an authority.
+    Authority(u32),
+}
+
+/// What the bytes of a line ask for. It takes no memory.
+///
+/// # Errors
+///
+/// - `BadLine`: the line is no request.
+/// - `UnknownName`: the track has no route or section of the name that it tells.
+pub(crate) fn demand_in(track: &Track, line: &[u8]) -> Result<Demand, SessionRefusal>
+    ensures demand { result_map_both (λ demand. demand) refusal_view result ≡ demand_in track.now line.now }
+    ensures of_track { IfOk result (IsDemandOfTrack track.now) }
+{
+    match parse(line) {
+        Ok(request) => looked_up(track, request),
+        Err(fault) => Err(SessionRefusal::BadLine(fault)),
+    }
+}
+
+/// What a line says, its route or section looked up by its name.
+fn looked_up(track: &Track, request: Request) -> Result<Demand, SessionRefusal>
+    ensures demand { result_map_both (λ demand. demand) refusal_view result
+        ≡ looked_up track.now (request_view request) }
+    ensures of_track { IfOk result (IsDemandOfTrack track.now) }
+{
+    match request {
+        Request::Blank => Ok(Demand::Nothing),
+        Request::Report(report) => Ok(Demand::Event(Told::Report(report))),
+        Request::Lock(name) => match track.route(name) {
+            Some(route) => Ok(Demand::Event(Told::Lock(route))),
+            None => Err(SessionRefusal::UnknownName(name)),
+        },
+        Request::Free(name) => match track.section(name) {
+            Some(section) => Ok(Demand::Event(Told::Free(section))),
+            None => Err(SessionRefusal::UnknownName(name)),
+        },
+        Request::Leave(train) => Ok(Demand::Event(Told::Leave(train))),
+        Request::Ask(train) => Ok(Demand::Authority(train)),
+    }
+}

@@ -1,0 +1,39 @@
+//! What is told: it is added to the record, or refused.
+
+ghost use Rattle.std.specs.Prelude.{◌≡◌};
+ghost use Rattle.rbc_replies.specs.Replies.{reply_text, ReplyIsWhole};
+ghost use Rattle.rbc_server.specs.Changes.{Comes};
+ghost use Rattle.rbc_server.specs.Demands.{IsToldOfTrack};
+ghost use Rattle.rbc_server.specs.Shown.{told_refusal};
+ghost use Rattle.rbc_server.specs.Turns.{AnswersEvent};
+
+use rbc_model::{OrMemory, Told};
+use rbc_record::{ApplyFault, Record};
+use rbc_replies::{SessionRefusal, SessionReply};
+use std::alloc::Global;
+
+/// The reply to what is told. Where it is accepted, the record gains an entry; where it is refused, nothing changes.
+pub(crate) fn tell(alloc: Global, history: &mut Record, told: &Told) -> SessionReply<'static>
+    requires { IsToldOfTrack history.old.track told.now }
+    ensures comes { Comes (λ track entries reply added. AnswersEvent track entries reply added told.now)
+        history.old (reply_text history.old.track result) history.new }
+    ensures whole { ReplyIsWhole history.old.track result }
+{
+    // Every record is of a sound track.
+    let _sections = history.track().section_count();
+    match history.apply(alloc, told) {
+        Ok(receipt) => SessionReply::Accepted(receipt.place() + 1),
+        Err(fault) => SessionReply::Refused(refusal_of(fault)),
+    }
+}
+
+/// Why the record does not take what is told.
+fn refusal_of(fault: OrMemory<ApplyFault>) -> SessionRefusal
+    ensures { result ≡ told_refusal fault }
+{
+    match fault {
+        OrMemory::Refused(ApplyFault::Full) => SessionRefusal::Full,
+        OrMemory::Refused(ApplyFault::Refused(refusal)) => SessionRefusal::BadEvent(refusal),
+        OrMemory::Memory => SessionRefusal::Memory,
+    }
+}
