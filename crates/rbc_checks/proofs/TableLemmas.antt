@@ -1,13 +1,9 @@
 -- Single prices of a table.
-use Rattle.std.proofs.Common.{◌≡◌, ℕ, suc, zero, ◌-◌, ◌<◌, List, [], ◌∷◌, refl, sym, ap, ◌∙◌, arith, get_or, length}
+use Rattle.std.proofs.Common.{◌≡◌, ℕ, suc, zero, ◌-◌, ◌<◌, List, refl, sym, ap, ◌∙◌, arith, get_or, length}
 use Rattle.std.specs.Global.{Vec}
 use Rattle.rbc_model.specs.PriceTables.{table_at}
-use Rattle.rbc_checks.specs.Tables.{prices_of}
-
-row_at : (rows : List (Vec ℕ)) (j : ℕ) (d : Vec ℕ) → j < length rows → get_or (prices_of rows) j [] ≡ (get_or rows j d).items
-row_at [] j d h = absurd (omega arith)
-row_at (row ∷ rows) zero d h = refl
-row_at (row ∷ rows) (suc j) d h = row_at rows j d (omega arith)
+use Rattle.rbc_table_laws.specs.PriceRows.{prices_of}
+use Rattle.rbc_table_laws.proofs.PriceRowLemmas.{row_at}
 
 pub price_in : (rows : List (Vec ℕ)) (steps column : ℕ) (row : Vec ℕ) → (steps ≡ 0 → ⊥) → (column ≡ 0 → ⊥) → steps - 1 < length rows
     → row ≡ get_or rows (steps - 1) row → get_or row.items (column - 1) 0 ≡ table_at (prices_of rows) steps column

@@ -19,7 +19,7 @@ use Rattle.rbc_model.specs.PriceChecks.{last_price}
 use Rattle.rbc_model.specs.StepsText.{StepsRequest, refusal_of, track_in}
 use Rattle.rbc_model.specs.CheckText.{CheckLine, in_shape, shaped, steps_of, rows_of, verdict_of}
 use Rattle.rbc_model.proofs.LineTrackLemmas.{with_track, track_in-runs_of}
-use Rattle.rbc_price.proofs.BreakLemmas.{columns_are}
+use Rattle.rbc_table_laws.proofs.TrackBreakLemmas.{columns_are}
 use Rattle.rbc_checks.specs.Verdicts.{rows_verdict}
 
 -- the last price, by the number of the track's runs

@@ -1,8 +1,9 @@
 -- Steps and rows of prices that are held, as the definitions have them.
-use Rattle.std.specs.Prelude.{ℕ, ◌==◌, if◌then◌else◌, List, Option, Some, None, option_and_then, ℤ, map}
+use Rattle.std.specs.Prelude.{ℕ, ◌==◌, if◌then◌else◌, List, Option, Some, None, option_and_then, ℤ}
 use Rattle.std.specs.Global.{Vec}
 use Rattle.rbc_model.specs.Levels.{Levels}
 use Rattle.rbc_model.specs.CheckText.{CheckLine, PriceLine}
+use Rattle.rbc_table_laws.specs.PriceRows.{prices_of}
 
 -- the value of a kind that a number is, if it is in range
 abbrev pub value_in : {V : Type 0} → Levels V → (ℤ → Option V) → ℤ → Option V
@@ -19,10 +20,6 @@ prices_view prices = prices.items
 
 abbrev pub steps_view : {V : Type 0} → Vec (ℕ × V) → List (ℕ × V)
 steps_view steps = steps.items
-
--- the prices that rows hold
-abbrev pub prices_of : List (Vec ℕ) → List (List ℕ)
-prices_of rows = map (λ row. row.items) rows
 
 abbrev pub table_view : Vec (Vec ℕ) → List (List ℕ)
 table_view rows = prices_of rows.items

@@ -5,9 +5,9 @@ ghost use Rattle.rbc_model.specs.Answers.{AnswersOrMemory};
 ghost use Rattle.rbc_model.specs.CheckText.{verdict_of, with_loss, rows_of, speed_of};
 ghost use Rattle.rbc_model.specs.Levels.{speed_levels, grade_levels};
 ghost use Rattle.rbc_model.specs.PriceChecks.{price_check, last_price};
+ghost use Rattle.rbc_table_laws.specs.PriceRows.{prices_of};
 ghost use Rattle.rbc_words.specs.StepsLines.{request_view};
 ghost use Rattle.rbc_checks.specs.Blocks.{lines_view};
-ghost use Rattle.rbc_checks.specs.Tables.{prices_of};
 ghost use Rattle.rbc_checks.specs.Verdicts.{rows_verdict, ArePartsOf};
 
 use crate::CheckLine;

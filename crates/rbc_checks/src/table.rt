@@ -4,9 +4,10 @@ ghost use Rattle.std.specs.Prelude.{◌≡◌, ℤ, Option, Some, option_map, If
 ghost use Rattle.rbc_model.specs.Answers.{AnswersOrMemory};
 ghost use Rattle.rbc_model.specs.CheckText.{speed_of, steps_of, rows_of};
 ghost use Rattle.rbc_model.specs.PriceTables.{table_at};
+ghost use Rattle.rbc_table_laws.specs.PriceRows.{prices_of};
 ghost use Rattle.rbc_checks.specs.Blocks.{lines_view};
 ghost use Rattle.rbc_checks.specs.Lines.{line_view};
-ghost use Rattle.rbc_checks.specs.Tables.{value_in, row_in, prices_view, prices_of, steps_view, table_view};
+ghost use Rattle.rbc_checks.specs.Tables.{value_in, row_in, prices_view, steps_view, table_view};
 
 use crate::CheckLine;
 use rbc_model::Memory;

@@ -1,11 +1,15 @@
 -- What one step costs between breaks, run by run, on a track whose breaks are known.
-use Rattle.std.proofs.Common.{◌≡◌, refl, arith, ℕ, ◌+◌, ◌*◌, ◌<◌, ◌≤◌, inl, inr, false, length, get_or, Some, subst}
+use Rattle.std.proofs.Common.{◌≡◌, refl, arith, ℕ, ◌+◌, ◌*◌, ◌<◌, ◌≤◌, ◌⊎◌, inl, inr, length, get_or, Some, subst}
 use Rattle.std.specs.List.{slice_get}
 use Rattle.rbc_model.specs.Levels.{Levels, IsInRange, IsAtMost, IsLawful}
 use Rattle.rbc_model.specs.Profiles.{StepFunction, IsTrackFunction}
-use Rattle.rbc_price.specs.Costs.{breaks_in, run_value, is_run_at_most, IsCostAt, IsLowestRun, IsLowest, IsBelowAll, lost_below, cost_between}
-use Rattle.rbc_price.proofs.BreakLemmas.{in_track, read_of}
-use Rattle.rbc_price.proofs.LowestLemmas.{up_to_end, rises_to, run_in_range, lowest_here, lowest_in_front, lowest_behind, floor_in_range, floor_below, lowest_cost, some_lowest}
+use Rattle.rbc_table_laws.specs.Breaks.{breaks_in, IsLowest, IsBelowAll, lost_below, cost_between}
+use Rattle.rbc_table_laws.proofs.TrackBreakLemmas.{in_track, rises_to, up_to_end}
+use Rattle.rbc_table_laws.proofs.LowestValueLemmas.{inside, same_value, lowest_here, lowest_in_front, floor_in_range, floor_below, lowest_cost}
+use Rattle.rbc_price.specs.Costs.{run_value, IsCostAt}
+
+before_or_after : (x y : ℕ) → (x < y) ⊎ (y ≤ x)
+before_or_after x y = grind arith
 
 module _ {V : Type 0} (levels : Levels V) (lawful : IsLawful levels) (track : StepFunction V) (function : IsTrackFunction levels track.end track.steps) where
   -- the metre of a break
@@ -33,23 +37,9 @@ module _ {V : Type 0} (levels : Levels V) (lawful : IsLawful levels) (track : St
   cost_is from to least cost inside c =
       lowest_cost levels lawful track function (breaks_in track) (in_track levels track.end track.steps function) (at from) (at to) least (at_most_end to inside) c.lowest cost c.lost
 
-  -- of two runs one is no higher than the other
-  pub higher : (i j : ℕ) (a b : ℕ × V) → slice_get track.steps i ≡ Some a → slice_get track.steps j ≡ Some b → levels.at_most a.1 b.1 ≡ false → IsAtMost levels b.1 a.1
-  higher i j a b e f not =
-      elim (lawful.ordered.total a.1 b.1 (range i a e) (range j b f)) [ inl h ↦ absurd (cc) | inr h ↦ h ]
-    where
-      range : (i : ℕ) (run : ℕ × V) → slice_get track.steps i ≡ Some run → IsInRange levels run.1
-      range = run_in_range levels lawful track function (breaks_in track) (in_track levels track.end track.steps function)
-
-  pub run_order : (i j : ℕ) (a b : ℕ × V) → slice_get track.steps i ≡ Some a → slice_get track.steps j ≡ Some b → is_run_at_most levels track i j ≡ levels.at_most a.1 b.1
-  run_order i j a b e f = rw (e, f) refl
-
-  pub some_run : (from to : ℕ) → from < to → to ≤ length track.steps → (lowest : ℕ) × IsLowestRun levels track from to lowest
-  some_run = some_lowest levels lawful track function (breaks_in track) (in_track levels track.end track.steps function)
-
   module _ (i : ℕ) (run : ℕ × V) (there : slice_get track.steps i ≡ Some run) where
     here : i < length track.steps
-    here = (read_of track.steps i run there).0
+    here = inside levels lawful track function (breaks_in track) (in_track levels track.end track.steps function) i run there
 
     -- ---- one run alone
 
@@ -80,7 +70,20 @@ module _ {V : Type 0} (levels : Levels V) (lawful : IsLawful levels) (track : St
 
     module _ (from : ℕ) (least : V) (cost : ℕ) (order : from ≤ i) (c : IsCostAt levels track from i least cost) (low : IsAtMost levels least run.1) where
       lowest_on : IsLowest levels track (at from) (at (i + 1)) least
-      lowest_on = lowest_behind levels lawful track function (breaks_in track) (in_track levels track.end track.steps function) i run there (at from) least c.lowest low
+      lowest_on =
+          let l = c.lowest in
+          let up = in_turn i here in
+          let high = l.high in
+          record {
+            place = l.place;
+            low = l.low;
+            high = omega arith;
+            there = l.there;
+            below = λ x v from_low to_high is. elim (before_or_after x (at i)) [
+              | inl before ↦ l.below x v from_low before is
+              | inr after ↦ subst (λ w. IsAtMost levels least w) (same_value levels lawful track function (breaks_in track) (in_track levels track.end track.steps function) i run there x v after to_high is) low
+            ];
+          }
 
       pub behind_range : IsInRange levels (levels.floor least)
       behind_range = let h = here in given_range from (i + 1) least (omega arith) lowest_on

@@ -1,5 +1,4 @@
-pub mod BreakLemmas
-pub mod LowestLemmas
+pub mod LowestRunLemmas
 pub mod CostLemmas
 pub mod TableLemmas
 pub mod MetreLemmas

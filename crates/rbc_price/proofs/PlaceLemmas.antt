@@ -4,8 +4,8 @@ use Rattle.std.proofs.lemmas.Bool.Decides.{nat_tests}
 use Rattle.rbc_model.specs.Levels.{Levels}
 use Rattle.rbc_model.specs.Profiles.{StepFunction}
 use Rattle.rbc_model.specs.PriceTables.{table_at}
+use Rattle.rbc_table_laws.specs.Breaks.{cost_between}
 use Rattle.rbc_price.specs.declared.places.Place.{Place}
-use Rattle.rbc_price.specs.Costs.{cost_between}
 use Rattle.rbc_price.specs.Places.{IsDearer, IsFirstRow, IsFirst, comes_before, earlier}
 
 -- ---- the order of places

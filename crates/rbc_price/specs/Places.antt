@@ -1,25 +1,10 @@
 -- Places of a table of prices: a price, and one in the row before.
-use Rattle.std.specs.Prelude.{◌≡◌, ℕ, suc, ◌+◌, ◌<◌, ◌≤◌, Bool, false, ◌&&◌, ◌||◌, nat_lt, ◌==◌, if◌then◌else◌, List, Option, Some, None, length, map, slice_get}
-use Rattle.std.specs.Global.{Vec}
+use Rattle.std.specs.Prelude.{◌≡◌, ℕ, suc, ◌+◌, ◌<◌, ◌≤◌, Bool, false, ◌&&◌, ◌||◌, nat_lt, ◌==◌, if◌then◌else◌, List, Option, Some, None, length}
 use Rattle.rbc_model.specs.Levels.{Levels}
 use Rattle.rbc_model.specs.Profiles.{StepFunction}
 use Rattle.rbc_model.specs.PriceTables.{table_at}
+use Rattle.rbc_table_laws.specs.Breaks.{cost_between}
 use Rattle.rbc_price.specs.declared.places.Place.{Place}
-use Rattle.rbc_price.specs.Costs.{cost_between}
-
--- the prices that rows hold
-abbrev pub prices_of : List (Vec ℕ) → List (List ℕ)
-prices_of rows = map (λ row. row.items) rows
-
--- each row has so many prices
-abbrev pub AreWide : ℕ → List (Vec ℕ) → Type 0
-AreWide width rows = (j : ℕ) (row : Vec ℕ) → slice_get rows j ≡ Some row → length row.items ≡ width
-
--- The rows are equally wide, and at least so wide.
-pub record AreAsWideAs (least : ℕ) (rows : List (Vec ℕ)) : Type 0 where
-  pub width : ℕ
-  pub wide : AreWide width rows
-  pub room : least ≤ width
 
 -- by the row, then by the break that the step leads to, then by the one that it starts at
 abbrev pub comes_before : Place → Place → Bool

@@ -3,7 +3,7 @@ ghost use Rattle.std.specs.Prelude.{◌≡◌, ◌↔◌, Ok, OnOk};
 ghost use Rattle.rbc_model.specs.declared.limits.TheConstants.{MOST_STEPS};
 ghost use Rattle.rbc_model.specs.Profiles.{IsBestProfile, IsProfile, IsTrackFunction, value_at};
 ghost use Rattle.rbc_model.specs.PriceChecks.{price_check, IsCertificate};
-ghost use Rattle.rbc_price.specs.Places.{prices_of};
+ghost use Rattle.rbc_table_laws.specs.PriceRows.{prices_of};
 
 use crate::above::stays_below;
 use crate::inequalities::has_no_high_price;

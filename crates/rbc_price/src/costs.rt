@@ -1,7 +1,7 @@
 //! What is lost between breaks. The breaks of a track are the starts of its runs, and its end: they count from 0.
 ghost use Rattle.std.specs.Prelude.{◌≡◌, ℕ, ◌+◌, ◌*◌, ◌≤◌, ◌<◌, length, slice_index};
 ghost use Rattle.rbc_model.specs.Levels.{IsInRange};
-ghost use Rattle.rbc_price.specs.Costs.{breaks_in, lost_below, IsBelowAll};
+ghost use Rattle.rbc_table_laws.specs.Breaks.{breaks_in, lost_below, IsBelowAll};
 
 use rbc_steps::{Level, Runs};
 

@@ -6,7 +6,8 @@
 ghost use Rattle.std.specs.Prelude.{◌≡◌, ◌↔◌, ℕ, ◌+◌, ◌<◌, ◌≤◌, length, Some, IsTrue};
 ghost use Rattle.rbc_model.specs.Profiles.{IsTrackFunction};
 ghost use Rattle.rbc_model.specs.PriceChecks.{steps_of_use, first_too_high, unless_some};
-ghost use Rattle.rbc_price.specs.Places.{prices_of, AreWide, AreAsWideAs, IsDearer, IsFirst, IsFirstRow};
+ghost use Rattle.rbc_table_laws.specs.PriceRows.{prices_of, AreWide, AreAsWideAs};
+ghost use Rattle.rbc_price.specs.Places.{IsDearer, IsFirst, IsFirstRow};
 ghost use Rattle.rbc_price.specs.Costs.{run_value, IsCostAt, IsLowestRun};
 
 use crate::costs::{is_at_most, metre_of, price_on};

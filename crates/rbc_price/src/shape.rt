@@ -3,7 +3,7 @@ ghost use Rattle.std.specs.Prelude.{◌≡◌, ℕ, ◌≤◌, length, ◌==◌}
 ghost use Rattle.std.specs.List.{list_all};
 ghost use Rattle.rbc_model.specs.PriceTables.{table_at};
 ghost use Rattle.rbc_model.specs.PriceChecks.{has_shape};
-ghost use Rattle.rbc_price.specs.Places.{prices_of, AreAsWideAs};
+ghost use Rattle.rbc_table_laws.specs.PriceRows.{prices_of, AreAsWideAs};
 
 use rbc_model::limits::MOST_STEPS;
 use rbc_steps::{Level, Profile, Runs};

@@ -6,12 +6,13 @@ use Rattle.rbc_model.specs.declared.limits.TheConstants.{LONGEST_TRACK}
 use Rattle.rbc_model.specs.Levels.{Levels, IsLawful}
 use Rattle.rbc_model.specs.Profiles.{StepFunction, IsTrackFunction, value_at, price_at}
 use Rattle.rbc_model.specs.PriceTables.{cost}
+use Rattle.rbc_table_laws.specs.Breaks.{AreBreaks, cost_between}
 use Rattle.rbc_table_laws.proofs.SumLemmas.{sum_rises}
 use Rattle.rbc_table_laws.proofs.BreakLemmas.{covered_of}
 use Rattle.rbc_table_laws.proofs.LeastLemmas.{least_between, floor_given, cost_is, cost_lowest}
-use Rattle.rbc_reduce.specs.Breaks.{AreBreaks, cost_between}
+use Rattle.rbc_table_laws.proofs.TrackBreakLemmas.{rises_to, up_to_end}
+use Rattle.rbc_table_laws.proofs.LowestValueLemmas.{cost_at}
 use Rattle.rbc_reduce.specs.Columns.{IsColumn}
-use Rattle.rbc_reduce.proofs.LowestLemmas.{rises_to, up_to_end, cost_at}
 use Rattle.rbc_reduce.proofs.RowLemmas.{take_small}
 
 module _ {V : Type 0} (levels : Levels V) (lawful : IsLawful levels) (track : StepFunction V) (function : IsTrackFunction levels track.end track.steps) where

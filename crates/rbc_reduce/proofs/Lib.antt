@@ -1,5 +1,4 @@
-pub mod BreakLemmas
-pub mod LowestLemmas
+pub mod NextBreakLemmas
 pub mod ColumnLemmas
 pub mod RowLemmas
 pub mod ReadBackLemmas

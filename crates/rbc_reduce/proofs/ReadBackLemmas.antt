@@ -7,14 +7,15 @@ use Rattle.rbc_model.specs.Profiles.{StepFunction, IsTrackFunction, value_at}
 use Rattle.rbc_model.specs.PriceTables.{row_count, stretch_count, least_value, IsGreatestSoundTable}
 use Rattle.rbc_steps.proofs.PlaceLemmas.{first_at_zero}
 use Rattle.rbc_table_laws.specs.TableLaws.{row_price, last_price}
+use Rattle.rbc_table_laws.specs.Breaks.{AreBreaks, IsLowest, cost_between}
+use Rattle.rbc_table_laws.specs.PriceRows.{prices_of}
 use Rattle.rbc_table_laws.specs.Tracebacks.{IsOnWay, IsTracedTo, IsStepBack, IsFound, IsReadOff}
 use Rattle.rbc_table_laws.proofs.SearchLemmas.{traced_none, traced_more, traced_whole}
 use Rattle.rbc_table_laws.proofs.ReadOffLemmas.{read_of_trace}
 use Rattle.rbc_table_laws.proofs.TableLawLemmas.{searches_are_found}
-use Rattle.rbc_reduce.specs.Breaks.{AreBreaks, IsLowest, cost_between}
-use Rattle.rbc_reduce.specs.Rows.{price_in, prices_of}
-use Rattle.rbc_reduce.proofs.LowestLemmas.{least_value_is, up_to_end}
-use Rattle.rbc_reduce.proofs.RowLemmas.{columns}
+use Rattle.rbc_table_laws.proofs.TrackBreakLemmas.{stretches_are, up_to_end}
+use Rattle.rbc_table_laws.proofs.LowestValueLemmas.{least_value_is}
+use Rattle.rbc_reduce.specs.Rows.{price_in}
 
 module _ {V : Type 0} (levels : Levels V) (lawful : IsLawful levels) (track : StepFunction V) (function : IsTrackFunction levels track.end track.steps)
     (breaks : List ℕ) (are : AreBreaks track breaks) (limit : ℕ) (rows : List (Vec ℕ)) (greatest : IsGreatestSoundTable levels 1 limit track.end track.steps (prices_of rows)) where
@@ -25,7 +26,7 @@ module _ {V : Type 0} (levels : Levels V) (lawful : IsLawful levels) (track : St
   rows_are = sym (length-map rows (λ row. row.items)) ∙ greatest.sound.shape
 
   width : stretch_count levels 1 limit track.end track.steps ≡ length track.steps
-  width = columns levels track limit breaks are rows
+  width = stretches_are track breaks are levels limit
 
   -- the table has a row
   pub some_row : 1 ≤ limit → 0 < length rows

@@ -3,23 +3,21 @@ use Rattle.std.proofs.Common.{◌≡◌, refl, ap, sym, ◌∙◌, arith, subst,
 use Rattle.std.specs.List.{AllZip, list_all}
 use Rattle.std.specs.Global.{Vec}
 use Rattle.std.proofs.lemmas.List.{length-map}
+use Rattle.std.proofs.lemmas.Option.{slice_get-get_or}
 use Rattle.std.proofs.lemmas.Slice.Zip.{AllZip-long}
 use Rattle.std.proofs.lemmas.Bool.Decides.{nat_tests}
 use Rattle.rbc_model.specs.Levels.{Levels}
 use Rattle.rbc_model.specs.Profiles.{StepFunction, value_at, starts_of}
 use Rattle.rbc_model.specs.PriceTables.{breaks_of, cost, stretch_count, row_count, IsSoundTable, IsGreatestSoundTable}
 use Rattle.rbc_model.proofs.TableLemmas.{greatest_of_reached}
-use Rattle.rbc_reduce.specs.Breaks.{AreBreaks, cost_between}
+use Rattle.rbc_table_laws.specs.Breaks.{AreBreaks, cost_between}
+use Rattle.rbc_table_laws.specs.PriceRows.{prices_of, AreWide}
+use Rattle.rbc_table_laws.proofs.TrackBreakLemmas.{stretches_are}
+use Rattle.rbc_table_laws.proofs.PriceRowLemmas.{row_at, same_read}
 use Rattle.rbc_reduce.specs.Columns.{IsColumn, AreColumns}
-use Rattle.rbc_reduce.proofs.BreakLemmas.{there_at}
-use Rattle.rbc_reduce.specs.Rows.{AreCosts, AreSmall, AreWide, IsCheapest, price_in, price_up_to, prices_of}
+use Rattle.rbc_reduce.specs.Rows.{AreCosts, AreSmall, IsCheapest, price_in, price_up_to}
 
 -- ---- a price that stands in a row
-
-pub row_at : (rows : List (Vec ℕ)) (j : ℕ) (d : Vec ℕ) → j < length rows → get_or (prices_of rows) j [] ≡ (get_or rows j d).items
-row_at [] j d h = absurd (omega arith)
-row_at (row ∷ rows) zero d h = refl
-row_at (row ∷ rows) (suc j) d h = row_at rows j d (omega arith)
 
 -- a price, read by its row
 pub price_read : (rows : List (Vec ℕ)) (j i : ℕ) (d : Vec ℕ) → j < length rows → price_in rows (suc j) i ≡ price_up_to (get_or rows j d).items i
@@ -203,14 +201,14 @@ module _ {V : Type 0} (levels : Levels V) (track : StepFunction V) (columns : Li
   beside R row zip i h =
       let count = are.count in
       let d = some_of columns i (omega arith) in
-      (get_or columns i d, are.each i (get_or columns i d) (there_at columns i d (omega arith)), zip_at R columns row i d zip (omega arith))
+      (get_or columns i d, are.each i (get_or columns i d) (slice_get-get_or columns i d (omega arith)), zip_at R columns row i d zip (omega arith))
 
   pub columns_are_costs : (k : ℕ) (d : Vec ℕ) → k < length columns → AreCosts (get_or columns k d).items
-  columns_are_costs k d h = (are.each k (get_or columns k d) (there_at columns k d h)).costs
+  columns_are_costs k d h = (are.each k (get_or columns k d) (slice_get-get_or columns k d h)).costs
 
   pub columns_fit : (before : List ℕ) → length before ≡ length track.steps → (k : ℕ) (d : Vec ℕ) → k < length columns → length (get_or columns k d).items ≤ length before + 1
   columns_fit before width k d h =
-      let count = (are.each k (get_or columns k d) (there_at columns k d h)).count in
+      let count = (are.each k (get_or columns k d) (slice_get-get_or columns k d h)).count in
       let all = are.count in
       omega arith
 
@@ -328,9 +326,6 @@ module _ {V : Type 0} (levels : Levels V) (track : StepFunction V) where
 
   -- a table that is filled to the end is the greatest sound one
   module _ (limit : ℕ) (breaks : List ℕ) (are : AreBreaks track breaks) (rows : List (Vec ℕ)) where
-    pub columns : stretch_count levels 1 limit track.end track.steps ≡ length track.steps
-    columns = let count = are.count in let same = ap length are.are in omega arith
-
     widths : (rows : List (Vec ℕ)) → AreWide (length track.steps) rows → (m : ℕ) → m ≡ length track.steps → list_all (λ row. length row == m) (prices_of rows) ≡ true
     widths [] wide m e = refl
     widths (row ∷ rows) wide m e = both (length row.items == m) (list_all (λ row. length row == m) (prices_of rows)) (equal (length row.items) m (wide 0 row refl ∙ sym e)) (widths rows (λ j. wide (suc j)) m e)
@@ -349,7 +344,7 @@ module _ {V : Type 0} (levels : Levels V) (track : StepFunction V) where
     pub filled_is_greatest : length rows ≡ min limit (length track.steps) → AreWide (length track.steps) rows → IsFilled levels track rows
         → IsGreatestSoundTable levels 1 limit track.end track.steps (prices_of rows)
     filled_is_greatest count wide f =
-        let m = columns in
+        let m = stretches_are track breaks are levels limit in
         let same_count : length (prices_of rows) ≡ length rows = length-map rows (λ row. row.items) in
         let shape : length (prices_of rows) ≡ row_count levels 1 limit track.end track.steps = same_count ∙ count ∙ ap (min limit) (sym m) in
         let sound : IsSoundTable levels 1 limit track.end track.steps (prices_of rows) = record {
@@ -376,23 +371,7 @@ take_small (cost ∷ costs) (suc to) most small (suc i) = take_small costs to mo
 
 -- ---- a price that is read
 
-same_read : (xs : List ℕ) (i a b : ℕ) → i < length xs → get_or xs i a ≡ get_or xs i b
-same_read [] i a b h = absurd (omega arith)
-same_read (x ∷ xs) zero a b h = refl
-same_read (x ∷ xs) (suc i) a b h = same_read xs i a b (omega arith)
-
 pub first_read : (columns : List (Vec ℕ)) (i : ℕ) (column : Vec ℕ) (price : ℕ) → column ≡ get_or columns i column → price ≡ get_or column.items 0 price
     → 0 < length (get_or columns i column).items → price ≡ get_or (get_or columns i column).items 0 0
 first_read columns i column price same is some =
     is ∙ ap (λ (c : Vec ℕ). get_or c.items 0 price) same ∙ same_read (get_or columns i column).items 0 price 0 some
-
-pub price_is : (rows : List (Vec ℕ)) (steps column : ℕ) (row : Vec ℕ) (price : ℕ) → (steps ≡ 0 → ⊥) → (column ≡ 0 → ⊥) → steps ≤ length rows
-    → row ≡ get_or rows (steps - 1) row → price ≡ get_or row.items (column - 1) price → column ≤ length row.items → price ≡ price_in rows steps column
-price_is rows zero column row price some_row some inside is read room = absurd (some_row refl)
-price_is rows (suc j) zero row price some_row some inside is read room = absurd (some refl)
-price_is rows (suc j) (suc i) row price some_row some inside is read room =
-    let e : suc j - 1 ≡ j = omega arith in
-    let f : suc i - 1 ≡ i = omega arith in
-    let same : row ≡ get_or rows j row = is ∙ ap (λ k. get_or rows k row) e in
-    read ∙ ap (λ k. get_or row.items k price) f ∙ same_read row.items i price 0 (omega arith) ∙ ap (λ (r : Vec ℕ). get_or r.items i 0) same
-    ∙ sym (price_read rows j (suc i) row (omega arith))

@@ -3,7 +3,7 @@ use Rattle.std.specs.Prelude.{◌≡◌, ℕ, suc, ◌<◌, List, Some, length, 
 use Rattle.std.specs.Global.{Vec}
 use Rattle.rbc_model.specs.Levels.{Levels}
 use Rattle.rbc_model.specs.Profiles.{StepFunction}
-use Rattle.rbc_reduce.specs.Breaks.{cost_between}
+use Rattle.rbc_table_laws.specs.Breaks.{cost_between}
 use Rattle.rbc_reduce.specs.Rows.{AreCosts}
 
 module _ {V : Type 0} (levels : Levels V) (track : StepFunction V) where

@@ -1,3 +1,2 @@
-pub mod Breaks
 pub mod Columns
 pub mod Rows

@@ -1,11 +1,8 @@
 -- Tables of prices, as they are filled row by row.
-use Rattle.std.specs.Prelude.{◌≡◌, ℕ, zero, suc, ◌+◌, ◌<◌, ◌≤◌, List, Some, length, map, slice_get, slice_index}
+use Rattle.std.specs.Prelude.{◌≡◌, ℕ, zero, suc, ◌+◌, ◌<◌, ◌≤◌, List, length, slice_index}
 use Rattle.std.specs.Global.{Vec}
 use Rattle.rbc_model.specs.PriceTables.{table_at}
-
--- the prices that rows hold
-abbrev pub prices_of : List (Vec ℕ) → List (List ℕ)
-prices_of rows = map (λ row. row.items) rows
+pub use Rattle.rbc_table_laws.specs.PriceRows.{prices_of}
 
 -- the price in row j and column i, both from 1
 abbrev pub price_in : List (Vec ℕ) → ℕ → ℕ → ℕ
@@ -15,16 +12,6 @@ price_in rows j i = table_at (prices_of rows) j i
 abbrev pub price_up_to : List ℕ → ℕ → ℕ
 price_up_to row zero = 0
 price_up_to row (suc i) = slice_index row i
-
--- each row has so many prices
-abbrev pub AreWide : ℕ → List (Vec ℕ) → Type 0
-AreWide width rows = (j : ℕ) (row : Vec ℕ) → slice_get rows j ≡ Some row → length row.items ≡ width
-
--- The rows are equally wide, and at least so wide.
-pub record AreAsWideAs (least : ℕ) (rows : List (Vec ℕ)) : Type 0 where
-  pub width : ℕ
-  pub wide : AreWide width rows
-  pub room : least ≤ width
 
 -- none is above what can be lost
 abbrev pub AreSmall : (ℕ → ℕ) → Type 0

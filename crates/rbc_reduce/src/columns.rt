@@ -1,6 +1,6 @@
 //! What one step costs up to each break.
 ghost use Rattle.std.specs.Prelude.{IfOk};
-ghost use Rattle.rbc_reduce.specs.Breaks.{AreBreaks};
+ghost use Rattle.rbc_table_laws.specs.Breaks.{AreBreaks};
 ghost use Rattle.rbc_reduce.specs.Columns.{AreColumns};
 
 use crate::costs::costs_on;

@@ -1,7 +1,7 @@
 //! What one step costs from a break up to another.
 ghost use Rattle.std.specs.Prelude.{◌≡◌, ℕ, ◌+◌, ◌-◌, ◌*◌, ◌<◌, ◌≤◌, length, slice_index, if◌then◌else◌};
 ghost use Rattle.rbc_model.specs.Levels.{IsInRange};
-ghost use Rattle.rbc_reduce.specs.Breaks.{AreBreaks, IsLowest, IsBelowAll, lost_below, cost_between};
+ghost use Rattle.rbc_table_laws.specs.Breaks.{AreBreaks, IsLowest, IsBelowAll, lost_below, cost_between};
 
 use rbc_steps::{Level, Runs};
 

@@ -3,7 +3,7 @@ ghost use Rattle.std.specs.Prelude.{◌≡◌, ℕ, ◌≤◌, List, IfOk, lengt
 ghost use Rattle.rbc_model.specs.Profiles.{IsBestProfile, IsChosenProfile, loss, value_at};
 ghost use Rattle.rbc_model.specs.PriceTables.{IsGreatestSoundTable};
 ghost use Rattle.rbc_model.specs.declared.limits.TheConstants.{MOST_STEPS};
-ghost use Rattle.rbc_reduce.specs.Rows.{prices_of};
+ghost use Rattle.rbc_table_laws.specs.PriceRows.{prices_of};
 
 use crate::columns::columns_of;
 use crate::table::fill;

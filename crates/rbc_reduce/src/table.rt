@@ -2,8 +2,9 @@
 ghost use Rattle.std.specs.Prelude.{◌≡◌, ℕ, ◌+◌, ◌≤◌, IfOk, length, slice_index};
 ghost use Rattle.std.specs.List.{All, AllZip};
 ghost use Rattle.rbc_model.specs.PriceTables.{IsGreatestSoundTable};
+ghost use Rattle.rbc_table_laws.specs.PriceRows.{prices_of, AreWide};
 ghost use Rattle.rbc_reduce.specs.Columns.{AreColumns};
-ghost use Rattle.rbc_reduce.specs.Rows.{AreCosts, AreSmall, AreWide, IsCheapest, price_in, price_up_to, prices_of};
+ghost use Rattle.rbc_reduce.specs.Rows.{AreCosts, AreSmall, IsCheapest, price_in, price_up_to};
 
 use rayon::prelude::*;
 use rbc_model::Memory;

@@ -2,9 +2,10 @@
 ghost use Rattle.std.specs.Prelude.{◌≡◌, ◌≢◌, ℕ, ◌+◌, ◌<◌, ◌≤◌, IfOk, length, slice_index};
 ghost use Rattle.rbc_model.specs.PriceTables.{IsGreatestSoundTable};
 ghost use Rattle.rbc_table_laws.specs.Tracebacks.{IsReadOff};
-ghost use Rattle.rbc_reduce.specs.Breaks.{AreBreaks};
+ghost use Rattle.rbc_table_laws.specs.Breaks.{AreBreaks};
+ghost use Rattle.rbc_table_laws.specs.PriceRows.{prices_of, AreAsWideAs};
 ghost use Rattle.rbc_reduce.specs.Columns.{AreColumns};
-ghost use Rattle.rbc_reduce.specs.Rows.{AreAsWideAs, AreSmall, price_in, prices_of};
+ghost use Rattle.rbc_reduce.specs.Rows.{AreSmall, price_in};
 
 use crate::costs::least_of;
 use rbc_model::Memory;

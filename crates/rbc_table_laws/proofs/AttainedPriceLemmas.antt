@@ -6,14 +6,14 @@ use Rattle.rbc_model.specs.PriceTables.{table_at, row_count, stretch_count, step
 use Rattle.rbc_model.proofs.RunLemmas.{IsCovered}
 use Rattle.rbc_table_laws.proofs.LeastLemmas.{least_between, floor_given, cost_is}
 use Rattle.rbc_table_laws.proofs.WayLemmas.{Way, Reach}
-use Rattle.rbc_table_laws.proofs.ChainLemmas.{AreBreaks, breaks_up, costs}
+use Rattle.rbc_table_laws.proofs.ChainLemmas.{AreBreaksInUnits, breaks_up, costs}
 use Rattle.rbc_table_laws.proofs.TailLemmas.{IsTail, tail_dearer, tail_fits, tail_loss}
 use Rattle.rbc_table_laws.proofs.FilledTableLemmas.{reached_of_greatest}
 use Rattle.rbc_table_laws.proofs.BreakLemmas.{covered_of, are_breaks, break_whole, track_some}
 use Rattle.rbc_table_laws.proofs.BoundLemmas.{price_at_most_loss, best_of_price}
 
 module _ {V : Type 0} (levels : Levels V) (lawful : IsLawful levels) (unit limit n : ℕ) (track : ℕ → Option V) (covered : IsCovered levels lawful n track)
-    (m : ℕ) (break : ℕ → ℕ) (are : AreBreaks levels unit limit n track m break) (whole : (i : ℕ) → i < m → break i % unit ≡ 0) where
+    (m : ℕ) (break : ℕ → ℕ) (are : AreBreaksInUnits levels unit limit n track m break) (whole : (i : ℕ) → i < m → break i % unit ≡ 0) where
   -- the steps of a way, before later ones
   pub record IsMade (k : ℕ) (later : List (ℕ × V)) (price : ℕ) : Type 0 where
     pub steps : List (ℕ × V)

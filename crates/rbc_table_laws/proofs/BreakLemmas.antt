@@ -10,7 +10,7 @@ use Rattle.rbc_model.specs.PriceTables.{rounded_down, rounded_up, with_number, b
 use Rattle.rbc_model.proofs.RunLemmas.{IsCovered}
 use Rattle.rbc_table_laws.proofs.RisingNumberLemmas.{Rises, Has, AreUpTo, rises_with, has_with, keeps_with, up_to_with, rises_at, not_between, has_first, has_last, up_to_at, has_some, AreWhole, whole_with, whole_at}
 use Rattle.std.proofs.Math.Nat.{mul-mod_left}
-use Rattle.rbc_table_laws.proofs.ChainLemmas.{AreBreaks, zero_split, all_split, value_some}
+use Rattle.rbc_table_laws.proofs.ChainLemmas.{AreBreaksInUnits, zero_split, all_split, value_some}
 
 -- ---- multiples of the unit
 
@@ -52,7 +52,7 @@ module _ (unit : ℕ) (some : 0 < unit) where
 
   -- ---- the list of the breaks
 
-  breaks_rise : (n : ℕ) (starts : List ℕ) → Rises 0 (breaks_of unit n starts)
+  pub breaks_rise : (n : ℕ) (starts : List ℕ) → Rises 0 (breaks_of unit n starts)
   breaks_rise n [] = (omega arith, tt)
   breaks_rise n (start ∷ starts) =
       rises_with 0 (rounded_down unit start) (with_number (rounded_up unit start) (breaks_of unit n starts)) (omega arith)
@@ -183,7 +183,7 @@ module _ {V : Type 0} (levels : Levels V) where
     pub break_whole : (i : ℕ) → i < stretch_count levels unit limit n runs → break_at levels unit limit n runs i % unit ≡ 0
     break_whole i h = whole_at unit (breaks_of unit n (starts_of runs)) i (omega arith) (breaks_whole unit some n whole (starts_of runs))
 
-    pub are_breaks : AreBreaks levels unit limit n (value_at runs) (stretch_count levels unit limit n runs) (break_at levels unit limit n runs)
+    pub are_breaks : AreBreaksInUnits levels unit limit n (value_at runs) (stretch_count levels unit limit n runs) (break_at levels unit limit n runs)
     are_breaks = record {
       rise = λ i h. rises_at 0 (breaks_of unit n (starts_of runs)) i (omega arith) (breaks_rise unit some n (starts_of runs));
       first = first_is;

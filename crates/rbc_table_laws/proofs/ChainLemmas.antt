@@ -66,7 +66,7 @@ module _ {V : Type 0} where
 
 module _ {V : Type 0} (levels : Levels V) (unit limit n : ℕ) (track : ℕ → Option V) (m : ℕ) (break : ℕ → ℕ) where
   -- They rise from 0 to the end, and where a place between two of them may be a cut, the track has one value between these.
-  pub record AreBreaks : Type 0 where
+  pub record AreBreaksInUnits : Type 0 where
     pub rise : (i : ℕ) → i < m → break i < break (suc i)
     pub first : break 0 ≡ 0
     pub last : break m ≡ n
@@ -78,7 +78,7 @@ module _ {V : Type 0} (levels : Levels V) (unit limit n : ℕ) (track : ℕ → 
   last_or_before : (i j : ℕ) → i ≤ suc j → (i ≡ suc j) ⊎ (i ≤ j)
   last_or_before i j h = grind arith
 
-  pub breaks_up : AreBreaks → (i j : ℕ) → i ≤ j → j ≤ m → break i ≤ break j
+  pub breaks_up : AreBreaksInUnits → (i j : ℕ) → i ≤ j → j ≤ m → break i ≤ break j
   breaks_up are i zero h inside = let same : break i ≡ break 0 = ap break (omega arith) in omega arith
   breaks_up are i (suc j) h inside = elim (last_or_before i j h) [
     | inl e ↦ let same : break i ≡ break (suc j) = ap break e in omega arith
@@ -132,7 +132,7 @@ module _ {V : Type 0} (levels : Levels V) (unit limit n : ℕ) (track : ℕ → 
       ];
     }
 
-  module _ (lawful : IsLawful levels) (covered : IsCovered levels lawful n track) (are : AreBreaks) where
+  module _ (lawful : IsLawful levels) (covered : IsCovered levels lawful n track) (are : AreBreaksInUnits) where
     pub world : IsWorld (spent levels n track) (IsGiven levels n track) m break costs
     world = record {
       spent_rises = λ v x y h. sum_rises x y (λ z. price_at levels (track z) (Some v)) h;

@@ -6,6 +6,10 @@ use Rattle.rbc_model.specs.PriceTables.{least_value, cost}
 use Rattle.rbc_model.proofs.RunLemmas.{IsCovered}
 use Rattle.rbc_table_laws.proofs.SumLemmas.{sum_at_most, sum_from}
 
+-- of two values one is no higher than the other
+pub other_lower : {V : Type 0} (levels : Levels V) → IsLawful levels → (a b : V) → IsInRange levels a → IsInRange levels b → levels.at_most a b ≡ false → IsAtMost levels b a
+other_lower levels lawful a b ra rb e = elim (lawful.ordered.total a b ra rb) [ inl h ↦ absurd (cc) | inr h ↦ h ]
+
 module _ {V : Type 0} (levels : Levels V) (n : ℕ) (track : ℕ → Option V) where
   -- what one value loses over the metres before a place
   abbrev pub spent : V → ℕ → ℕ
@@ -57,9 +61,6 @@ module _ {V : Type 0} (levels : Levels V) (n : ℕ) (track : ℕ → Option V) w
     last_or_before : (x n : ℕ) → x < suc n → (x ≡ n) ⊎ (x < n)
     last_or_before x n h = grind arith
 
-    lower : (a b : V) → IsInRange levels a → IsInRange levels b → levels.at_most a b ≡ false → IsAtMost levels b a
-    lower a b ra rb e = elim (lawful.ordered.total a b ra rb) [ inl h ↦ absurd (cc) | inr h ↦ h ]
-
     least_more : (from count : ℕ) (here : V) (test : Bool) → from + count < n → (before : IsLeast from count) → track (from + count) ≡ Some here → levels.at_most before.least here ≡ test
         → IsLeast from (suc count)
     least_more from count here true h before there e =
@@ -95,7 +96,7 @@ module _ {V : Type 0} (levels : Levels V) (n : ℕ) (track : ℕ → Option V) w
                 at_most_same here here v (track (from + count)) range there is refl
             | inr less ↦
                 lawful.ordered.transitive here before.least v range range_before (in_range_at (from + x) v (omega arith) at)
-                (lower before.least here range_before range e) (before.below x less v at)
+                (other_lower levels lawful before.least here range_before range e) (before.below x less v at)
           ];
         }
 

@@ -18,3 +18,6 @@ pub mod SearchLemmas
 pub mod FloorLemmas
 pub mod ReadOffLemmas
 pub mod TableLawLemmas
+pub mod TrackBreakLemmas
+pub mod LowestValueLemmas
+pub mod PriceRowLemmas

@@ -7,7 +7,7 @@ use Rattle.rbc_model.proofs.RunLemmas.{IsCovered}
 use Rattle.rbc_table_laws.proofs.LeastLemmas.{spent, IsGiven}
 use Rattle.rbc_table_laws.proofs.TailLemmas.{IsTail}
 use Rattle.rbc_table_laws.proofs.WayLemmas.{Way}
-use Rattle.rbc_table_laws.proofs.ChainLemmas.{AreBreaks, breaks_up, costs, world}
+use Rattle.rbc_table_laws.proofs.ChainLemmas.{AreBreaksInUnits, breaks_up, costs, world}
 use Rattle.rbc_table_laws.proofs.ShortestProfileLemmas.{AreCuts}
 
 module _ (break : ℕ → ℕ) (cost : ℕ → ℕ → ℕ) where
@@ -32,7 +32,7 @@ module _ (break : ℕ → ℕ) (cost : ℕ → ℕ → ℕ) where
   path_dearer (suc k) i (start ∷ before) low high h p = let sum = p.5 in (p.0, p.1, p.2, p.3, p.4, omega arith)
 
 module _ {V : Type 0} (levels : Levels V) (unit limit n : ℕ) (track : ℕ → Option V) (m : ℕ) (break : ℕ → ℕ) (lawful : IsLawful levels)
-    (covered : IsCovered levels lawful n track) (are : AreBreaks levels unit limit n track m break) where
+    (covered : IsCovered levels lawful n track) (are : AreBreaksInUnits levels unit limit n track m break) where
   abbrev Path : ℕ → ℕ → List ℕ → ℕ → Type 0
   Path = IsPath break (costs levels unit limit n track m break)
 

@@ -7,7 +7,7 @@ use Rattle.rbc_model.proofs.RunLemmas.{IsCovered}
 use Rattle.rbc_table_laws.proofs.SumLemmas.{sum_rises}
 use Rattle.rbc_table_laws.proofs.LeastLemmas.{spent, IsGiven, in_range_at}
 use Rattle.rbc_table_laws.proofs.TailLemmas.{IsTail}
-use Rattle.rbc_table_laws.proofs.ChainLemmas.{AreBreaks, under_there, cheaper_of, flat_of}
+use Rattle.rbc_table_laws.proofs.ChainLemmas.{AreBreaksInUnits, under_there, cheaper_of, flat_of}
 
 module _ {V : Type 0} (levels : Levels V) (unit limit n : ℕ) (track : ℕ → Option V) where
   -- Other steps from place x on: they lose no more and are no more, and one of the two is less.
@@ -89,7 +89,7 @@ module _ {V : Type 0} (levels : Levels V) (unit limit n : ℕ) (track : ℕ → 
         let there : spent levels n track second z ≡ spent levels n track first z = ap (λ v. spent levels n track v z) (sym same) in
         one_step x first (both_given same) (omega arith)
 
-    module _ (m : ℕ) (break : ℕ → ℕ) (lawful : IsLawful levels) (covered : IsCovered levels lawful n track) (are : AreBreaks levels unit limit n track m break)
+    module _ (m : ℕ) (break : ℕ → ℕ) (lawful : IsLawful levels) (covered : IsCovered levels lawful n track) (are : AreBreaksInUnits levels unit limit n track m break)
         (whole : (i : ℕ) → i < m → break i % unit ≡ 0) (i : ℕ) (stretch : i < m) (low : break i < y) (high : y < break (suc i)) (inside : z ≤ n)
         (t : V) (one : (k : ℕ) → break i ≤ k → k < break (suc i) → track k ≡ Some t) where
       first_under : IsAtMost levels first t

@@ -9,7 +9,7 @@ use Rattle.rbc_table_laws.proofs.SumLemmas.{sum_rises}
 use Rattle.rbc_table_laws.proofs.LeastLemmas.{spent, IsGiven}
 use Rattle.rbc_table_laws.proofs.TailLemmas.{IsTail, tail_dearer, tail_inside, tail_fits, tail_loss}
 use Rattle.rbc_table_laws.proofs.ExchangeLemmas.{find_in}
-use Rattle.rbc_table_laws.proofs.ChainLemmas.{AreBreaks, costs, world, rises_split, zero_split, all_split, value_last, value_here, value_later, lost, given_of, loses_of}
+use Rattle.rbc_table_laws.proofs.ChainLemmas.{AreBreaksInUnits, costs, world, rises_split, zero_split, all_split, value_last, value_here, value_later, lost, given_of, loses_of}
 use Rattle.rbc_table_laws.proofs.ShorterProfileLemmas.{IsBetter, better_on, better_at_cut}
 
 -- the number is a break before the last
@@ -45,7 +45,7 @@ module _ {V : Type 0} (levels : Levels V) (unit limit n : ℕ) (track : ℕ → 
       let no_fewer = fewest b.other (record { fits = fits; least = λ third also. let theirs = best.least third also in omega arith }) in
       omega arith
 
-  module _ (m : ℕ) (break : ℕ → ℕ) (lawful : IsLawful levels) (covered : IsCovered levels lawful n track) (are : AreBreaks levels unit limit n track m break)
+  module _ (m : ℕ) (break : ℕ → ℕ) (lawful : IsLawful levels) (covered : IsCovered levels lawful n track) (are : AreBreaksInUnits levels unit limit n track m break)
       (whole : (i : ℕ) → i < m → break i % unit ≡ 0) where
     -- a profile that fits, as steps from one place to the next
     module _ (steps : List (ℕ × V)) (below : (x : ℕ) → x < n → is_within levels (track x) (value_at steps x) ≡ true) where

@@ -12,7 +12,7 @@ use Rattle.rbc_table_laws.proofs.LeastLemmas.{spent, IsGiven, IsLeast, least_bet
 use Rattle.rbc_table_laws.proofs.TailLemmas.{IsTail, tail_dearer, tail_fits, tail_loss}
 use Rattle.rbc_table_laws.proofs.WayLemmas.{at_most_way, at_most_step}
 use Rattle.rbc_table_laws.proofs.FilledTableLemmas.{reached_of_greatest}
-use Rattle.rbc_table_laws.proofs.ChainLemmas.{AreBreaks, breaks_up}
+use Rattle.rbc_table_laws.proofs.ChainLemmas.{AreBreaksInUnits, breaks_up}
 use Rattle.rbc_table_laws.proofs.BreakLemmas.{covered_of, are_breaks, break_whole, track_some}
 use Rattle.rbc_table_laws.proofs.BoundLemmas.{price_at_most_loss, best_of_price, fewest_of_rows}
 use Rattle.rbc_table_laws.proofs.ShortestProfileLemmas.{AreCuts, tail_of_profile, cuts_of_shortest}
@@ -33,7 +33,7 @@ module _ {V : Type 0} (levels : Levels V) (lawful : IsLawful levels) (unit limit
   covered : IsCovered levels lawful n (value_at runs)
   covered = covered_of levels lawful n runs track
 
-  pub breaks : AreBreaks levels unit limit n (value_at runs) m break
+  pub breaks : AreBreaksInUnits levels unit limit n (value_at runs) m break
   breaks = are_breaks levels lawful unit limit n some whole runs track
 
   pub some_stretches : (k : ℕ) → k ≡ m → 0 < m

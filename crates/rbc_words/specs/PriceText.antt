@@ -1,16 +1,13 @@
 -- Tables of prices that are printed, as text.
-use Rattle.std.specs.Prelude.{ℕ, List, ◌∷◌, map}
+use Rattle.std.specs.Prelude.{ℕ, List, ◌∷◌}
 use Rattle.std.specs.List.{flat_map}
 use Rattle.std.specs.Global.{Vec}
 use Rattle.rbc_model.specs.StepsReply.{price_lines}
+pub use Rattle.rbc_table_laws.specs.PriceRows.{prices_of}
 
 -- words, each behind a space (32)
 abbrev pub spaced : List (List ℕ) → List ℕ
 spaced words = flat_map (λ word. 32 ∷ word) words
-
--- the prices that rows hold
-abbrev pub prices_of : List (Vec ℕ) → List (List ℕ)
-prices_of rows = map (λ row. row.items) rows
 
 -- the lines of a table of prices, counted from 1
 abbrev pub prices_text : List (Vec ℕ) → List ℕ

@@ -2,7 +2,7 @@ use Rattle.std.proofs.Common.{◌≡◌, ap, sym, ◌∙◌, length, min, ◌==�
 use Rattle.rbc_model.specs.CheckText.{with_loss}
 use Rattle.rbc_model.specs.PriceChecks.{last_price}
 use Rattle.rbc_model.specs.PriceTables.{table_at}
-use Rattle.rbc_checks.specs.Tables.{prices_of}
+use Rattle.rbc_table_laws.specs.PriceRows.{prices_of}
 use Rattle.rbc_checks.proofs.VerdictLemmas.{last_price-is}
 use Rattle.rbc_checks.proofs.certify.check_told.Goals as goal
 

@@ -1,8 +1,8 @@
 use Rattle.std.proofs.Common.{◌≡◌, ◌+◌, length}
 use Rattle.std.specs.Vec.Iter.{into_iter_items, into_iter_len}
 use Rattle.rbc_model.specs.CheckText.{rows_of}
+use Rattle.rbc_table_laws.specs.PriceRows.{prices_of}
 use Rattle.rbc_checks.specs.Blocks.{lines_view}
-use Rattle.rbc_checks.specs.Tables.{prices_of}
 use Rattle.rbc_checks.proofs.LineLemmas.{with_front}
 use Rattle.rbc_checks.proofs.table.table_of.Given as goal
 

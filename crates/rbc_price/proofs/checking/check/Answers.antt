@@ -1,4 +1,4 @@
-use Rattle.rbc_price.specs.Places.{prices_of}
+use Rattle.rbc_table_laws.specs.PriceRows.{prices_of}
 use Rattle.std.proofs.Common.{sym, ◌∙◌}
 use Rattle.rbc_price.proofs.CertificateLemmas.{certificate_of_check, certified_of, best_of_certificate, on_ok}
 use Rattle.rbc_price.proofs.checking.check.Goals as goal

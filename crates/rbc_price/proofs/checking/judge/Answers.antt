@@ -2,7 +2,7 @@ use Rattle.std.proofs.Common.{arith, ◌≡◌, ap, sym, ◌∙◌, length, nat_
 use Rattle.std.proofs.lemmas.Bool.{le-leb, eq-eqb}
 use Rattle.rbc_model.specs.Profiles.{loss, value_at}
 use Rattle.rbc_model.specs.PriceChecks.{has_shape, first_above, first_too_high, lost, last_price}
-use Rattle.rbc_price.specs.Places.{prices_of}
+use Rattle.rbc_table_laws.specs.PriceRows.{prices_of}
 use Rattle.rbc_price.proofs.SearchLemmas.{not_le}
 use Rattle.rbc_price.proofs.TableLemmas.{not_same, wide_of_shape, end_of_shape, count_of_shape, last_is}
 use Rattle.rbc_price.proofs.CertificateLemmas.{stop_at_loss, stop_at_steps, all_pass}

@@ -1,5 +1,5 @@
 use Rattle.std.proofs.Common.{arith, ap, ◌∙◌, length}
-use Rattle.rbc_price.proofs.BreakLemmas.{at_run, at_last}
+use Rattle.rbc_table_laws.proofs.TrackBreakLemmas.{at_run, at_last}
 use Rattle.rbc_price.proofs.costs.metre_of.Goals as goal
 
 pub returns-in-Some : goal.returns-in-Some

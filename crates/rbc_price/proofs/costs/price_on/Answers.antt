@@ -1,7 +1,7 @@
 use Rattle.std.proofs.Common.{arith, ◌≡◌, ◌+◌, ◌-◌, ◌*◌, ◌≤◌, get_or}
-use Rattle.rbc_price.specs.Costs.{breaks_in, lost_below}
-use Rattle.rbc_price.proofs.BreakLemmas.{in_track, run_at}
-use Rattle.rbc_price.proofs.LowestLemmas.{priced, run_below}
+use Rattle.rbc_table_laws.specs.Breaks.{breaks_in, lost_below}
+use Rattle.rbc_table_laws.proofs.TrackBreakLemmas.{in_track, run_at}
+use Rattle.rbc_table_laws.proofs.LowestValueLemmas.{priced, run_below}
 use Rattle.rbc_price.proofs.CostLemmas.{at_most_end, in_turn}
 use Rattle.rbc_price.proofs.costs.price_on.Given.{Over}
 use Rattle.rbc_price.proofs.costs.price_on.Goals as goal

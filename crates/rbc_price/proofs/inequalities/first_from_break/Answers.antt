@@ -1,8 +1,9 @@
 use Rattle.std.proofs.Common.{arith, ◌≡◌, ℕ, ◌+◌, ◌<◌, ◌≤◌, ◌⊎◌, inl, inr, true, ap, sym, ◌∙◌, length, slice_index_or}
 use Rattle.rbc_price.specs.Costs.{IsCostAt, IsLowestRun, is_run_at_most}
-use Rattle.rbc_price.specs.Places.{prices_of}
-use Rattle.rbc_price.proofs.BreakLemmas.{run_at}
-use Rattle.rbc_price.proofs.CostLemmas.{at_most_end, cost_is, higher, run_order, value_of_run, behind, behind_range, behind_below}
+use Rattle.rbc_table_laws.specs.PriceRows.{prices_of}
+use Rattle.rbc_table_laws.proofs.TrackBreakLemmas.{run_at}
+use Rattle.rbc_price.proofs.LowestRunLemmas.{higher, run_order}
+use Rattle.rbc_price.proofs.CostLemmas.{at_most_end, cost_is, value_of_run, behind, behind_range, behind_below}
 use Rattle.rbc_price.proofs.PlaceLemmas.{Pair, first_of_fewer, first_of_both, first_of_row}
 use Rattle.rbc_price.proofs.inequalities.first_from_break.Given.{Over}
 use Rattle.rbc_price.proofs.inequalities.first_from_break.Goals as goal

@@ -1,6 +1,7 @@
 use Rattle.std.proofs.Common.{◌≡◌, ◌<◌, ◌≤◌}
 use Rattle.rbc_price.specs.Costs.{IsCostAt, IsLowestRun}
-use Rattle.rbc_price.specs.Places.{prices_of, IsFirst}
+use Rattle.rbc_table_laws.specs.PriceRows.{prices_of}
+use Rattle.rbc_price.specs.Places.{IsFirst}
 use Rattle.rbc_price.proofs.inequalities.first_from_break.Given as goal
 
 abbrev pub invariant-loop-index : goal.invariant-loop-index

@@ -1,7 +1,7 @@
 use Rattle.std.proofs.Common.{arith, ◌≡◌, ℕ, ◌+◌, ◌<◌, ◌⊎◌, inl, inr, ap, subst, length}
 use Rattle.rbc_price.specs.Costs.{IsLowestRun}
-use Rattle.rbc_price.specs.Places.{prices_of}
-use Rattle.rbc_price.proofs.CostLemmas.{some_run}
+use Rattle.rbc_table_laws.specs.PriceRows.{prices_of}
+use Rattle.rbc_price.proofs.LowestRunLemmas.{some_lowest}
 use Rattle.rbc_price.proofs.PlaceLemmas.{first_of_fewer, first_of_both}
 use Rattle.rbc_price.proofs.inequalities.first_of_all.Goals as goal
 
@@ -28,6 +28,6 @@ returns-clause-first g c =
     (λ from to. (lowest : ℕ) × (lowest < c.loop-lowest.lowest) × IsLowestRun g.V.Level.levels c.args.track.now from to lowest)
     (λ from to. Unit {0}) c.loop-lowest.first
     (λ from to on column j.
-    let there = some_run g.V.Level.levels level.lawful c.args.track.now c.runs-lowest-end.ensures.track from to on column in
+    let there = some_lowest g.V.Level.levels level.lawful c.args.track.now c.runs-lowest-end.ensures.track from to on column in
     let high = there.1.high in
     (there.0, omega (arith, ap length c.runs-lowest-end.ensures.runs), there.1)) c.loop-lowest.invariant

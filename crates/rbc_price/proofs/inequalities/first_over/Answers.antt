@@ -1,8 +1,9 @@
 use Rattle.std.proofs.Common.{arith, ◌≡◌, ℕ, ◌+◌, ◌-◌, ◌<◌, ◌≤◌, ◌⊎◌, inl, inr, false, ap, sym, ◌∙◌, subst, length, slice_index_or}
 use Rattle.rbc_price.specs.Costs.{IsCostAt, IsLowestRun, is_run_at_most}
-use Rattle.rbc_price.specs.Places.{prices_of}
-use Rattle.rbc_price.proofs.BreakLemmas.{run_at}
-use Rattle.rbc_price.proofs.CostLemmas.{at_most_end, run_order, alone_below, single, for_level, in_front, front_range, front_below}
+use Rattle.rbc_table_laws.specs.PriceRows.{prices_of}
+use Rattle.rbc_table_laws.proofs.TrackBreakLemmas.{run_at}
+use Rattle.rbc_price.proofs.LowestRunLemmas.{run_order}
+use Rattle.rbc_price.proofs.CostLemmas.{at_most_end, alone_below, single, for_level, in_front, front_range, front_below}
 use Rattle.rbc_price.proofs.PlaceLemmas.{first_of_fewer, first_of_both}
 use Rattle.rbc_price.proofs.inequalities.first_over.Given.{Over}
 use Rattle.rbc_price.proofs.inequalities.first_over.Goals as goal

@@ -1,5 +1,6 @@
 use Rattle.std.proofs.Common.{ℕ, ◌<◌}
-use Rattle.rbc_price.specs.Places.{prices_of, IsDearer}
+use Rattle.rbc_table_laws.specs.PriceRows.{prices_of}
+use Rattle.rbc_price.specs.Places.{IsDearer}
 use Rattle.rbc_price.proofs.inequalities.first_row.Given as goal
 
 abbrev pub invariant-loop-row : goal.invariant-loop-row

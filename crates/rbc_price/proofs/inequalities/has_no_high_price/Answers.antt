@@ -1,8 +1,8 @@
 use Rattle.std.proofs.Common.{arith, ◌∙◌, ap, sym}
 use Rattle.std.proofs.lemmas.List.{length-map}
 use Rattle.rbc_model.specs.PriceChecks.{unless_some}
-use Rattle.rbc_price.specs.Places.{prices_of}
-use Rattle.rbc_price.proofs.BreakLemmas.{columns_are}
+use Rattle.rbc_table_laws.specs.PriceRows.{prices_of}
+use Rattle.rbc_table_laws.proofs.TrackBreakLemmas.{columns_are}
 use Rattle.rbc_price.proofs.SearchLemmas.{none_too_high, some_too_high, refused_at}
 use Rattle.rbc_price.proofs.inequalities.has_no_high_price.Goals as goal
 

@@ -1,7 +1,7 @@
 use Rattle.std.proofs.Common.{◌≡◌, ℕ, suc, ◌*◌, ◌<◌, ◌≤◌, Some, length, get_or}
 use Rattle.std.specs.List.{slice_get}
 use Rattle.std.specs.Global.{Vec}
-use Rattle.rbc_reduce.specs.Breaks.{cost_between}
+use Rattle.rbc_table_laws.specs.Breaks.{cost_between}
 use Rattle.rbc_reduce.specs.Columns.{IsColumn}
 use Rattle.rbc_reduce.proofs.columns.columns_of.Given as goal
 

@@ -1,8 +1,9 @@
 use Rattle.std.proofs.Common.{arith, length-set, ◌≡◌, ℕ, ◌+◌, ◌-◌, ◌*◌, ◌<◌, ◌≤◌, true, false, ap, sym, ◌∙◌, length, get_or, subst}
 use Rattle.std.proofs.lemmas.List.{get_or-set_other}
-use Rattle.rbc_reduce.specs.Breaks.{IsLowest, lost_below, cost_between}
-use Rattle.rbc_reduce.proofs.BreakLemmas.{run_at}
-use Rattle.rbc_reduce.proofs.LowestLemmas.{lowest_here, lowest_at, lowest_lower, lowest_cost, lost_by_floor, cost_at, flat_same, flat_before, fallen_before, up_to_end, rises_to, floor_in_range, floor_below, least_in_range, written_more, small_more}
+use Rattle.rbc_table_laws.specs.Breaks.{IsLowest, lost_below, cost_between}
+use Rattle.rbc_table_laws.proofs.TrackBreakLemmas.{run_at, rises_to, up_to_end}
+use Rattle.rbc_table_laws.proofs.LowestValueLemmas.{lowest_here, lowest_cost, lost_by_floor, cost_at, floor_in_range, floor_below, least_in_range}
+use Rattle.rbc_reduce.proofs.NextBreakLemmas.{lowest_at, lowest_lower, flat_same, flat_before, fallen_before, written_more, small_more}
 use Rattle.rbc_reduce.proofs.costs.costs_on.Given.{Over}
 use Rattle.rbc_reduce.proofs.costs.costs_on.Goals as goal
 use Rattle.rbc_reduce.proofs.costs.costs_on.Goals.{After-index-runs-to, After-is_at_most}
@@ -198,7 +199,7 @@ loop-i-preserved g c =
     let last = subst (λ k. IsLowest g.V.Level.levels c.args.track.now (get_or c.args.breaks.now (c.loop-i.i - 1) 0) (get_or c.args.breaks.now k 0) c.lower-least.result) (sym next) now in
     let fallen = fallen_before g.V.Level.levels level.lawful c.args.track.now c.runs-runs.ensures.track c.args.breaks.now c.requires.breaks (c.args.to - 1) _ run _ c.lower-least.result last (sym c.is_at_most.ensures ∙ c.if-is_at_most.false) in
     let end_before = up_to_end c.args.track.now c.args.breaks.now c.requires.breaks (c.args.to - 1) (omega arith) in
-    let lost_before = lost_by_floor g.V.Level.levels level.lawful c.args.track.now c.runs-runs.ensures.track c.args.breaks.now c.requires.breaks _ _ end_before c.lower-least.result fallen in
+    let lost_before = lost_by_floor g.V.Level.levels level.lawful c.args.track.now c.runs-runs.ensures.track c.args.breaks.now c.requires.breaks _ _ c.lower-least.result end_before fallen in
     let old : get_or c.loop-i.costs (c.loop-i.i - 1) 0 ≡ cost_between g.V.Level.levels c.args.track.now (c.loop-i.i - 1) (c.args.to - 1) = i.4 (c.loop-i.i - 1) (omega arith) ∙ c.requires.costs (c.loop-i.i - 1) (omega arith) in
     let old_cost = old ∙ sym (cost_at g.V.Level.levels level.lawful c.args.track.now c.runs-runs.ensures.track c.args.breaks.now c.requires.breaks (c.loop-i.i - 1) (c.args.to - 1)) in
     let here = rw (c.floor-else-is_at_most.ensures, next) at c.price_on.ensures.price in

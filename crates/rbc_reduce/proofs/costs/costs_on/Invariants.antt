@@ -1,5 +1,5 @@
 use Rattle.std.proofs.Common.{◌≡◌, ℕ, ◌+◌, ◌*◌, ◌<◌, ◌≤◌, true, get_or}
-use Rattle.rbc_reduce.specs.Breaks.{IsLowest, cost_between, lost_below}
+use Rattle.rbc_table_laws.specs.Breaks.{IsLowest, cost_between, lost_below}
 use Rattle.rbc_reduce.proofs.costs.costs_on.Given as goal
 
 abbrev pub invariant-loop-i : goal.invariant-loop-i

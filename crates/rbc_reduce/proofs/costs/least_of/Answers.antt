@@ -1,7 +1,8 @@
 use Rattle.std.proofs.Common.{arith, ◌≡◌, ◌+◌, ◌-◌, true, false, refl, ap, sym, ◌∙◌, length, get_or, subst}
-use Rattle.rbc_reduce.specs.Breaks.{IsLowest}
-use Rattle.rbc_reduce.proofs.BreakLemmas.{run_at}
-use Rattle.rbc_reduce.proofs.LowestLemmas.{lowest_here, lowest_more, up_to_end}
+use Rattle.rbc_table_laws.specs.Breaks.{IsLowest}
+use Rattle.rbc_table_laws.proofs.TrackBreakLemmas.{run_at, up_to_end}
+use Rattle.rbc_table_laws.proofs.LowestValueLemmas.{lowest_here}
+use Rattle.rbc_reduce.proofs.NextBreakLemmas.{lowest_more}
 use Rattle.rbc_reduce.proofs.costs.least_of.Goals as goal
 
 pub loop-i-init : goal.loop-i-init

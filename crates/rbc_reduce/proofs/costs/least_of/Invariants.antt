@@ -1,5 +1,5 @@
 use Rattle.std.proofs.Common.{◌≤◌, get_or}
-use Rattle.rbc_reduce.specs.Breaks.{IsLowest}
+use Rattle.rbc_table_laws.specs.Breaks.{IsLowest}
 use Rattle.rbc_reduce.proofs.costs.least_of.Given as goal
 
 abbrev pub invariant-loop-i : goal.invariant-loop-i

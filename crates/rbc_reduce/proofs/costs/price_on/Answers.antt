@@ -1,7 +1,7 @@
 use Rattle.std.proofs.Common.{arith, ◌≡◌, ◌+◌, ◌*◌, ◌≤◌, get_or}
-use Rattle.rbc_reduce.proofs.BreakLemmas.{run_at}
-use Rattle.rbc_reduce.specs.Breaks.{lost_below}
-use Rattle.rbc_reduce.proofs.LowestLemmas.{priced, up_to_end}
+use Rattle.rbc_table_laws.specs.Breaks.{lost_below}
+use Rattle.rbc_table_laws.proofs.TrackBreakLemmas.{run_at, up_to_end}
+use Rattle.rbc_table_laws.proofs.LowestValueLemmas.{priced}
 use Rattle.rbc_reduce.proofs.costs.price_on.Given.{Over}
 use Rattle.rbc_reduce.proofs.costs.price_on.Goals as goal
 use Rattle.rbc_reduce.proofs.costs.price_on.Goals.{After-price}

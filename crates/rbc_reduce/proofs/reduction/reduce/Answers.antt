@@ -1,8 +1,8 @@
 use Rattle.std.proofs.Common.{arith, ◌≡◌, ◌<◌, ℕ, length, ap, sym, ◌∙◌, subst, true, Ok}
 use Rattle.rbc_model.specs.Profiles.{IsChosenProfile, loss, value_at, is_within, profile_of}
 use Rattle.rbc_table_laws.proofs.TableLawLemmas.{read_off_are_chosen}
-use Rattle.rbc_reduce.specs.Rows.{prices_of}
-use Rattle.rbc_reduce.proofs.BreakLemmas.{are_breaks}
+use Rattle.rbc_table_laws.specs.PriceRows.{prices_of}
+use Rattle.rbc_table_laws.proofs.TrackBreakLemmas.{are_breaks}
 use Rattle.rbc_reduce.proofs.ProfileLemmas.{made_of, made_is, made_ok}
 use Rattle.rbc_reduce.proofs.reduction.reduce.Given.{Over}
 use Rattle.rbc_reduce.proofs.reduction.reduce.Goals as goal

@@ -1,8 +1,9 @@
 use Rattle.std.proofs.Common.{arith, ◌≡◌, ℕ, ◌-◌, ◌<◌, ◌++◌, ◌∷◌, [], refl, ap, ◌∙◌, length, get_or, min}
+use Rattle.std.proofs.lemmas.Option.{slice_get-get_or}
 use Rattle.rbc_model.specs.Profiles.{starts_of}
 use Rattle.rbc_steps.proofs.PlaceLemmas.{first_at_zero}
 use Rattle.rbc_reduce.specs.Rows.{IsCheapest, price_in, price_up_to}
-use Rattle.rbc_reduce.proofs.BreakLemmas.{are_breaks, there_at}
+use Rattle.rbc_table_laws.proofs.TrackBreakLemmas.{are_breaks}
 use Rattle.rbc_reduce.proofs.RowLemmas.{columns_are_costs, columns_fit, row_width, first_small, first_filled, next_small, next_filled, wide_one, small_one, wide_push, small_push, last_row, small_last, filled_is_greatest, some_min}
 use Rattle.rbc_reduce.proofs.table.fill.Given.{Over}
 use Rattle.rbc_reduce.proofs.table.fill.Goals as goal
@@ -31,7 +32,7 @@ last_here g c =
 width_here : (g : Over) (c : After-as_slice g) → length c.as_slice.result.now ≡ length c.args.track.now.steps
 width_here g c =
     let count = c.loop-steps.invariant.0 in
-    ap length (before_is g c) ∙ c.loop-steps.invariant.1 (c.loop-steps.steps - 1) _ (there_at c.loop-steps.rows.items (c.loop-steps.steps - 1) c.index.result.now (omega arith))
+    ap length (before_is g c) ∙ c.loop-steps.invariant.1 (c.loop-steps.steps - 1) _ (slice_get-get_or c.loop-steps.rows.items (c.loop-steps.steps - 1) c.index.result.now (omega arith))
 
 pub next_row-requires-clause-columns : goal.next_row-requires-clause-columns
 next_row-requires-clause-columns g c κs within = columns_are_costs g.V.Level.levels c.args.track.now c.args.columns.now c.requires.columns

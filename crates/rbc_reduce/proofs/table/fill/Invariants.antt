@@ -1,5 +1,6 @@
 use Rattle.std.proofs.Common.{◌≡◌, ℕ, length}
-use Rattle.rbc_reduce.specs.Rows.{AreSmall, AreWide, price_in}
+use Rattle.rbc_table_laws.specs.PriceRows.{AreWide}
+use Rattle.rbc_reduce.specs.Rows.{AreSmall, price_in}
 use Rattle.rbc_reduce.proofs.RowLemmas.{IsFilled}
 use Rattle.rbc_reduce.proofs.table.fill.Given as goal
 

@@ -1,10 +1,11 @@
 use Rattle.std.proofs.Common.{arith, ◌≡◌, ◌≢◌, ℕ, suc, ◌+◌, ◌-◌, ◌<◌, ◌++◌, ◌∷◌, [], refl, ap, sym, ◌∙◌, subst, length, get_or}
+use Rattle.std.proofs.lemmas.Option.{slice_get-get_or}
 use Rattle.rbc_model.specs.PriceTables.{stretch_count}
 use Rattle.rbc_table_laws.specs.Tracebacks.{IsOnWay, IsTracedTo}
-use Rattle.rbc_reduce.specs.Breaks.{cost_between}
+use Rattle.rbc_table_laws.specs.Breaks.{cost_between}
+use Rattle.rbc_table_laws.specs.PriceRows.{prices_of}
 use Rattle.rbc_reduce.specs.Columns.{IsColumn}
-use Rattle.rbc_reduce.specs.Rows.{price_in, prices_of}
-use Rattle.rbc_reduce.proofs.BreakLemmas.{there_at}
+use Rattle.rbc_reduce.specs.Rows.{price_in}
 use Rattle.rbc_reduce.proofs.ReadBackLemmas.{some_row, begun, read_off, some_column, some_break, one_back}
 use Rattle.rbc_reduce.proofs.traceback.steps_of.Given.{Over}
 use Rattle.rbc_reduce.proofs.traceback.steps_of.Goals as goal
@@ -52,7 +53,7 @@ column_here g c =
     let some = some_here g c in
     let width = c.requires.columns.count in
     let inside = c.loop-before.invariant.0 in
-    let there = there_at c.args.columns.now (c.loop-before.to - 1) c.index-columns-to.result (omega arith) in
+    let there = slice_get-get_or c.args.columns.now (c.loop-before.to - 1) c.index-columns-to.result (omega arith) in
     let next : suc (c.loop-before.to - 1) ≡ c.loop-before.to = omega arith in
     subst (λ k. IsColumn g.V.Level.levels c.args.track.now k c.as_slice.result.now) next
     (rw (c.as_slice.ensures.value ∙ ap (λ column. column.items) c.index-columns-to.is) (c.requires.columns.each (c.loop-before.to - 1) _ there))

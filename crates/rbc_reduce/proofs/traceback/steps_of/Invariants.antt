@@ -1,7 +1,7 @@
 use Rattle.std.proofs.Common.{◌≤◌, length}
 use Rattle.rbc_model.specs.PriceTables.{stretch_count}
 use Rattle.rbc_table_laws.specs.Tracebacks.{IsOnWay, IsTracedTo}
-use Rattle.rbc_reduce.specs.Rows.{prices_of}
+use Rattle.rbc_table_laws.specs.PriceRows.{prices_of}
 use Rattle.rbc_reduce.proofs.traceback.steps_of.Given as goal
 
 abbrev pub invariant-loop-before : goal.invariant-loop-before

@@ -4,10 +4,13 @@ use Rattle.rbc_model.specs.Levels.{Levels, IsAtMost}
 use Rattle.rbc_model.specs.Profiles.{StepFunction, value_at, starts_of, price_at, sum_below}
 use Rattle.rbc_model.specs.PriceTables.{breaks_of, step_cost}
 
--- The numbers are the track's breaks, at a unit of 1: they rise from 0 to its end, and from one to the next lies
--- one run.
+-- the breaks of a track, at a unit of 1: the starts of its runs, and its end
+abbrev pub breaks_in : {V : Type 0} → StepFunction V → List ℕ
+breaks_in track = breaks_of 1 track.end (starts_of track.steps)
+
+-- The numbers are the track's breaks: they rise from 0 to its end, and from one to the next lies one run.
 pub record AreBreaks {V : Type 0} (track : StepFunction V) (breaks : List ℕ) : Type 0 where
-  pub are : breaks ≡ breaks_of 1 track.end (starts_of track.steps)
+  pub are : breaks ≡ breaks_in track
   pub count : length breaks ≡ suc (length track.steps)
   pub first : slice_index breaks 0 ≡ 0
   pub last : slice_index breaks (length track.steps) ≡ track.end
