@@ -1,5 +1,5 @@
 -- What a train that asks at the desk is answered.
-use Rattle.std.specs.Prelude.{◌≡◌, ℕ, true, length, Option, Some, None, Result, Ok, Err}
+use Rattle.std.specs.Prelude.{◌≡◌, ℕ, true, false, length, Option, Some, None, Result, Ok, Err}
 use Rattle.std.specs.Result.{result_map_both}
 use Rattle.rbc_model.specs.declared.memory.OrMemory.{OrMemory}
 use Rattle.rbc_model.specs.declared.memory.OrMemory.TheVariants.{Refused, Memory}
@@ -13,6 +13,8 @@ use Rattle.rbc_record.specs.declared.faults.CommitFault.TheVariants.{Full as Ful
 use Rattle.rbc_record.specs.Records.{HistoryOnTrack, scene_now, is_full, with_entry}
 use Rattle.rbc_desk.specs.declared.faults.AskFault.{AskFault}
 use Rattle.rbc_desk.specs.declared.faults.AskFault.TheVariants.{UnknownTrain, Blocked, Full}
+use Rattle.rbc_desk.specs.declared.granted.Granted.{Granted as GrantedAtDesk}
+use Rattle.rbc_desk.specs.Desks.{IsOfDesk}
 
 -- why the train is shown no end, told with the version of the history
 abbrev pub fault_at : ℕ → ViewFault → AskFault
@@ -31,6 +33,17 @@ IsRefused history train (Refused UnknownTrain) = shown history train ≡ Err Unk
 IsRefused history train (Refused (Blocked obstacle at version)) = shown history train ≡ Err (Blocked obstacle at version)
 IsRefused history train Memory = Unit {0}
 
+-- What a train that asks after this history is answered: it is granted what is best for what it is shown, as the next entry; or nothing.
+abbrev pub IsAnswered : HistoryOnTrack → ℕ → Result GrantedAtDesk (OrMemory AskFault) → Type 0
+IsAnswered history train (Ok granted) =
+    (is_full history ≡ false) × (shown history train ≡ Ok granted.candidate.view)
+    × (granted.receipt.place ≡ length history.entries) × (granted.receipt.entry ≡ Granted granted.candidate.grant)
+IsAnswered history train (Err fault) = IsRefused history train fault
+
+-- the same, after some history that the desk had
+abbrev pub IsAnsweredAt : HistoryOnTrack → ℕ → Result GrantedAtDesk (OrMemory AskFault) → Type 0
+IsAnsweredAt opened train answer = (history : HistoryOnTrack) × IsOfDesk opened history × IsAnswered history train answer
+
 -- The candidate was made of what the history shows its train, at its version.
 pub record IsCurrent (history : HistoryOnTrack) (candidate : Candidate) : Type 0 where
   pub version : candidate.version ≡ length history.entries
@@ -48,5 +61,6 @@ tried (Err Memory) = Err Memory
 abbrev pub Tries : Result (Option Receipt) (OrMemory AskFault) → HistoryOnTrack → HistoryOnTrack → Candidate → Type 0
 Tries (Ok (Some receipt)) old new candidate =
     (receipt.entry ≡ Granted candidate.grant) × (receipt.place ≡ length old.entries) × (new ≡ with_entry old (Granted candidate.grant))
+    × IsCurrent old candidate × (is_full old ≡ false)
 Tries (Ok None) old new candidate = (IsCurrent old candidate → ⊥) × (new ≡ old)
 Tries (Err fault) old new candidate = IsRefused old candidate.view.train fault × (new ≡ old)

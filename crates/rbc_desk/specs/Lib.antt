@@ -1,3 +1,5 @@
 pub mod Desks
 pub mod Asking
 pub mod Closing
+pub mod Telling
+pub mod Trains

@@ -1,10 +1,14 @@
 //! The desk.
 
-ghost use Rattle.std.specs.Prelude.{◌≡◌, ◌≢◌, ◌+◌, ◌-◌, ◌≤◌, ◌<◌, ◌++◌, ◌∷◌, [], ℕ, List, length, take, vec_len, replicate, Ok, Err, IfOk, IfErr, IfSome, IfNone, OnErr};
+ghost use Rattle.std.specs.Prelude.{◌≡◌, ◌≢◌, ◌+◌, ◌-◌, ◌≤◌, ◌<◌, ◌++◌, ◌∷◌, [], ℕ, List, length, take, vec_len};
+ghost use Rattle.std.specs.Prelude.{replicate, Ok, Err, IfOk, IfErr, IfSome, IfNone, OnErr};
 ghost use Rattle.rbc_grant_laws.specs.Candidates.{IsCandidateOf};
 ghost use Rattle.rbc_model.specs.Histories.{Granted as GrantedEntry, Heard, IsLegal, Matches};
 ghost use Rattle.rbc_scene.specs.Steps.{IsOfTrack};
+ghost use Rattle.rbc_desk.specs.Asking.{IsAnsweredAt};
 ghost use Rattle.rbc_desk.specs.Closing.{all_receipts, IsUnmatched};
+ghost use Rattle.rbc_desk.specs.Telling.{IsToldAt};
+ghost use Rattle.rbc_desk.specs.Trains.{AreTrainsOf};
 ghost use Rattle.rbc_desk.specs.declared.faults.CloseFault.TheVariants.{Missing};
 
 use crate::shared::Shared;
@@ -107,6 +111,7 @@ impl<L: DeskName> Desk<L> {
         told: Told,
     ) -> Result<Receipt, OrMemory<ApplyFault>>
         requires { IsOfTrack L.opened.track told }
+        ensures told { IsToldAt L.opened told result }
         ensures receipt { IfOk result (λ receipt. seat.new ≡ seat.old ++ receipt ∷ []) }
         ensures entry { IfOk result (λ receipt. receipt.entry ≡ Heard told) }
         ensures refused { OnErr result (seat.new ≡ seat.old) }
@@ -136,6 +141,31 @@ impl<L: DeskName> Desk<L> {
         train: u32,
         gate: &G,
     ) -> Result<Granted, OrMemory<AskFault>>
+        ensures answered { IsAnsweredAt L.opened train result }
+        ensures receipt { IfOk result (λ granted. seat.new ≡ seat.old ++ granted.receipt ∷ []) }
+        ensures entry { IfOk result (λ granted. granted.receipt.entry ≡ GrantedEntry granted.candidate.grant) }
+        ensures train { IfOk result (λ granted. granted.candidate.view.train ≡ train) }
+        ensures best { IfOk result (λ granted. IsCandidateOf granted.candidate.view granted.candidate.grant) }
+        ensures refused { OnErr result (seat.new ≡ seat.old) }
+    {
+        self.ask_by(rt, rt, alloc, seat, train, gate)
+    }
+
+    /// The same by two runtimes: one has the threads of the computation, the other waits for the lock.
+    ///
+    /// # Errors
+    ///
+    /// As above.
+    pub fn ask_by<T: Threads + Sync, R: Wait, G: Gate>(
+        &self,
+        rt: &T,
+        waiting: &R,
+        alloc: Global,
+        seat: &mut Seat<L>,
+        train: u32,
+        gate: &G,
+    ) -> Result<Granted, OrMemory<AskFault>>
+        ensures answered { IsAnsweredAt L.opened train result }
         ensures receipt { IfOk result (λ granted. seat.new ≡ seat.old ++ granted.receipt ∷ []) }
         ensures entry { IfOk result (λ granted. granted.receipt.entry ≡ GrantedEntry granted.candidate.grant) }
         ensures train { IfOk result (λ granted. granted.candidate.view.train ≡ train) }
@@ -143,17 +173,29 @@ impl<L: DeskName> Desk<L> {
         ensures refused { OnErr result (seat.new ≡ seat.old) }
     {
         for _try in 0..TRIES {
-            if let Some(granted) = self.try_to_grant(rt, alloc, seat, train, gate)? {
+            if let Some(granted) = self.try_to_grant(rt, waiting, alloc, seat, train, gate)? {
                 return Ok(granted);
             }
         }
-        self.shared.lock(rt).grant(rt, alloc, seat, train)
+        self.shared.lock(waiting).grant(rt, alloc, seat, train)
+    }
+
+    /// The numbers of all trains that have reported and not left, in order of arrival. Nothing changes.
+    ///
+    /// # Errors
+    ///
+    /// [`Memory`], where the allocator refuses room for them.
+    pub fn trains<R: Wait>(&self, rt: &R, alloc: Global) -> Result<Vec<u32>, Memory>
+        ensures { IfOk result (λ numbers. AreTrainsOf L.opened numbers.items) }
+    {
+        self.shared.lock(rt).trains(alloc)
     }
 
     /// One try outside the lock. None where the history has grown meanwhile.
-    fn try_to_grant<R: Threads + Wait + Sync, G: Gate>(
+    fn try_to_grant<T: Threads + Sync, R: Wait, G: Gate>(
         &self,
-        rt: &R,
+        rt: &T,
+        waiting: &R,
         alloc: Global,
         seat: &mut Seat<L>,
         train: u32,
@@ -168,10 +210,12 @@ impl<L: DeskName> Desk<L> {
             IsCandidateOf granted.candidate.view granted.candidate.grant)) }
         ensures stale { IfOk result (λ tried. IfNone tried (seat.new ≡ seat.old)) }
         ensures refused { OnErr result (seat.new ≡ seat.old) }
+        ensures answered { IfOk result (λ tried. IfSome tried (λ granted. IsAnsweredAt L.opened train (Ok granted))) }
+        ensures denied { IfErr result (λ fault. IsAnsweredAt L.opened train (Err fault)) }
     {
-        let (view, version) = self.shared.lock(rt).look(alloc, train)?;
+        let (view, version) = self.shared.lock(waiting).look(alloc, train)?;
         let candidate = gate.pass(rt, alloc, view, version)?;
-        self.shared.lock(rt).commit(alloc, seat, candidate)
+        self.shared.lock(waiting).commit(alloc, seat, candidate)
     }
 
     /// Ends the desk, and gives the record back if the receipts of all seats are exactly its entries since the desk

@@ -1,6 +1,7 @@
 //! What lies under the desk's lock.
 
-ghost use Rattle.std.specs.Prelude.{◌≡◌, ◌≢◌, ◌+◌, ◌≤◌, ◌<◌, ◌++◌, ◌∷◌, [], length, take, vec_len, false, true, Ok, Err, IfOk, IfErr, IfSome, IfNone, OnErr};
+ghost use Rattle.std.specs.Prelude.{◌≡◌, ◌≢◌, ◌+◌, ◌≤◌, ◌<◌, ◌++◌, ◌∷◌, [], length, take, vec_len, false, true};
+ghost use Rattle.std.specs.Prelude.{Ok, Err, IfOk, IfErr, IfSome, IfNone, OnErr};
 ghost use Rattle.std.specs.List.{list_any};
 ghost use Rattle.rbc_model.specs.Answers.{AnswersAs};
 ghost use Rattle.rbc_model.specs.Histories.{Granted as GrantedEntry, IsLegal, Matches};
@@ -9,12 +10,16 @@ ghost use Rattle.rbc_record.specs.Entering.{EntersOrMemory, entry_granted, entry
 ghost use Rattle.rbc_record.specs.Records.{is_full, with_entry};
 ghost use Rattle.rbc_scene.specs.Steps.{IsOfTrack};
 ghost use Rattle.rbc_desk.specs.Closing.{all_receipts, IsUnmatchedIn};
-ghost use Rattle.rbc_desk.specs.Asking.{fault_at, shown, tried, IsRefused, Tries};
+ghost use Rattle.rbc_desk.specs.Trains.{AreTrainsOf, numbers_of};
+ghost use Rattle.rbc_desk.specs.Asking.{fault_at, shown, tried, IsRefused, IsAnsweredAt, Tries};
+ghost use Rattle.rbc_desk.specs.Desks.{IsOfDesk};
+ghost use Rattle.rbc_desk.specs.Telling.{IsToldAt};
+ghost use Rattle.rbc_model.specs.declared.memory.OrMemory.TheVariants.{Memory as NoMemory};
 
 use crate::closing::{find_seats, merge_all};
 use crate::{AskFault, CloseFault, DeskName, Granted, Seat};
 use rbc_grant::{Candidate, candidate};
-use rbc_model::{OrMemory, Told, ViewFault};
+use rbc_model::{Memory, OrMemory, Told, ViewFault};
 use rbc_reach::View;
 use rbc_record::limits::MOST_ENTRIES;
 use rbc_record::{ApplyFault, CommitFault, Receipt, Record};
@@ -112,7 +117,26 @@ fn fault_at(version: u64, fault: ViewFault) -> AskFault
     }
 }
 
+/// The numbers of the trains in the scene that the record leads to, in order of arrival.
+fn trains_of(alloc: Global, log: &Record) -> Result<Vec<u32>, Memory>
+    ensures { IfOk result (λ numbers. numbers.items ≡ numbers_of log.now) }
+{
+    let scene = log.snapshot(alloc)?;
+    let mut numbers = Vec::new(alloc);
+    for train in scene.book().trains() {
+        numbers.push(train.number())?;
+    }
+    Ok(numbers)
+}
+
 impl<L: DeskName> Shared<L> {
+    /// What lies under the lock is a history of the desk.
+    fn is_of_desk(&self)
+        ensures { IsOfDesk L.opened self.now.log }
+    {
+        let _version = self.log.version();
+    }
+
     /// Enters what is told, and gives the seat the receipt.
     pub(crate) fn event(
         &mut self,
@@ -122,9 +146,11 @@ impl<L: DeskName> Shared<L> {
     ) -> Result<Receipt, OrMemory<ApplyFault>>
         requires { IsOfTrack L.opened.track told.now }
         ensures entered { EntersOrMemory result self.old.log self.new.log (entry_told self.old.log told.now) }
+        ensures told { IsToldAt L.opened told.now result }
         ensures receipt { IfOk result (λ receipt. seat.new ≡ seat.old ++ receipt ∷ []) }
         ensures refused { OnErr result (seat.new ≡ seat.old) }
     {
+        self.is_of_desk();
         let Shared {
             log,
             found,
@@ -149,7 +175,10 @@ impl<L: DeskName> Shared<L> {
         ensures shown { AnswersAs (λ seen. seen.0) result (shown self.now.log train) }
         ensures train { IfOk result (λ seen. seen.0.train ≡ train) }
         ensures version { IfOk result (λ seen. seen.1 ≡ length self.now.log.entries) }
+        ensures refused { IfErr result (λ fault. IsAnsweredAt L.opened train (Err fault)) }
+        ensures memory { IsAnsweredAt L.opened train (Err NoMemory) }
     {
+        self.is_of_desk();
         let version = self.log.version();
         match self.log.view(alloc, train) {
             Ok(view) => Ok((view, version)),
@@ -181,7 +210,11 @@ impl<L: DeskName> Shared<L> {
             → shown self.old.log candidate.view.train ≡ Ok candidate.view → result ≢ Ok None }
         ensures refused { OnErr result ((self.new.log ≡ self.old.log) × (seat.new ≡ seat.old)) }
         ensures full { IfErr result (IsRefused self.old.log candidate.view.train) }
+        ensures answered { IfOk result (λ tried. IfSome tried (λ granted.
+            IsAnsweredAt L.opened candidate.view.train (Ok granted))) }
+        ensures of_desk { IsOfDesk L.opened self.old.log }
     {
+        self.is_of_desk();
         if is_full(&self.log) {
             return Err(OrMemory::Refused(AskFault::Full));
         }
@@ -243,13 +276,23 @@ impl<L: DeskName> Shared<L> {
         ensures receipt { IfOk result (λ granted. seat.new ≡ seat.old ++ granted.receipt ∷ []) }
         ensures refused { IfErr result (IsRefused self.old.log train) }
         ensures unchanged { OnErr result ((self.new.log ≡ self.old.log) × (seat.new ≡ seat.old)) }
+        ensures answered { IsAnsweredAt L.opened train result }
     {
+        self.is_of_desk();
         let (view, version) = self.look(alloc, train)?;
         let candidate = candidate(rt, alloc, view, version)?;
         match self.commit(alloc, seat, candidate)? {
             Some(granted) => Ok(granted),
             None => unreachable!(),
         }
+    }
+
+    /// The numbers of the scene's trains, in order of arrival.
+    pub(crate) fn trains(&self, alloc: Global) -> Result<Vec<u32>, Memory>
+        ensures { IfOk result (λ numbers. AreTrainsOf L.opened numbers.items) }
+    {
+        let _version = self.log.version();
+        trains_of(alloc, &self.log)
     }
 
     /// Gives the record back if the receipts of all seats are exactly its entries from the desk's start on.

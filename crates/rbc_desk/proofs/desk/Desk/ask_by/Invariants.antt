@@ -1,5 +1,5 @@
 use Rattle.std.proofs.Common.{◌≡◌}
-use Rattle.rbc_desk.proofs.desk.Desk.ask.Given as goal
+use Rattle.rbc_desk.proofs.desk.Desk.ask_by.Given as goal
 
 abbrev pub invariant-loop-try : goal.invariant-loop-try
 invariant-loop-try g l = l.seat ≡ l.fn.seat
