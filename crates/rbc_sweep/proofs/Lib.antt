@@ -1,0 +1,6 @@
+mod CrewLemmas
+mod JobLemmas
+mod OrderLemmas
+mod Permutations
+mod SweepLemmas
+mod WorkLemmas

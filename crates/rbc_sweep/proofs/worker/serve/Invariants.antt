@@ -1,0 +1,11 @@
+use Rattle.std.proofs.Common.{◌≤◌, vec_capacity}
+use Rattle.crossbeam_queue.specs.Passes.{IsPassOf}
+use Rattle.rbc_sweep.specs.Serving.{HasServed, tally_of}
+use Rattle.rbc_sweep.proofs.worker.serve.Given as goal
+
+abbrev pub invariant-loop : goal.invariant-loop
+invariant-loop g l = record {
+  pass : IsPassOf l.queue l.pass;
+  served : HasServed g.L.DeskName.opened (tally_of l.initial.pass) l.initial.seat (tally_of l.pass) l.seat l.done.items;
+  room : vec_capacity l.initial.done ≤ vec_capacity l.done;
+}

@@ -1,0 +1,14 @@
+//! The sweep: the trains of a desk's scene are served once each, by one worker for each seat.
+#![tactic(auto)]
+
+mod crew;
+mod jobs;
+mod order;
+mod outcome;
+mod room;
+mod sweeping;
+mod worker;
+
+pub use outcome::{Answer, Outcome};
+pub use rbc_model::Memory;
+pub use sweeping::sweep;

@@ -1,0 +1,113 @@
+//! The sweep.
+
+ghost use Rattle.std.specs.Prelude.{◌≡◌, ◌<◌, ◌≤◌, ◌++◌, All, IfOk, IsPermutation, OnErr, length, map, vec_len};
+ghost use Rattle.std.specs.List.{AllZip};
+ghost use Rattle.rbc_desk.specs.Closing.{all_receipts};
+ghost use Rattle.rbc_desk.specs.Trains.{AreTrainsOf};
+ghost use Rattle.rbc_sweep.specs.Outcomes.{AreFirst, IsOutcome, granted, train_of};
+ghost use Rattle.rbc_sweep.specs.Serving.{HaveGained};
+
+use crate::Outcome;
+use crate::crew::{finish, gather, hire, serve_all};
+use crate::jobs::put_all;
+use crate::order::{in_order, put_together};
+use crate::room::{Room, room_for};
+use rbc_desk::{Desk, DeskName, Gate, Seat};
+use rbc_model::Memory;
+use std::alloc::Global;
+use std::sync::Wait;
+use std::thread::Threads;
+
+/// Serves the trains of the list, for which there is room.
+fn serve_list<L: DeskName + Send + Sync, R: Threads + Wait + Sync, G: Gate + Sync>(
+    rt: &R,
+    alloc: Global,
+    desk: &Desk<L>,
+    gate: &G,
+    seats: Vec<Seat<L>>,
+    trains: &[u32],
+    room: Room<L>,
+) -> (Vec<Seat<L>>, Vec<Outcome>)
+    requires some { 0 < vec_len seats }
+    requires few { vec_len seats ≤ 16 }
+    requires seats { room.seat_count ≡ vec_len seats }
+    requires trains { room.train_count ≡ length trains.now }
+    ensures gained { HaveGained seats.items result.0.items (granted result.1.items) }
+    ensures trains { map train_of result.1.items ≡ trains.now }
+    ensures answered { All (IsOutcome L.opened) result.1.items }
+{
+    let Room {
+        queue,
+        mut pass,
+        workers,
+        seats: back,
+        lists,
+        filled,
+        done,
+        outcomes,
+        ..
+    } = room;
+    put_all(rt, &queue, &mut pass, trains);
+    let workers = hire(&queue, &mut pass, seats, lists, workers);
+    let workers = serve_all(rt, alloc, &queue, desk, gate, workers);
+    let (seats, others) = gather(&queue, &mut pass, workers, back, filled);
+    let (seats, done) = finish(rt, alloc, &queue, desk, gate, pass, seats, done);
+    let done = put_together(done, others);
+    (seats, in_order(done, outcomes))
+}
+
+/// Serves each train of the list once.
+fn sweep_list<L: DeskName + Send + Sync, R: Threads + Wait + Sync, G: Gate + Sync>(
+    rt: &R,
+    alloc: Global,
+    desk: &Desk<L>,
+    gate: &G,
+    seats: Vec<Seat<L>>,
+    trains: &[u32],
+) -> (Vec<Seat<L>>, Result<Vec<Outcome>, Memory>)
+    requires some { 0 < vec_len seats }
+    requires few { vec_len seats ≤ 16 }
+    ensures gained { IfOk result.1 (λ outcomes. HaveGained seats.items result.0.items (granted outcomes.items)) }
+    ensures trains { IfOk result.1 (λ outcomes. map train_of outcomes.items ≡ trains.now) }
+    ensures answered { IfOk result.1 (λ outcomes. All (IsOutcome L.opened) outcomes.items) }
+    ensures refused { OnErr result.1 (result.0.items ≡ seats.items) }
+{
+    if trains.is_empty() {
+        return (seats, Ok(Vec::new(alloc)));
+    }
+    match room_for(alloc, seats.len(), trains.len()) {
+        Ok(room) => {
+            let (seats, outcomes) = serve_list(rt, alloc, desk, gate, seats, trains, room);
+            (seats, Ok(outcomes))
+        }
+        Err(fault) => (seats, Err(fault)),
+    }
+}
+
+/// Serves each train of the desk's scene once, by one worker for each of the 1 to 16 seats, and gives the seats back in
+/// their order. The outcomes stand in the trains' order of arrival.
+///
+/// # Errors
+///
+/// [`Memory`], where the allocator refuses room for the list of trains, for the queue or for the outcomes, all of which
+/// is made before the first train is served. Then no seat has a new receipt.
+pub fn sweep<L: DeskName + Send + Sync, R: Threads + Wait + Sync, G: Gate + Sync>(
+    rt: &R,
+    alloc: Global,
+    desk: &Desk<L>,
+    seats: Vec<Seat<L>>,
+    gate: &G,
+) -> (Vec<Seat<L>>, Result<Vec<Outcome>, Memory>)
+    requires { (1 ≤ vec_len seats) × (vec_len seats ≤ 16) }
+    ensures seats { AllZip AreFirst seats.items result.0.items }
+    ensures trains { IfOk result.1 (λ outcomes. AreTrainsOf L.opened (map train_of outcomes.items)) }
+    ensures answered { IfOk result.1 (λ outcomes. All (IsOutcome L.opened) outcomes.items) }
+    ensures gained { IfOk result.1 (λ outcomes.
+        IsPermutation (all_receipts seats.items ++ granted outcomes.items) (all_receipts result.0.items)) }
+    ensures refused { OnErr result.1 (result.0.items ≡ seats.items) }
+{
+    match desk.trains(rt, alloc) {
+        Ok(trains) => sweep_list(rt, alloc, desk, gate, seats, trains.as_slice()),
+        Err(fault) => (seats, Err(fault)),
+    }
+}
