@@ -1,17 +1,11 @@
 -- A train that asks: what it is shown, and what the record answers, as the reply to its line.
-use Rattle.std.proofs.Common.{◌≡◌, ◌≢◌, ℕ, zero, suc, lit<, ◌+◌, ◌-◌, ◌<◌, Bool, true, false, cond, not, List, ◌∷◌, [], ◌++◌, length, Option, Some, None, Result, Ok, Err, refl, sym, ap, ◌∙◌, subst, inl, inr, ◌⊎◌, ℤ, arith}
-use Rattle.std.specs.Prelude.{MatchBool, ◌==◌, IsTrue, codes, decimal}
+use Rattle.std.proofs.Common.{◌≡◌, ℕ, zero, suc, lit<, ◌+◌, Bool, true, false, cond, not, List, ◌∷◌, [], ◌++◌, length, Option, Some, None, Result, Ok, Err, refl, sym, ap, ◌∙◌, subst, inl, ℤ, arith}
+use Rattle.std.specs.Prelude.{MatchBool, ◌==◌, codes, decimal}
 use Rattle.std.specs.Fmt.{signed_decimal}
-use Rattle.std.specs.Cmp.{IsEquivalence}
-use Rattle.std.specs.Option.{option_map_or}
-use Rattle.rbc_model.specs.declared.memory.OrMemory.{OrMemory}
-use Rattle.rbc_model.specs.declared.memory.OrMemory.TheVariants.{Refused, Memory as NoMemory}
 use Rattle.rbc_model.specs.declared.places.Format.TheVariants.{Near}
 use Rattle.rbc_model.specs.declared.refusals.Obstacle.{Obstacle}
-use Rattle.rbc_model.specs.declared.refusals.Refusal.TheVariants.{UnknownTrain as NoSuchTrain}
 use Rattle.rbc_model.specs.declared.refusals.ViewFault.{ViewFault}
-use Rattle.rbc_model.specs.declared.refusals.ViewFault.TheVariants.{UnknownTrain, Blocked}
-use Rattle.rbc_model.specs.Answers.{RefusesOrMemory}
+use Rattle.rbc_model.specs.declared.refusals.ViewFault.TheVariants.{Blocked}
 use Rattle.rbc_model.specs.Levels.{Levels, speed_levels, grade_levels}
 use Rattle.rbc_model.specs.Profiles.{StepFunction, value_at, IsChosenProfile}
 use Rattle.rbc_model.specs.Bits.{IsBytes, bytes_of, padded_bits, field_bits}
@@ -21,11 +15,10 @@ use Rattle.rbc_model.proofs.RoundTripLemmas.{round_trip_near}
 use Rattle.rbc_model.specs.Reading.{read_message}
 use Rattle.rbc_model.specs.SoundTracks.{IsInForm, IsSound}
 use Rattle.rbc_model.specs.Tracks.{Track}
-use Rattle.rbc_model.specs.Trains.{Train}
-use Rattle.rbc_model.specs.Scenes.{Scene, train_numbered}
-use Rattle.rbc_model.specs.Views.{View, view, view_of, reach, greatest_end}
-use Rattle.rbc_model.specs.Histories.{Entry, Granted, Grants, Receipt, replay}
-use Rattle.rbc_model.specs.SessionReply.{Full, Memory, BadEvent, obstacle_words, blocked_reply, refused_reply, grant_reply}
+use Rattle.rbc_model.specs.Scenes.{Scene}
+use Rattle.rbc_model.specs.Views.{View, view}
+use Rattle.rbc_model.specs.Histories.{Entry, Granted, Receipt}
+use Rattle.rbc_model.specs.SessionReply.{Full, obstacle_words, refused_reply, grant_reply}
 use Rattle.rbc_model.specs.StepsReply.{certificate}
 use Rattle.rbc_model.specs.Kinds.{speed_kind, grade_kind}
 use Rattle.rbc_model.specs.Words.{line_of, hex_of}
@@ -43,58 +36,22 @@ use Rattle.rbc_replies.specs.Certificates.{IsBasisOf}
 use Rattle.rbc_words.specs.PriceText.{prices_of}
 use Rattle.rbc_replies.specs.Replies.{ObstacleIsOfTrack, IsWhole, grant_text}
 use Rattle.rbc_replies.specs.declared.replies.Granted.{Granted as ToldGrant}
-use Rattle.rbc_server.specs.Turns.{AnswersAuthority, AnswersAsker, IsGrantFor, IsGranted, IsRefused, IsGivenUp}
-use Rattle.rbc_server.specs.Changes.{Comes, with_added}
+use Rattle.rbc_server.specs.Turns.{AnswersAuthority, AnswersAsker, IsGrantFor, IsGranted, IsRefused}
+use Rattle.rbc_server.specs.Changes.{Comes}
 use Rattle.rbc_server.specs.Shown.{IsToldOf}
 use Rattle.rbc_server.proofs.NamingLemmas.{IsNamedIn, named_view}
 use Rattle.rbc_server.proofs.TellingLemmas.{nothing_added}
 
 -- ---- what stands in the way
 
--- a train that is there is shown an end, or what stands in its way
-shown_or_blocked : (track : Track) (scene : Scene) (train : Train) → view_of track scene train ≡ Err UnknownTrain → ⊥
-shown_or_blocked track scene train e = by_end (greatest_end track scene train) refl
-  where
-    by_end : (o : Option ℕ) → greatest_end track scene train ≡ o → ⊥
-    by_end None h = let same = rw h at e in cc
-    by_end (Some end) h = let same = rw h at e in cc
-
-pub unknown_train : (track : Track) (scene : Scene) (number : ℕ) → view track scene number ≡ Err UnknownTrain → train_numbered scene number ≡ None
-unknown_train track scene number e = by_train (train_numbered scene number) e
-  where
-    by_train : (o : Option Train) → option_map_or (view_of track scene) o (Err UnknownTrain) ≡ Err UnknownTrain → o ≡ None
-    by_train None h = refl
-    by_train (Some train) h = absurd (shown_or_blocked track scene train h)
-
 module _ (history : HistoryOnTrack) (number : ℕ) where
   abbrev Asked : List ℕ → Option Entry → Result View ViewFault → Type 0
   Asked reply added answer = AnswersAsker history.track history.entries reply added number answer
 
-  pub asked_comes : (reply : List ℕ) (added : Option Entry) (after : HistoryOnTrack) (answer : Result View ViewFault) → view history.track (scene_now history) number ≡ answer
-      → Asked reply added answer → after ≡ with_added history added
-      → Comes (λ track entries said more. AnswersAuthority track entries said more number) history reply after
-  asked_comes reply added after answer e said leads = (added, subst (Asked reply added) (sym e) said, leads)
-
-  pub unknown_comes : view history.track (scene_now history) number ≡ Err UnknownTrain
-      → Comes (λ track entries said more. AnswersAuthority track entries said more number) history (refused_reply history.track (BadEvent (NoSuchTrain number))) history
-  unknown_comes e = asked_comes (refused_reply history.track (BadEvent (NoSuchTrain number))) None history (Err UnknownTrain) e (refl, refl) (nothing_added history)
-
-  pub blocked_comes : (obstacle : Obstacle) (at : ℤ) → view history.track (scene_now history) number ≡ Err (Blocked obstacle at) → (version : ℕ) → version ≡ length history.entries
-      → Comes (λ track entries said more. AnswersAuthority track entries said more number) history (blocked_reply history.track number version at obstacle) history
-  blocked_comes obstacle at e version is =
-      asked_comes (blocked_reply history.track number version at obstacle) None history (Err (Blocked obstacle at)) e
-      (inl (ap (λ n. blocked_reply history.track number n at obstacle) is, refl)) (nothing_added history)
-
-  given_up : (answer : Result View ViewFault) → (answer ≡ Err UnknownTrain → ⊥) → Asked (refused_reply history.track Memory) None answer
-  given_up (Ok shown) there = inr (refl, refl)
-  given_up (Err (Blocked obstacle at)) there = inr (refl, refl)
-  given_up (Err UnknownTrain) there = absurd (there refl)
-
-  pub given_up_comes : (train_numbered (scene_now history) number ≡ None → ⊥)
-      → Comes (λ track entries said more. AnswersAuthority track entries said more number) history (refused_reply history.track Memory) history
-  given_up_comes there =
-      asked_comes (refused_reply history.track Memory) None history (view history.track (scene_now history) number) refl
-      (given_up (view history.track (scene_now history) number) (λ e. there (unknown_train history.track (scene_now history) number e))) (nothing_added history)
+  -- what a train that asks is answered, by what it is shown
+  pub asked_answers : (reply : List ℕ) (added : Option Entry) (answer : Result View ViewFault) → view history.track (scene_now history) number ≡ answer
+      → Asked reply added answer → AnswersAuthority history.track history.entries reply added number
+  asked_answers reply added answer e said = subst (Asked reply added) (sym e) said
 
   pub blocked_named : (obstacle : Obstacle) (at : ℤ) → IsSound history.track → view history.track (scene_now history) number ≡ Err (Blocked obstacle at) → ObstacleIsOfTrack history.track obstacle
   blocked_named obstacle at sound e = subst (IsNamedIn history.track) e (named_view history.track (scene_now history) number (good_replay history.track history.entries sound))
@@ -105,25 +62,23 @@ module _ (history : HistoryOnTrack) (number : ℕ) where
   -- ---- a train that is shown an end
 
   module _ (shown : View) (e : view history.track (scene_now history) number ≡ Ok shown) where
-    pub shown_given_up : (after : HistoryOnTrack) → after ≡ history → Comes (λ track entries said more. AnswersAuthority track entries said more number) history (refused_reply history.track Memory) after
-    shown_given_up after same = asked_comes (refused_reply history.track Memory) None after (Ok shown) e (inr (refl, refl)) (same ∙ nothing_added history)
-
     full_said : (full : Bool) → full ≡ true
         → MatchBool full (IsRefused history.track history.entries (refused_reply history.track Full) None Full) (IsGranted history.track history.entries (refused_reply history.track Full) None number shown)
     full_said true h = (refl, refl)
     full_said false h = absurd (let c : ⊥ = cc in c)
 
     pub shown_full : (after : HistoryOnTrack) → after ≡ history → is_full history ≡ true → Comes (λ track entries said more. AnswersAuthority track entries said more number) history (refused_reply history.track Full) after
-    shown_full after same full = asked_comes (refused_reply history.track Full) None after (Ok shown) e (inl (full_said (is_full history) full)) (same ∙ nothing_added history)
+    shown_full after same full =
+        (None, asked_answers (refused_reply history.track Full) None (Ok shown) e (inl (full_said (is_full history) full)), same ∙ nothing_added history)
 
     granted_said : (full : Bool) (reply : List ℕ) (added : Option Entry) → full ≡ false → IsGranted history.track history.entries reply added number shown
         → MatchBool full (IsRefused history.track history.entries reply added Full) (IsGranted history.track history.entries reply added number shown)
     granted_said true reply added h said = absurd (let c : ⊥ = cc in c)
     granted_said false reply added h said = said
 
-    pub shown_granted : (reply : List ℕ) (added : Option Entry) (after : HistoryOnTrack) → is_full history ≡ false → IsGranted history.track history.entries reply added number shown → after ≡ with_added history added
-        → Comes (λ track entries said more. AnswersAuthority track entries said more number) history reply after
-    shown_granted reply added after free said leads = asked_comes reply added after (Ok shown) e (inl (granted_said (is_full history) reply added free said)) leads
+    pub shown_granted : (reply : List ℕ) (added : Option Entry) → is_full history ≡ false → IsGranted history.track history.entries reply added number shown
+        → AnswersAuthority history.track history.entries reply added number
+    shown_granted reply added free said = asked_answers reply added (Ok shown) e (inl (granted_said (is_full history) reply added free said))
 
 -- ---- what the record answers to a candidate of its own view, at its version
 
@@ -246,20 +201,30 @@ module _ (track : Track) (candidate : Candidate) (count : ℕ) (granted : ToldGr
         }
 
 -- the train is granted what the candidate is, and the reply tells it
+pub granted_answers : (history : HistoryOnTrack) (candidate : Candidate) (place : ℕ) (granted : ToldGrant)
+    → is_full history ≡ false → place ≡ length history.entries → IsToldOf candidate (place + 1) granted
+    → IsCandidateOf candidate.view candidate.grant → HasChosenProfiles candidate.view candidate.grant → IsInForm history.track → history.track.format ≡ Near
+    → view history.track (scene_now history) candidate.view.train ≡ Ok candidate.view
+    → AnswersAuthority history.track history.entries (grant_text history.track granted) (Some (Granted candidate.grant)) candidate.view.train
+granted_answers history candidate place granted free at is best chosen form near e =
+    shown_granted history candidate.view.train candidate.view e (grant_text history.track granted) (Some (Granted candidate.grant)) free (
+      candidate.grant,
+      prices_of granted.speeds.prices.now,
+      prices_of granted.grades.prices.now,
+      told_grant history.track candidate (place + 1) granted is best chosen (scene_now history) form near e,
+      told_text history.track candidate (place + 1) granted is
+          ∙ ap (λ n. grant_reply history.track (n + 1) candidate.view candidate.grant (prices_of granted.speeds.prices.now) (prices_of granted.grades.prices.now)) at,
+      refl,
+    )
+
 pub granted_comes : (history after : HistoryOnTrack) (candidate : Candidate) (receipt : Receipt) (place : ℕ) (granted : ToldGrant)
     → EntersOrMemory {E = CommitFault} (Ok receipt) history after (entry_granted history candidate) → place ≡ receipt.place → IsToldOf candidate (place + 1) granted
     → IsCandidateOf candidate.view candidate.grant → HasChosenProfiles candidate.view candidate.grant → IsInForm history.track → history.track.format ≡ Near
     → view history.track (scene_now history) candidate.view.train ≡ Ok candidate.view
     → Comes (λ track entries said more. AnswersAuthority track entries said more candidate.view.train) history (grant_text history.track granted) after
 granted_comes history after candidate receipt place granted enters at is best chosen form near e =
-    let entry = grant_entered history candidate receipt.entry enters.0 in
-    shown_granted history candidate.view.train candidate.view e (grant_text history.track granted) (Some (Granted candidate.grant)) after entry.0 (
-      candidate.grant,
-      prices_of granted.speeds.prices.now,
-      prices_of granted.grades.prices.now,
-      told_grant history.track candidate (place + 1) granted is best chosen (scene_now history) form near e,
-      told_text history.track candidate (place + 1) granted is
-          ∙ ap (λ n. grant_reply history.track (n + 1) candidate.view candidate.grant (prices_of granted.speeds.prices.now) (prices_of granted.grades.prices.now)) (at ∙ enters.1),
-      refl,
+    let entry = grant_entered history candidate receipt.entry enters.0 in (
+      Some (Granted candidate.grant),
+      granted_answers history candidate place granted entry.0 (at ∙ enters.1) is best chosen form near e,
+      enters.2 ∙ ap (with_entry history) (sym entry.1),
     )
-    (enters.2 ∙ ap (with_entry history) (sym entry.1))

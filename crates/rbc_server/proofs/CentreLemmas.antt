@@ -1,21 +1,15 @@
 -- A line: what its demand comes to is what it comes to.
-use Rattle.std.proofs.Common.{◌≡◌, ℕ, ◌<◌, List, length, Option, None, Result, Ok, Err, refl, sym, ap, ◌∙◌, subst}
-use Rattle.std.proofs.lemmas.Bool.{lt-ltb}
-use Rattle.std.specs.Result.{result_map_both}
-use Rattle.rbc_model.specs.declared.limits.TheConstants.{LONGEST_LINE}
-use Rattle.rbc_model.specs.declared.refusals.LineFault.TheVariants.{Overlong}
-use Rattle.rbc_model.specs.Results.{◌>>=◌}
+use Rattle.std.proofs.Common.{◌≡◌, ℕ, List, Option, None, Result, Ok, Err, refl, sym, ap, ◌∙◌, subst}
 use Rattle.rbc_model.specs.Tracks.{Track}
 use Rattle.rbc_model.specs.Histories.{Entry}
-use Rattle.rbc_model.specs.SessionText.{parse_session}
-use Rattle.rbc_model.specs.SessionReply.{SessionRefusal, BadLine, refused_reply}
+use Rattle.rbc_model.specs.SessionReply.{SessionRefusal, refused_reply}
 use Rattle.rbc_record.specs.Records.{HistoryOnTrack}
 use Rattle.rbc_replies.specs.Replies.{reply_text}
 use Rattle.rbc_replies.specs.declared.replies.SessionReply.{SessionReply}
 use Rattle.rbc_server.specs.declared.demand.Demand.{Demand}
-use Rattle.rbc_server.specs.Demands.{demand_in, looked_up}
-use Rattle.rbc_server.specs.Turns.{AnswersDemand, AnswersLine}
-use Rattle.rbc_server.specs.Changes.{Comes, Goes, with_added}
+use Rattle.rbc_server.specs.Demands.{demand_in}
+use Rattle.rbc_server.specs.Turns.{AnswersDemand}
+use Rattle.rbc_server.specs.Changes.{Comes, Goes}
 use Rattle.rbc_server.proofs.TellingLemmas.{nothing_added}
 
 -- the reply is printed with the names of the track, which stays

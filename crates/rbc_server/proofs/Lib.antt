@@ -1,5 +1,10 @@
 pub mod AskingLemmas
 pub mod CentreLemmas
 pub mod NamingLemmas
+pub mod SeatLemmas
+pub mod SeatSessionLemmas
 pub mod SessionLemmas
 pub mod TellingLemmas
+pub mod ConnectionLemmas
+pub mod OutcomeLemmas
+pub mod ServingLemmas

@@ -1,6 +1,6 @@
 -- The sections that an obstacle or a refusal names are the track's.
-use Rattle.std.proofs.Common.{◌≡◌, ℕ, zero, suc, ◌+◌, ◌-◌, ◌<◌, Bool, true, false, cond, ◌&&◌, not, List, [], ◌∷◌, map, take, length, Option, Some, None, unwrap_or, Result, Ok, Err, refl, subst, sym, ap}
-use Rattle.std.specs.Prelude.{option_map, option_and_then, find, filter_map, is_some, is_none, slice_get, slice_set, fold, nat_lt, nat_le, ◌==◌, if◌then◌else◌}
+use Rattle.std.proofs.Common.{◌≡◌, ℕ, ◌+◌, ◌-◌, ◌<◌, Bool, true, false, cond, ◌&&◌, not, List, [], ◌∷◌, map, take, length, Option, Some, None, unwrap_or, Result, Ok, Err, refl, subst}
+use Rattle.std.specs.Prelude.{option_map, option_and_then, find, filter_map, is_some, slice_get, slice_set, fold, nat_lt, nat_le, ◌==◌, if◌then◌else◌}
 use Rattle.std.specs.Option.{option_map_or, option_or}
 use Rattle.std.specs.Result.{result_map_both}
 use Rattle.std.specs.List.{AllByRecursion, list_all, list_any}
@@ -10,7 +10,7 @@ use Rattle.rbc_model.specs.declared.places.Leg.{Leg}
 use Rattle.rbc_model.specs.declared.refusals.Obstacle.{Obstacle}
 use Rattle.rbc_model.specs.declared.refusals.Obstacle.TheVariants.{NoLink, NotLocked as NotLockedAhead, Own, Occupied, Held, Limit}
 use Rattle.rbc_model.specs.declared.refusals.Refusal.{Refusal}
-use Rattle.rbc_model.specs.declared.refusals.Refusal.TheVariants.{Crowded, UnknownGroup, Offline, Unplaced, TooFar, Clash, LinkTaken, NotLocked, Busy, UnknownTrain, YieldRange, NotSafe}
+use Rattle.rbc_model.specs.declared.refusals.Refusal.TheVariants.{Crowded, UnknownGroup, Offline, Unplaced, TooFar, Clash, LinkTaken, NotLocked, Busy, UnknownTrain, YieldRange}
 use Rattle.rbc_model.specs.declared.refusals.ViewFault.{ViewFault}
 use Rattle.rbc_model.specs.declared.refusals.ViewFault.TheVariants.{UnknownTrain as NoSuchTrain, Blocked}
 use Rattle.rbc_model.specs.declared.reports.Told.{Told}
@@ -22,16 +22,16 @@ use Rattle.rbc_model.specs.declared.tracks.BaliseGroup.{BaliseGroup}
 use Rattle.rbc_model.specs.Tracks.{Track, Route, group_named, is_linked, leg_eq, metres_of}
 use Rattle.rbc_model.specs.SoundTracks.{IsSound, is_leg_of, is_good_route, is_good_entry, but_last}
 use Rattle.rbc_model.specs.Lines.{Line, last_leg, legs_begun_before, speeds, grades}
-use Rattle.rbc_model.specs.Locks.{Locks, row, next, clash, taken_link, needed_rows, with_leg_before, locked, freed, with_row}
+use Rattle.rbc_model.specs.Locks.{Locks, row, next, clash, taken_link, needed_rows, with_leg_before, freed, with_row}
 use Rattle.rbc_model.specs.Trains.{Train}
 use Rattle.rbc_model.specs.Scenes.{Scene, train_numbered}
-use Rattle.rbc_model.specs.Placing.{place, reported, placed_on, Placed, located, covered, leg_told, without_legs_behind}
-use Rattle.rbc_model.specs.Obstacles.{obstacle, obstacle_on, first_some, no_link, not_locked, own, occupied, held, limit, unlocked_section, is_locked, first_with, way}
+use Rattle.rbc_model.specs.Placing.{place, placed_on, Placed, located, covered, leg_told, without_legs_behind}
+use Rattle.rbc_model.specs.Obstacles.{obstacle, obstacle_on, no_link, not_locked, own, occupied, held, limit, unlocked_section, is_locked, way}
 use Rattle.rbc_model.specs.Views.{View, view, view_of, reach, stop, greatest_end, from_group, start_of}
-use Rattle.rbc_model.specs.Events.{step, after_report, after_lock, after_free, after_leave, after_give_back, with_locks, with_train, without_train, cut_at, stands_on}
+use Rattle.rbc_model.specs.Events.{step, after_report, after_lock, after_free, after_give_back, with_locks, with_train, without_train, cut_at, stands_on}
 use Rattle.rbc_scene_laws.specs.Good.{IsGoodScene, IsGoodTrain}
 use Rattle.rbc_scene_laws.proofs.BasicLemmas.{and_left, and_right}
-use Rattle.rbc_scene_laws.proofs.OnLineLemmas.{OnLine, OnLine-IsLine}
+use Rattle.rbc_scene_laws.proofs.OnLineLemmas.{OnLine-IsLine}
 use Rattle.rbc_scene_laws.proofs.LengtheningLemmas.{ahead_fully, linked_from_below}
 use Rattle.rbc_scene_laws.proofs.LockingLemmas.{all_got, good_route}
 use Rattle.rbc_scene_laws.proofs.TrainListLemmas.{find-holds}

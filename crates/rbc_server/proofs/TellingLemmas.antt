@@ -1,5 +1,5 @@
 -- What is told: the record's answer as the reply to its line.
-use Rattle.std.proofs.Common.{◌≡◌, ℕ, ◌+◌, Bool, true, false, cond, List, ◌∷◌, [], ◌++◌, length, Option, Some, None, Result, Ok, Err, refl, sym, ap, ◌∙◌, subst, append-nil, inl, inr, ◌⊎◌}
+use Rattle.std.proofs.Common.{◌≡◌, ℕ, ◌+◌, Bool, true, false, cond, List, length, Option, Some, None, Result, Ok, Err, refl, sym, ap, ◌∙◌, subst, append-nil, inl, inr, ◌⊎◌}
 use Rattle.std.specs.Prelude.{MatchBool, MatchResult}
 use Rattle.std.specs.Result.{result_map_both}
 use Rattle.rbc_model.specs.declared.memory.OrMemory.{OrMemory}
@@ -16,7 +16,7 @@ use Rattle.rbc_model.specs.SessionReply.{Full, BadEvent, accepted_reply, refused
 use Rattle.rbc_record.specs.declared.faults.ApplyFault.{ApplyFault}
 use Rattle.rbc_record.specs.declared.faults.ApplyFault.TheVariants.{Full as FullToTold, Refused as RefusedByScene}
 use Rattle.rbc_record.specs.Entering.{EntersOrMemory, entry_told}
-use Rattle.rbc_record.specs.Records.{HistoryOnTrack, scene_now, is_full, with_entry}
+use Rattle.rbc_record.specs.Records.{HistoryOnTrack, scene_now, is_full}
 use Rattle.rbc_replies.specs.Replies.{refusal_view, RefusalIsOfTrack, EventIsOfTrack}
 use Rattle.rbc_server.specs.Demands.{IsToldOfTrack}
 use Rattle.rbc_server.specs.Turns.{AnswersEvent, IsRefused, IsGivenUp, IsAccepted}
@@ -47,14 +47,24 @@ module _ (history : HistoryOnTrack) (told : Told) where
   accepted false (Ok after) entry e = (let same : Heard told ≡ entry = cc in same, inl (refl, refl))
   accepted false (Err refusal) entry e = absurd (let c : ⊥ = cc in c)
 
+  free_for : (full : Bool) (stepped : Result Scene Refusal) (entry : Entry) → entering full stepped ≡ Ok entry → full ≡ false
+  free_for true stepped entry e = absurd (let c : ⊥ = cc in c)
+  free_for false stepped entry e = refl
+
+  pub entered_free : (entry : Entry) → entry_told history told ≡ Ok entry → is_full history ≡ false
+  entered_free entry e = free_for (is_full history) (step history.track (scene_now history) (Tell told)) entry e
+
+  -- what is told is accepted, and the receipt is for it
+  pub told_answers : (receipt : Receipt) (place : ℕ) → entry_told history told ≡ Ok receipt.entry → receipt.place ≡ length history.entries → place ≡ receipt.place
+      → AnswersEvent history.track history.entries (accepted_reply (place + 1)) (Some receipt.entry) told
+  told_answers receipt place entered next at =
+      let is = accepted (is_full history) (step history.track (scene_now history) (Tell told)) receipt.entry entered in
+      subst (λ entry. AnswersEvent history.track history.entries (accepted_reply (place + 1)) (Some entry) told) is.0
+      (subst (λ n. AnswersEvent history.track history.entries (accepted_reply (n + 1)) (Some (Heard told)) told) (sym (at ∙ next)) is.1)
+
   pub told_comes : (receipt : Receipt) (after : HistoryOnTrack) (place : ℕ) → EntersOrMemory {E = ApplyFault} (Ok receipt) history after (entry_told history told) → place ≡ receipt.place
       → Comes (λ track entries reply added. AnswersEvent track entries reply added told) history (accepted_reply (place + 1)) after
-  told_comes receipt after place entered at =
-      let is = accepted (is_full history) (step history.track (scene_now history) (Tell told)) receipt.entry entered.0 in (
-        Some (Heard told),
-        subst (λ n. AnswersEvent history.track history.entries (accepted_reply (n + 1)) (Some (Heard told)) told) (sym (at ∙ entered.1)) is.1,
-        entered.2 ∙ ap (with_entry history) (sym is.0),
-      )
+  told_comes receipt after place entered at = (Some receipt.entry, told_answers receipt place entered.0 entered.1 at, entered.2)
 
   abbrev not_told : OrMemory ApplyFault → List ℕ
   not_told fault = refused_reply history.track (refusal_view (told_refusal fault))
@@ -69,10 +79,10 @@ module _ (history : HistoryOnTrack) (told : Told) where
   given_up false stepped e = inr (refl, refl)
 
   -- the definition's refusal, or memory, which is refused only where the history is not full
-  pub not_told_comes : (fault : OrMemory ApplyFault) (after : HistoryOnTrack) → EntersOrMemory (Err fault) history after (entry_told history told) → (fault ≡ NoMemory → is_full history ≡ false)
-      → Comes (λ track entries reply added. AnswersEvent track entries reply added told) history (not_told fault) after
-  not_told_comes (Refused fault) after entered free = (None, refused_so (is_full history) (step history.track (scene_now history) (Tell told)) fault entered.0, entered.1 ∙ nothing_added history)
-  not_told_comes NoMemory after entered free = (None, given_up (is_full history) (step history.track (scene_now history) (Tell told)) (free refl), entered.1 ∙ nothing_added history)
+  pub not_told_answers : (fault : OrMemory ApplyFault) → RefusesOrMemory fault (entry_told history told) → (fault ≡ NoMemory → is_full history ≡ false)
+      → AnswersEvent history.track history.entries (not_told fault) None told
+  not_told_answers (Refused fault) answered free = refused_so (is_full history) (step history.track (scene_now history) (Tell told)) fault answered
+  not_told_answers NoMemory answered free = given_up (is_full history) (step history.track (scene_now history) (Tell told)) (free refl)
 
   refusal_named : (full : Bool) (stepped : Result Scene Refusal) (refusal : Refusal) → RefusalIsNamed history.track stepped → entering full stepped ≡ Err (RefusedByScene refusal) → EventIsOfTrack history.track refusal
   refusal_named true stepped refusal named e = absurd (let c : ⊥ = cc in c)

@@ -1,7 +1,8 @@
 -- What the program tells of what it grants and refuses, as the definitions have it.
-use Rattle.std.specs.Prelude.{◌≡◌, ℕ, Ok}
+use Rattle.std.specs.Prelude.{◌≡◌, ℕ, Option, Some, None, Result, Ok, Err}
 use Rattle.rbc_model.specs.declared.memory.OrMemory.{OrMemory}
 use Rattle.rbc_model.specs.declared.memory.OrMemory.TheVariants.{Refused, Memory as NoMemory}
+use Rattle.rbc_model.specs.Histories.{Entry}
 use Rattle.rbc_model.specs.Levels.{speed_levels, grade_levels}
 use Rattle.rbc_model.specs.Messages.{message_bytes}
 use Rattle.rbc_model.specs.Reading.{read_message}
@@ -12,6 +13,8 @@ use Rattle.rbc_reach.specs.Forms.{metres_shown}
 use Rattle.rbc_grant.specs.Candidates.{Candidate}
 use Rattle.rbc_record.specs.declared.faults.ApplyFault.{ApplyFault}
 use Rattle.rbc_record.specs.declared.faults.ApplyFault.TheVariants.{Full as FullToTold, Refused as RefusedByScene}
+use Rattle.rbc_desk.specs.declared.faults.AskFault.{AskFault}
+use Rattle.rbc_desk.specs.declared.granted.Granted.{Granted as GrantedAtDesk}
 use Rattle.rbc_words.specs.PriceText.{prices_of}
 use Rattle.rbc_replies.specs.declared.replies.Granted.{Granted}
 use Rattle.rbc_replies.specs.declared.replies.SessionRefusal.{SessionRefusal}
@@ -38,3 +41,8 @@ pub record IsToldOf (candidate : Candidate) (count : ℕ) (granted : Granted) : 
   pub grade_steps : granted.grades.limit ≡ candidate.view.grade_steps
   pub grades : granted.grades.track.now ≡ record { steps = candidate.view.grades; end = metres_shown candidate.view }
   pub grade_prices : IsGreatestSoundTable grade_levels (unit_of candidate.grant.authority.end) candidate.view.grade_steps candidate.grant.authority.end candidate.view.grades (prices_of granted.grades.prices.now)
+
+-- the entry of what a train is granted at a desk
+abbrev pub entry_granted_in : Result GrantedAtDesk (OrMemory AskFault) → Option Entry
+entry_granted_in (Ok granted) = Some granted.receipt.entry
+entry_granted_in (Err fault) = None

@@ -114,7 +114,7 @@ fn commit<'a>(alloc: Global, history: &mut Record, candidate: &'a Candidate) -> 
     let _end = history.track().farthest_end();
     let _version = history.version();
     match history.commit(alloc, candidate) {
-        Ok(receipt) => SessionReply::Granted(granted(candidate, receipt.place() + 1)),
+        Ok(receipt) => SessionReply::Granted(told_of(candidate, receipt.place() + 1)),
         Err(OrMemory::Refused(CommitFault::Full)) => SessionReply::Refused(SessionRefusal::Full),
         Err(OrMemory::Memory) => SessionReply::Refused(SessionRefusal::Memory),
         // The candidate is of the history's version, and of its own view.
@@ -124,7 +124,7 @@ fn commit<'a>(alloc: Global, history: &mut Record, candidate: &'a Candidate) -> 
 }
 
 /// What is told of a candidate that is granted, where the history has so many entries with it.
-fn granted(candidate: &Candidate, version: u64) -> Granted<'_>
+pub(crate) fn told_of(candidate: &Candidate, version: u64) -> Granted<'_>
     ensures told { IsToldOf candidate.now version result }
     ensures best { IsCandidateOf candidate.now.view candidate.now.grant }
     ensures chosen { HasChosenProfiles candidate.now.view candidate.now.grant }

@@ -3,10 +3,16 @@
 
 mod asking;
 mod centre;
+mod connections;
+mod counter;
 mod demand;
-mod session;
+mod ends;
+mod outcomes;
+mod serving;
+mod sessions;
 mod telling;
 
 pub use demand::Demand;
 pub use rbc_session::SessionFault;
-pub use session::run;
+pub use serving::{ServeFault, serve};
+pub use sessions::{run, session};

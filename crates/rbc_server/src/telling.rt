@@ -28,7 +28,7 @@ pub(crate) fn tell(alloc: Global, history: &mut Record, told: &Told) -> SessionR
 }
 
 /// Why the record does not take what is told.
-fn refusal_of(fault: OrMemory<ApplyFault>) -> SessionRefusal
+pub(crate) fn refusal_of(fault: OrMemory<ApplyFault>) -> SessionRefusal
     ensures { result ≡ told_refusal fault }
 {
     match fault {

@@ -18,13 +18,13 @@ unreachable-requires-in-Err-Refused-Foreign c =
 pub returns-in-Ok-clause-comes : goal.returns-in-Ok-clause-comes
 returns-in-Ok-clause-comes c =
     let near = subst (λ (t : Track). t.format ≡ Near) (c.deref-2.ensures ∙ c.track-2.ensures) c.farthest_end-end.ensures.near in
-    granted_comes c.args.history.now c.commit.new.self c.args.candidate.now c.in-Ok.receipt c.place.result c.granted.result
-    c.in-Ok.ensures.entered c.place.ensures c.granted.ensures.told c.granted.ensures.best c.granted.ensures.chosen c.version-version.ensures.form near c.requires.shown
+    granted_comes c.args.history.now c.commit.new.self c.args.candidate.now c.in-Ok.receipt c.place.result c.told_of.result
+    c.in-Ok.ensures.entered c.place.ensures c.told_of.ensures.told c.told_of.ensures.best c.told_of.ensures.chosen c.version-version.ensures.form near c.requires.shown
 
 pub returns-in-Ok-clause-whole : goal.returns-in-Ok-clause-whole
 returns-in-Ok-clause-whole c =
     let sound = subst IsSound (c.deref.ensures ∙ c.track.ensures) c.section_count-sections.ensures.sound in
-    told_whole c.args.history.now.track c.args.candidate.now (c.place.result + 1) c.granted.result c.granted.ensures.told c.granted.ensures.best c.granted.ensures.chosen
+    told_whole c.args.history.now.track c.args.candidate.now (c.place.result + 1) c.told_of.result c.told_of.ensures.told c.told_of.ensures.best c.told_of.ensures.chosen
     (shown_named c.args.history.now c.args.candidate.now.view.train c.args.candidate.now.view sound c.requires.shown)
 
 pub returns-in-Err-Refused-Full-clause-comes : goal.returns-in-Err-Refused-Full-clause-comes

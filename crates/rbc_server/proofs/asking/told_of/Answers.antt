@@ -3,7 +3,7 @@ use Rattle.std.proofs.lemmas.Int.{to_z-of_z}
 use Rattle.rbc_model.specs.Views.{View}
 use Rattle.rbc_reach.specs.Forms.{metres_shown}
 use Rattle.rbc_server.proofs.AskingLemmas.{reads_back}
-use Rattle.rbc_server.proofs.asking.granted.Goals as goal
+use Rattle.rbc_server.proofs.asking.told_of.Goals as goal
 
 pub returns-clause-told : goal.returns-clause-told
 returns-clause-told c =

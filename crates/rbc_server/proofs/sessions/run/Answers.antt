@@ -1,5 +1,5 @@
 use Rattle.rbc_server.proofs.SessionLemmas.{session_track, session_turns}
-use Rattle.rbc_server.proofs.session.run.Goals as goal
+use Rattle.rbc_server.proofs.sessions.run.Goals as goal
 
 pub returns-clause-track : goal.returns-clause-track
 returns-clause-track g c = session_track _ _ _ _ _ _ c.converse.ensures.talk.2

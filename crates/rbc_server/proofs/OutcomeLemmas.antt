@@ -1,0 +1,62 @@
+-- Outcomes of a sweep that are told one behind another.
+use Rattle.std.proofs.Common.{◌≡◌, ℕ, suc, ◌<◌, ◌≤◌, ◌+◌, List, [], ◌∷◌, ◌++◌, Result, Ok, Err, refl, sym, ap, ◌∙◌, subst, drop, drop-cons, get_or, length, add-one, arith}
+use Rattle.std.specs.Prelude.{All, OnOk}
+use Rattle.std.proofs.lemmas.List.{at_drop_all}
+use Rattle.std.proofs.lemmas.List.Elements.{All-weaker}
+use Rattle.rbc_model.specs.SoundTracks.{IsSound}
+use Rattle.rbc_model.specs.Tracks.{Track}
+use Rattle.rbc_model.specs.Histories.{Entry, replay}
+use Rattle.rbc_model.specs.Views.{view}
+use Rattle.rbc_record.specs.declared.limits.TheConstants.{MOST_ENTRIES}
+use Rattle.rbc_record.specs.Records.{HistoryOnTrack, history_on}
+use Rattle.rbc_desk.specs.Asking.{IsAnswered, IsAnsweredAt}
+use Rattle.rbc_desk.specs.declared.granted.Granted.{Granted as Grant}
+use Rattle.rbc_replies.specs.Replies.{ObstacleIsOfTrack}
+use Rattle.rbc_sweep.specs.Outcomes.{IsOutcome, asked}
+use Rattle.rbc_sweep.specs.declared.outcome.Answer.{Answer}
+use Rattle.rbc_sweep.specs.declared.outcome.Answer.TheVariants.{Granted, Blocked, Gone, Full, Memory}
+use Rattle.rbc_sweep.specs.declared.outcome.Outcome.{Outcome}
+use Rattle.rbc_server.specs.Serving.{TellsAll, TellsOutcome, IsTellable, AnswerIsTellable}
+use Rattle.rbc_server.proofs.AskingLemmas.{shown_named}
+use Rattle.rbc_server.proofs.SeatLemmas.{below_most, seen, asked_blocked_named}
+
+-- the first of the outcomes that are left is told, and then those behind it
+pub tells_next : (track : Track) (outcomes : List Outcome) (index : ℕ) (outcome : Outcome) → index < length outcomes → outcome ≡ get_or outcomes index outcome
+    → (text more : List ℕ) → TellsOutcome track outcome text → TellsAll track (drop (index + 1) outcomes) more → TellsAll track (drop index outcomes) (text ++ more)
+tells_next track outcomes index outcome inside same text more told rest =
+    let left : drop index outcomes ≡ outcome ∷ drop (index + 1) outcomes =
+    drop-cons outcomes index outcome inside
+    ∙ ap (λ o. o ∷ drop (suc index) outcomes) (sym same)
+    ∙ ap (λ i. outcome ∷ drop i outcomes) (sym (add-one index)) in
+    subst (λ os. TellsAll track os (text ++ more)) (sym left) (text, more, told, rest, refl)
+
+-- where no outcome is left, nothing is told
+pub tells_end : (track : Track) (outcomes : List Outcome) (index : ℕ) → length outcomes ≤ index → TellsAll track (drop index outcomes) []
+tells_end track outcomes index past = subst (λ os. TellsAll track os []) (sym (at_drop_all (λ os. os) outcomes index past)) refl
+
+pub on_ok : {T E : Type 0} (r : Result T E) (P : Type 0) → P → OnOk r P
+on_ok (Ok x) P p = p
+on_ok (Err e) P p = tt
+
+-- ---- what the desk answers can be told with the track's names
+
+grant_is_tellable : (track : Track) (entries : List Entry) (train : ℕ) (grant : Grant) → IsSound track → IsAnswered (history_on track entries) train (Ok grant)
+    → ObstacleIsOfTrack track grant.candidate.view.obstacle × (grant.receipt.place < MOST_ENTRIES)
+grant_is_tellable track entries train grant sound is = (
+  shown_named (history_on track entries) train grant.candidate.view sound (seen (view track (replay track entries) train) (length entries) grant.candidate.view is.1),
+  (let below = below_most (length entries) is.0 in omega (arith, is.2)),
+)
+
+answer_is_tellable : (opened : HistoryOnTrack) (train : ℕ) (answer : Answer) → IsSound opened.track → IsAnsweredAt opened train (asked answer) → AnswerIsTellable opened.track answer
+answer_is_tellable opened train (Granted grant) sound (history, of_desk, is) =
+    grant_is_tellable opened.track history.entries train grant sound (subst (λ t. IsAnswered (history_on t history.entries) train (Ok grant)) of_desk.track is)
+answer_is_tellable opened train (Blocked obstacle at version) sound (history, of_desk, is) =
+    asked_blocked_named opened.track history.entries train obstacle at version sound
+    (subst (λ t. IsAnswered (history_on t history.entries) train (asked (Blocked obstacle at version))) of_desk.track is)
+answer_is_tellable opened train Gone sound answered = tt
+answer_is_tellable opened train Full sound answered = tt
+answer_is_tellable opened train Memory sound answered = tt
+
+pub all_tellable : (opened : HistoryOnTrack) (outcomes : List Outcome) → IsSound opened.track → All (IsOutcome opened) outcomes → All (IsTellable opened.track) outcomes
+all_tellable opened outcomes sound answered =
+    All-weaker (IsOutcome opened) (IsTellable opened.track) (λ outcome is. answer_is_tellable opened outcome.train outcome.answer sound is.0) outcomes answered

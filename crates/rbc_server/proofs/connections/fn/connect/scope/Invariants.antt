@@ -1,0 +1,11 @@
+use Rattle.std.proofs.Common.{◌≡◌, ◌+◌, ◌≤◌, ◌++◌, None, map, length}
+use Rattle.std.specs.Prelude.{vec_capacity}
+use Rattle.std.specs.Vec.Iter.{into_iter_items}
+use Rattle.rbc_server.proofs.connections.fn.connect.scope.Given as goal
+
+-- As long as no fault came, each of the seats so far went to a thread that keeps its receipts. There is room for a handle for each seat.
+abbrev pub invariant-loop-seat : goal.invariant-loop-seat
+invariant-loop-seat g l =
+    (l.fault ≡ None → map (λ h. h.promise.0.value) l.handles.items ++ into_iter_items l.seat-iterator ≡ into_iter_items l.initial.seat-iterator)
+    × (length l.handles.items + length (into_iter_items l.seat-iterator) ≤ length (into_iter_items l.initial.seat-iterator))
+    × (vec_capacity l.handles ≡ vec_capacity l.initial.handles)

@@ -1,0 +1,102 @@
+-- What a centre that serves connections prints at the end, and what comes of it.
+use Rattle.std.specs.Prelude.{◌≡◌, ℕ, ◌+◌, ◌<◌, List, [], ◌∷◌, ◌++◌, length, map, codes, decimal, All, IsPermutation, Option}
+use Rattle.std.specs.List.{AllZip}
+use Rattle.std.specs.Io.KnownBytes.{Appends}
+use Rattle.rbc_model.specs.Levels.{speed_levels, grade_levels}
+use Rattle.rbc_model.specs.Histories.{Receipt, Matches}
+use Rattle.rbc_model.specs.PriceTables.{IsGreatestSoundTable}
+use Rattle.rbc_model.specs.Scales.{unit_of}
+use Rattle.rbc_model.specs.SessionReply.{grant_reply, blocked_reply, refused_reply, Full as HistoryIsFull, Memory as NoMemory}
+use Rattle.rbc_model.specs.Tracks.{Track}
+use Rattle.rbc_model.specs.Words.{line_of}
+use Rattle.rbc_record.specs.Records.{HistoryOnTrack}
+use Rattle.rbc_record.specs.declared.limits.TheConstants.{MOST_ENTRIES}
+use Rattle.rbc_desk.specs.Closing.{all_receipts, IsUnmatched}
+use Rattle.rbc_desk.specs.declared.granted.Granted.{Granted as Grant}
+use Rattle.rbc_replies.specs.Replies.{ObstacleIsOfTrack}
+use Rattle.rbc_desk.specs.Trains.{AreTrainsOf}
+use Rattle.rbc_sweep.specs.Outcomes.{AreFirst, IsOutcome, granted, train_of}
+use Rattle.rbc_sweep.specs.declared.outcome.Answer.{Answer}
+use Rattle.rbc_sweep.specs.declared.outcome.Answer.TheVariants.{Granted, Blocked, Gone, Full, Memory}
+use Rattle.rbc_sweep.specs.declared.outcome.Outcome.{Outcome}
+use Rattle.rbc_server.specs.declared.connections.ConnectFault.{ConnectFault}
+use Rattle.rbc_server.specs.declared.connections.ConnectFault.TheVariants.{Port as NoConnection, Memory as NoThread}
+use Rattle.rbc_server.specs.declared.serving.ServeFault.{ServeFault}
+use Rattle.rbc_server.specs.declared.serving.ServeFault.TheVariants.{Port, Memory as NoServeMemory, Close}
+
+-- ---- what is printed
+
+-- a train that has left
+abbrev pub gone_line : ℕ → List ℕ
+gone_line train = line_of (codes "gone" ∷ decimal train ∷ [])
+
+-- the last line: how many entries the history has
+abbrev pub closed_line : ℕ → List ℕ
+closed_line count = line_of (codes "closed" ∷ decimal count ∷ [])
+
+-- The text tells what was granted and the version after it, with the greatest sound tables of prices.
+pub record TellsGrant (track : Track) (grant : Grant) (text : List ℕ) : Type 0 where
+  pub speed_rows : List (List ℕ)
+  pub grade_rows : List (List ℕ)
+  pub speed_prices : IsGreatestSoundTable speed_levels (unit_of grant.candidate.grant.authority.end) grant.candidate.view.speed_steps grant.candidate.grant.authority.end grant.candidate.view.speeds speed_rows
+  pub grade_prices : IsGreatestSoundTable grade_levels (unit_of grant.candidate.grant.authority.end) grant.candidate.view.grade_steps grant.candidate.grant.authority.end grant.candidate.view.grades grade_rows
+  pub told : text ≡ grant_reply track (grant.receipt.place + 1) grant.candidate.view grant.candidate.grant speed_rows grade_rows
+
+-- the text tells what the train was answered
+abbrev pub TellsAnswer : Track → ℕ → List ℕ → Answer → Type 0
+TellsAnswer track train text (Granted grant) = TellsGrant track grant text
+TellsAnswer track train text (Blocked obstacle at version) = text ≡ blocked_reply track train version at obstacle
+TellsAnswer track train text Gone = text ≡ gone_line train
+TellsAnswer track train text Full = text ≡ refused_reply track HistoryIsFull
+TellsAnswer track train text Memory = text ≡ refused_reply track NoMemory
+
+abbrev pub TellsOutcome : Track → Outcome → List ℕ → Type 0
+TellsOutcome track outcome text = TellsAnswer track outcome.train text outcome.answer
+
+-- the text tells all these outcomes, in order
+abbrev pub TellsAll : Track → List Outcome → List ℕ → Type 0
+TellsAll track [] text = text ≡ []
+TellsAll track (outcome ∷ outcomes) text =
+    (told : List ℕ) × (rest : List ℕ) × TellsOutcome track outcome told × TellsAll track outcomes rest × (text ≡ told ++ rest)
+
+-- what can be told with the track's names: the sections that are named are the track's, and a version is a number of entries
+abbrev pub AnswerIsTellable : Track → Answer → Type 0
+AnswerIsTellable track (Granted grant) = ObstacleIsOfTrack track grant.candidate.view.obstacle × (grant.receipt.place < MOST_ENTRIES)
+AnswerIsTellable track (Blocked obstacle at version) = ObstacleIsOfTrack track obstacle
+AnswerIsTellable track _ = Unit {0}
+
+abbrev pub IsTellable : Track → Outcome → Type 0
+IsTellable track outcome = AnswerIsTellable track outcome.answer
+
+-- ---- what comes of it
+
+-- Connections were served at the desk that was opened with this history, from seats with these receipts, and a sweep of all trains was made; this
+-- was written, and this record came back.
+pub record IsServed (opened : HistoryOnTrack) (seats : List (List Receipt)) (old new : Option (List ℕ)) (log : HistoryOnTrack) : Type 0 where
+  -- Each seat kept its receipts, and all receipts of all seats are just the entries since the desk was opened.
+  pub kept : List (List Receipt)
+  pub first : AllZip AreFirst seats kept
+  pub matches : Matches (all_receipts kept) log.entries (length opened.entries)
+  -- The sweep served each train of a scene of the desk once, in order of arrival, and what it granted is among the receipts.
+  pub outcomes : List Outcome
+  pub trains : AreTrainsOf opened (map train_of outcomes)
+  pub answered : All (IsOutcome opened) outcomes
+  pub others : List Receipt
+  pub gained : IsPermutation (others ++ granted outcomes) (all_receipts kept)
+  -- What was written tells the outcomes, and then how many entries the history has.
+  pub told : List ℕ
+  pub tells : TellsAll opened.track outcomes told
+  pub written : Appends old new (told ++ closed_line (length log.entries))
+
+-- ---- faults
+
+-- why not all connections were served
+abbrev pub serve_fault : ConnectFault → ServeFault
+serve_fault NoConnection = Port
+serve_fault NoThread = NoServeMemory
+
+-- A desk that could not be closed: some of its seats were not handed in; or in some history that it may have had, a receipt of a seat is not at
+-- its place, each seat having kept its receipts.
+abbrev pub IsServeFault : HistoryOnTrack → ℕ → List (List Receipt) → ServeFault → Type 0
+IsServeFault opened parts seats (Close fault) = (kept : List (List Receipt)) × AllZip AreFirst seats kept × IsUnmatched opened parts kept fault
+IsServeFault opened parts seats _ = Unit {0}

@@ -1,0 +1,161 @@
+//! Connections, each with a thread and a seat of its own.
+
+ghost use Rattle.std.specs.Prelude.{◌≡◌, ◌+◌, ◌≤◌, IfOk, vec_len, vec_capacity};
+ghost use Rattle.std.specs.List.{AllZip};
+ghost use Rattle.std.specs.Thread.{IsSend, IsSync};
+ghost use Rattle.rbc_sweep.specs.Outcomes.{AreFirst};
+
+use crate::ends::End;
+use crate::session;
+use rbc_desk::{Desk, DeskName, OpenGate, Seat};
+use rbc_streams::Stream;
+use rbc_track::Track;
+use std::alloc::{AllocError, Global};
+use std::cell::RefCell;
+use std::io::{Read, Write};
+use std::net::OpenListener;
+use std::snapshot::Snapshot;
+use std::sync::Wait;
+use std::thread;
+use std::thread::{Promise, PromisedHandle, Threads};
+
+/// Why not all connections were served.
+#[derive(Clone, Copy, Debug, PartialEq, Eq)]
+pub(crate) enum ConnectFault {
+    /// A connection could not be accepted.
+    Port,
+    /// No thread could be started for a connection, or there was no room for the seats.
+    Memory,
+}
+
+impl From<AllocError> for ConnectFault {
+    fn from(_refused: AllocError) -> ConnectFault {
+        ConnectFault::Memory
+    }
+}
+
+/// The seat keeps the receipts that it had.
+#[derive(Drop)]
+struct Keeps<L: DeskName>(Snapshot<Seat<L>>);
+
+impl<L: DeskName> Promise<Seat<L>> for Keeps<L> {
+    ghost use Rattle.rbc_sweep.specs.Outcomes.{AreFirst};
+
+    ghost kept_by = { λ promise seat. AreFirst promise.0.value seat };
+}
+
+/// A session with a peer, from this seat. A fault of the session ends the connection, and nothing else.
+fn connection<L: DeskName, S: Read + Write + Drop, T: Threads + Wait + Sync>(
+    rt: &T,
+    alloc: Global,
+    track: &Track,
+    desk: &Desk<L>,
+    mut seat: Seat<L>,
+    stream: S,
+) -> Seat<L>
+    requires { track.now ≡ L.opened.track }
+    ensures { AreFirst seat result }
+{
+    let stream = RefCell::new(stream);
+    if let Ok(mut writer) = Stream::writer(alloc, End::of(&stream)) {
+        let mut reader = Stream::reader(End::of(&stream));
+        let _ended = session(
+            rt,
+            alloc,
+            &mut reader,
+            &mut writer,
+            track,
+            desk,
+            &mut seat,
+            &OpenGate,
+        );
+    }
+    seat
+}
+
+/// Waits until these sessions have ended, and gives their seats back in order, in the room that is there for them.
+fn join_all<L: DeskName, T: Threads>(
+    rt: &T,
+    handles: Vec<PromisedHandle<Seat<L>, Keeps<L>>>,
+    mut back: Vec<Seat<L>>,
+) -> Vec<Seat<L>>
+    requires empty { vec_len back ≡ 0 }
+    requires room { vec_len handles ≤ vec_capacity back }
+    ensures kept { AllZip (λ handle seat. AreFirst handle.promise.0.value seat) handles.items result.items }
+    ensures length { vec_len result ≡ vec_len handles }
+    ensures room { vec_capacity result ≡ vec_capacity back }
+{
+    for handle in handles {
+        back.push_reserved(handle.join(rt));
+    }
+    back
+}
+
+/// Accepts a connection for each of the seats, in order, each with a thread of its own. Once all have ended it gives the
+/// seats back in their order, with room for so many more.
+///
+/// # Errors
+///
+/// The first of these; the sessions that were begun have ended then too:
+/// - `Port`: a connection could not be accepted,
+/// - `Memory`: no thread could be started for a connection, or there was no room for the seats.
+pub(crate) fn connect<
+    L: DeskName + Send + Sync,
+    S: Read + Write + Send + Drop,
+    N: OpenListener<Stream = S>,
+    T: Threads + Wait + Sync,
+>(
+    rt: &T,
+    alloc: Global,
+    listener: &N,
+    track: &Track,
+    desk: &Desk<L>,
+    seats: Vec<Seat<L>>,
+    more: usize,
+) -> Result<Vec<Seat<L>>, ConnectFault>
+    requires track { track.now ≡ L.opened.track }
+    requires few { vec_len seats + more ≤ 16 }
+    ensures kept { IfOk result (λ back. AllZip AreFirst seats.items back.items) }
+    ensures room { IfOk result (λ back. vec_len back + more ≤ vec_capacity back) }
+{
+    let mut handles = Vec::with_capacity(alloc, seats.len())?;
+    let back = Vec::with_capacity(alloc, seats.len() + more)?;
+    thread::scope(
+        thread::scope_env(),
+        rt,
+        move |scope| -> Result<Vec<Seat<L>>, ConnectFault>
+            requires { IsSync T.row × IsSend L.row × IsSync L.row × IsSend S.row × (track.now ≡ L.opened.track)
+                × (vec_len handles ≡ 0) × (vec_len seats ≤ vec_capacity handles)
+                × (vec_len back ≡ 0) × (vec_len seats ≤ vec_capacity back) }
+            ensures { IfOk result (λ served. AllZip AreFirst seats.items served.items
+                × (vec_len served ≤ vec_len seats) × (vec_capacity served ≡ vec_capacity back)) }
+        {
+            let mut fault = None;
+            for seat in seats {
+                if fault.is_some() {
+                    continue;
+                }
+                let Ok((stream, _)) = listener.accept() else {
+                    fault = Some(ConnectFault::Port);
+                    continue;
+                };
+                match scope.spawn_with(
+                    Keeps(Snapshot::of(&seat)),
+                    move || -> Seat<L>
+                        requires { IsSync T.row × IsSend L.row × IsSync L.row × IsSend S.row
+                            × (track.now ≡ L.opened.track) }
+                        ensures { AreFirst seat result }
+                    { connection(rt, alloc, track, desk, seat, stream) },
+                ) {
+                    Ok(handle) => handles.push_reserved(handle),
+                    Err(_) => fault = Some(ConnectFault::Memory),
+                }
+            }
+            let served = join_all(rt, handles, back);
+            match fault {
+                None => Ok(served),
+                Some(fault) => Err(fault),
+            }
+        },
+    )
+}

@@ -1,0 +1,113 @@
+//! Sessions over a record, and at a desk.
+
+ghost use Rattle.std.specs.Prelude.{◌≡◌, ◌↔◌, ℕ, List, [], true, false, IsTrue, OnOk, Err};
+ghost use Rattle.std.specs.Io.KnownBytes.{Consumes, IsAtEnd};
+ghost use Rattle.rbc_server.specs.SeatSessions.{IsSeatSession};
+ghost use Rattle.rbc_server.specs.SessionRuns.{IsSession};
+ghost use mathlib.Core.List.{IsPrefix};
+
+use crate::SessionFault;
+use crate::centre::Centre;
+use crate::counter::Counter;
+use rbc_desk::{Desk, DeskName, Gate, Seat};
+use rbc_record::Record;
+use rbc_session::converse;
+use rbc_streams::{Sink, Source};
+use rbc_track::Track;
+use std::alloc::Global;
+use std::sync::Wait;
+use std::thread::Threads;
+
+/// Answers each line of the reader, in order, up to the end of the input or the first fault: each after what the record
+/// has by then. The record gains an entry for each line that is accepted. Each reply is handed on before the next line
+/// is read.
+///
+/// # Errors
+///
+/// `Memory` before anything is read or written. Then, for each line in order: `Read` where the reader fails, `Write`
+/// where the writer does, `Overlong` behind the reply to a line that is too long; `Lines` where a further byte comes
+/// after the last line that a session treats. The record keeps the entries of all lines that were treated.
+pub fn run<R: Source, W: Sink>(
+    rt: &(impl Threads + Sync),
+    alloc: Global,
+    reader: &mut R,
+    writer: &mut W,
+    history: &mut Record,
+) -> Result<(), SessionFault>
+    requires reader { R.failed reader.old ≡ false }
+    requires writer { W.failed writer.old ≡ false }
+
+    // A read or write fault is answered just where the reader or the writer failed.
+    ensures read { (result ≡ Err SessionFault.Read) ↔ IsTrue (R.failed reader.new) }
+    ensures write { (result ≡ Err SessionFault.Write) ↔ IsTrue (W.failed writer.new) }
+
+    // Without memory nothing begins.
+    ensures memory { result ≡ Err SessionFault.Memory
+        → (reader.new ≡ reader.old) × (writer.new ≡ writer.old) × (history.new ≡ history.old) }
+
+    // Ok is answered at the end of the input.
+    ensures end { OnOk result (IsAtEnd (R.left reader.new)) }
+
+    // The record is of the same track, and each line of what was read was answered after the entries of those before
+    // it.
+    ensures track { history.new.track ≡ history.old.track }
+    ensures session { (input : List ℕ) × Consumes (R.left reader.old) (R.left reader.new) input
+        × IsSession history.old.track history.old.entries history.new.entries input
+        (W.written writer.old) (W.written writer.new) result }
+
+    // What was written was handed on, unless the writer failed.
+    ensures handed_on { W.failed writer.new ≡ false → W.held_back writer.old ≡ [] → W.held_back writer.new ≡ [] }
+{
+    converse(rt, alloc, reader, writer, history, &Centre)
+}
+
+/// Answers each line of the reader at a desk, in order, up to the end of the input or the first fault. The seat gains a
+/// receipt for each line that is accepted, and none for any other. Each line is answered as after some history that the
+/// desk had: other seats may enter what they are told and asked meanwhile. Each reply is handed on before the next line
+/// is read. The track is that of the desk. Trains that ask pass the gate, outside the desk's lock.
+///
+/// # Errors
+///
+/// Those of [`run`]. The seat keeps the receipts for all lines that were treated.
+pub fn session<R: Source, W: Sink, L: DeskName, G: Gate, T: Threads + Wait + Sync>(
+    rt: &T,
+    alloc: Global,
+    reader: &mut R,
+    writer: &mut W,
+    track: &Track,
+    desk: &Desk<L>,
+    seat: &mut Seat<L>,
+    gate: &G,
+) -> Result<(), SessionFault>
+    requires reader { R.failed reader.old ≡ false }
+    requires writer { W.failed writer.old ≡ false }
+    requires track { track.now ≡ L.opened.track }
+
+    // A read or write fault is answered just where the reader or the writer failed.
+    ensures read { (result ≡ Err SessionFault.Read) ↔ IsTrue (R.failed reader.new) }
+    ensures write { (result ≡ Err SessionFault.Write) ↔ IsTrue (W.failed writer.new) }
+
+    // Without memory nothing begins.
+    ensures memory { result ≡ Err SessionFault.Memory
+        → (reader.new ≡ reader.old) × (writer.new ≡ writer.old) × (seat.new ≡ seat.old) }
+
+    // Ok is answered at the end of the input.
+    ensures end { OnOk result (IsAtEnd (R.left reader.new)) }
+
+    // The seat loses no receipt; each line of what was read was answered as the desk may answer it, and what was gained
+    // for it is told in its reply.
+    ensures grown { IsPrefix seat.old seat.new }
+    ensures session { (input : List ℕ) × Consumes (R.left reader.old) (R.left reader.new) input
+        × IsSeatSession L.opened seat.old seat.new input (W.written writer.old) (W.written writer.new) result }
+
+    // What was written was handed on, unless the writer failed.
+    ensures handed_on { W.failed writer.new ≡ false → W.held_back writer.old ≡ [] → W.held_back writer.new ≡ [] }
+{
+    let counter = Counter {
+        desk,
+        track,
+        gate,
+        waiting: rt,
+    };
+    converse(rt, alloc, reader, writer, seat, &counter)
+}
