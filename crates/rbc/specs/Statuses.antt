@@ -5,10 +5,12 @@ use Rattle.clap.specs.declared.error.kind.ErrorKind.{ErrorKind}
 use Rattle.clap.specs.declared.error.kind.ErrorKind.TheVariants.{DisplayHelp, DisplayVersion}
 use Rattle.rbc_model.specs.declared.sessions.SessionFault.{SessionFault}
 use Rattle.rbc_model.specs.declared.sessions.SessionFault.TheVariants.{Memory}
+use Rattle.rbc_server.specs.declared.serving.ServeFault.{ServeFault}
+use Rattle.rbc_server.specs.declared.serving.ServeFault.TheVariants.{Memory as NoServeMemory, Close}
 use Rattle.rbc.specs.declared.load.LoadFault.{LoadFault}
 use Rattle.rbc.specs.declared.load.LoadFault.TheVariants.{Memory as NoLoadMemory}
 use Rattle.rbc.specs.declared.failure.Failure.{Failure}
-use Rattle.rbc.specs.declared.failure.Failure.TheVariants.{CommandLine, NotText, NotCertified, Load, Session, Memory as NoMemory}
+use Rattle.rbc.specs.declared.failure.Failure.TheVariants.{CommandLine, NotText, NotCertified, Load, Session, Serve, Memory as NoMemory}
 
 -- after a command line that asks for help, or that is refused
 abbrev pub status_of_kind : ErrorKind → ℕ
@@ -26,6 +28,12 @@ abbrev pub status_of_load : LoadFault → ℕ
 status_of_load NoLoadMemory = 5
 status_of_load _ = 3
 
+-- after a fault of a centre that serves connections
+abbrev pub status_of_serve : ServeFault → ℕ
+status_of_serve NoServeMemory = 5
+status_of_serve (Close fault) = 6
+status_of_serve _ = 4
+
 -- after any of them
 abbrev pub status_of : Failure → ℕ
 status_of (CommandLine error) = status_of_kind (kind_of error)
@@ -33,4 +41,5 @@ status_of NotText = 2
 status_of NotCertified = 1
 status_of (Load fault) = status_of_load fault
 status_of (Session fault) = status_of_fault fault
+status_of (Serve fault) = status_of_serve fault
 status_of NoMemory = 5

@@ -1,7 +1,9 @@
 //! The command line of the program.
 
-use clap::{Arg, ArgAction, Command, Error};
-use std::alloc::Global;
+ghost use Rattle.std.specs.Prelude.{◌≤◌};
+
+use clap::{Arg, ArgAction, ArgMatches, Command, Error, value_parser};
+use std::alloc::{AllocError, Global};
 
 /// What the command line asks for.
 #[derive(Clone, Copy, Debug, PartialEq, Eq)]
@@ -12,6 +14,23 @@ pub enum Task<'a> {
     Check,
     /// Run a centre on the track of this file.
     Run(&'a str),
+    /// Serve connections.
+    Serve(Service<'a>),
+}
+
+/// How a centre serves.
+#[derive(Clone, Copy, Debug, PartialEq, Eq)]
+pub struct Service<'a> {
+    /// The track file.
+    pub track: &'a str,
+    /// The port, 1 to 65,535.
+    pub port: u16,
+    /// How many connections are taken, 1 to 8.
+    pub connections: usize,
+    /// How many workers the sweep has, 1 to 8.
+    pub workers: usize,
+    pub ghost some: { (1 ≤ connections) × (1 ≤ workers) },
+    pub ghost few: { (connections ≤ 8) × (workers ≤ 8) },
 }
 
 /// The requests of a session, as the help shows them.
@@ -33,28 +52,89 @@ pub fn read<'a>(alloc: Global, words: &'a [String]) -> Result<Task<'a>, Error> {
     let check = Command::new(alloc, "check").about(
         "Tells of each certificate on standard input whether its prices show that no profile loses less",
     );
-    let track = Arg::new(alloc, "TRACK")
-        .help("The track file")
-        .required(true)
-        .action(ArgAction::Set);
     let run = Command::new(alloc, "run")
         .about(
             "Runs a centre on the track of a file: answers reports, locks and requests on standard input",
         )
         .after_help(REQUESTS)
-        .arg(track)?;
+        .arg(track_file(alloc))?;
     let command = Command::new(alloc, "rbc")
         .about("The deciding part of an ETCS Level 2 radio block centre")
         .subcommand_required(true)
         .subcommand(steps)?
         .subcommand(check)?
-        .subcommand(run)?;
+        .subcommand(run)?
+        .subcommand(serve(alloc)?)?;
     let matches = command.try_get_matches_from(words)?;
     if let Some(run) = matches.subcommand_matches("run") {
         return Ok(Task::Run(run.get_str("TRACK").unwrap_or("")));
     }
+    if let Some(serve) = matches.subcommand_matches("serve") {
+        return Ok(Task::Serve(service_in(serve)));
+    }
     match matches.subcommand_matches("check") {
         Some(_) => Ok(Task::Check),
         None => Ok(Task::Steps),
+    }
+}
+
+/// The track file of a centre.
+fn track_file<'a>(alloc: Global) -> Arg<'a> {
+    Arg::new(alloc, "TRACK")
+        .help("The track file")
+        .required(true)
+        .action(ArgAction::Set)
+}
+
+/// An option that wants a whole number.
+fn number<'a>(alloc: Global, name: &'a str, value: &'a str, help: &'a str) -> Arg<'a> {
+    Arg::new(alloc, name)
+        .long(name)
+        .value_name(value)
+        .help(help)
+        .required(true)
+        .action(ArgAction::Set)
+}
+
+/// The command that serves connections.
+fn serve<'a>(alloc: Global) -> Result<Command<'a>, AllocError> {
+    let port = number(alloc, "port", "P", "The port on 127.0.0.1");
+    let connections = number(
+        alloc,
+        "connections",
+        "N",
+        "How many connections are taken, 1 to 8",
+    );
+    let workers = number(
+        alloc,
+        "workers",
+        "W",
+        "How many workers serve all trains at the end, 1 to 8",
+    );
+    Command::new(alloc, "serve")
+        .about(
+            "Runs a centre on the track of a file for several connections at once, and serves every train at the end",
+        )
+        .after_help(REQUESTS)
+        .arg(track_file(alloc))?
+        .arg(port.value_parser(value_parser!(u16).range(1..)))?
+        .arg(connections.value_parser(value_parser!(u8).range(1..=8)))?
+        .arg(workers.value_parser(value_parser!(u8).range(1..=8)))
+}
+
+/// How many of something a command line asks for, 1 to 8. The parser accepts nothing else.
+fn count_in(matches: &ArgMatches, name: &str) -> usize
+    ensures { (1 ≤ result) × (result ≤ 8) }
+{
+    matches.get_one::<usize>(name).unwrap_or(1).clamp(1, 8)
+}
+
+/// How a command line asks to serve, which the parser has accepted.
+fn service_in<'a>(matches: &ArgMatches<'a>) -> Service<'a> {
+    Service {
+        track: matches.get_str("TRACK").unwrap_or(""),
+        port: matches.get_one("port").unwrap_or(1),
+        connections: count_in(matches, "connections"),
+        workers: count_in(matches, "workers"),
     }
 }

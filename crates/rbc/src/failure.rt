@@ -6,7 +6,8 @@ ghost use Rattle.rbc.specs.Statuses.{status_of};
 use crate::load::LoadFault;
 use clap::error::ErrorKind;
 use rbc_model::Memory;
-use rbc_words::SessionFault;
+use rbc_server::ServeFault;
+use rbc_words::{SessionFault, WriteFailed};
 use std::alloc::AllocError;
 use std::io;
 
@@ -20,6 +21,8 @@ const NO_TRACK: u8 = 3;
 const SESSION_FAULT: u8 = 4;
 /// The exit status after memory was refused.
 const NO_MEMORY: u8 = 5;
+/// The exit status where the receipts of a centre's seats are not its history.
+const UNMATCHED: u8 = 6;
 
 /// Why the program ends before its work is done.
 #[derive(Debug, Drop)]
@@ -32,6 +35,8 @@ pub enum Failure {
     Load(LoadFault),
     /// A session ended before its input.
     Session(SessionFault),
+    /// A centre that serves connections ended early, or could not open its port.
+    Serve(ServeFault),
     /// A certificate was refused, as the output tells.
     NotCertified,
     /// Memory was refused.
@@ -39,8 +44,8 @@ pub enum Failure {
 }
 
 impl Failure {
-    /// The program's exit status: 0 after help, 1 for a certificate, 2 for a command line, 3 for a track, 4 for a
-    /// session's fault and 5 for want of memory.
+    /// The program's exit status: 0 after help, 1 for a certificate, 2 for a command line, 3 for a track, 4 for a fault
+    /// of a session or a port, 5 for want of memory and 6 for receipts that are not the history.
     pub fn status(&self) -> u8
         ensures { result ≡ status_of self.now }
     {
@@ -53,9 +58,12 @@ impl Failure {
             Failure::NotCertified => NOT_CERTIFIED,
             Failure::Load(LoadFault::Memory)
             | Failure::Session(SessionFault::Memory)
+            | Failure::Serve(ServeFault::Memory)
             | Failure::Memory => NO_MEMORY,
             Failure::Load(_) => NO_TRACK,
             Failure::Session(_) => SESSION_FAULT,
+            Failure::Serve(ServeFault::Close(_)) => UNMATCHED,
+            Failure::Serve(ServeFault::Port | ServeFault::Write) => SESSION_FAULT,
         }
     }
 
@@ -68,6 +76,7 @@ impl Failure {
             ),
             Failure::Load(fault) => eprintln!(rt; "rbc: {fault}"),
             Failure::Session(fault) => eprintln!(rt; "rbc: {fault}"),
+            Failure::Serve(fault) => eprintln!(rt; "rbc: {fault}"),
             Failure::NotCertified => Ok(()),
             Failure::Memory => eprintln!(rt; "rbc: out of memory"),
         };
@@ -83,6 +92,18 @@ impl From<LoadFault> for Failure {
 impl From<SessionFault> for Failure {
     fn from(fault: SessionFault) -> Failure {
         Failure::Session(fault)
+    }
+}
+
+impl From<ServeFault> for Failure {
+    fn from(fault: ServeFault) -> Failure {
+        Failure::Serve(fault)
+    }
+}
+
+impl From<WriteFailed> for Failure {
+    fn from(_failed: WriteFailed) -> Failure {
+        Failure::Session(SessionFault::Write)
     }
 }
 

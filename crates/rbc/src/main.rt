@@ -5,22 +5,26 @@ mod answers;
 mod command_line;
 mod failure;
 mod load;
+mod serve;
 mod steps;
 #[cfg(test)]
 mod tests;
 
-use command_line::Task;
+use command_line::{Service, Task};
 use failure::Failure;
 pub use load::{LoadFault, load};
 pub use rbc_checks::check;
 use rbc_model::Memory;
 use rbc_record::Record;
+use rbc_server::ServeFault;
 use rbc_track::Track;
 use rbc_words::Stream;
+use serve::{print_listening, serve};
 use std::env::Env;
 use std::fs::Files;
+use std::net::{Ipv4Addr, Net, TcpListener, TcpStream};
 use std::process::ExitCode;
-use std::sync::Arc;
+use std::sync::{Arc, Wait};
 use std::thread::Threads;
 use std::{env, fs, io};
 pub use steps::steps;
@@ -37,7 +41,15 @@ fn main(rt: HostRuntime) -> ExitCode {
 
 /// Does what the command line asks for.
 fn run(
-    rt: &(impl Env + Files + Input + Print + AllocGlobal + Threads + Sync),
+    rt: &(impl Env
+        + Files
+        + Input
+        + Print
+        + AllocGlobal
+        + Threads
+        + Wait
+        + Net<Listener = TcpListener, Stream = TcpStream>
+        + Sync),
 ) -> Result<(), Failure> {
     let alloc = rt.alloc();
     let words: Vec<String> = env::args(rt)?.collect(alloc)?;
@@ -65,6 +77,7 @@ fn run(
             }
         }
         Task::Run(path) => run_centre(rt, path),
+        Task::Serve(service) => serve_centre(rt, &service),
     }
 }
 
@@ -83,6 +96,27 @@ fn run_centre(
         &mut Record::new(alloc, track)?,
     )?;
     Ok(())
+}
+
+/// Serves connections on a port, on the track of a file.
+fn serve_centre(
+    rt: &(impl Files
+        + Print
+        + AllocGlobal
+        + Threads
+        + Wait
+        + Net<Listener = TcpListener, Stream = TcpStream>
+        + Sync),
+    service: &Service,
+) -> Result<(), Failure> {
+    let alloc = rt.alloc();
+    let track = Arc::new(alloc, read_track(rt, service.track)?).map_err(Memory::from)?;
+    let Ok(listener) = TcpListener::bind(rt, (Ipv4Addr::LOCALHOST, service.port)) else {
+        return Err(Failure::Serve(ServeFault::Port));
+    };
+    let mut writer = Stream::writer(alloc, io::writer(rt))?;
+    print_listening(service.port, &mut writer)?;
+    serve(rt, alloc, &listener, track, service, &mut writer)
 }
 
 /// The track of this file.

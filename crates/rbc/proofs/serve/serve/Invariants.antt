@@ -1,0 +1,8 @@
+use Rattle.rbc.proofs.serve.serve.Given as goal
+
+-- the desk is named by its blank, and opened with the record
+abbrev pub ghosts-open-L-DeskName : goal.ghosts-open-L-DeskName
+ghosts-open-L-DeskName g a = record { opened = a.log }
+
+abbrev pub ghosts-open-L-Ledger : goal.ghosts-open-L-Ledger
+ghosts-open-L-Ledger g a = record { name = a.blank.name; parts = a.blank.parts }

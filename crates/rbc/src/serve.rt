@@ -1,0 +1,116 @@
+//! A centre that serves connections: a desk is made for it, with a seat for each connection and each worker.
+
+ghost use Rattle.std.specs.Prelude.{◌≡◌, ◌<◌, ◌≤◌, false, [], OnOk};
+ghost use Rattle.rbc_model.specs.Sessions.{Prints};
+ghost use Rattle.rbc.specs.Listening.{listening_line};
+
+use crate::command_line::Service;
+use crate::failure::Failure;
+use rbc_desk::{Desk, DeskName};
+use rbc_model::Memory;
+use rbc_record::Record;
+use rbc_streams::{Sink, WriteFailed, put};
+use rbc_track::Track;
+use rbc_words::print_number;
+use std::alloc::Global;
+use std::io::{Read, Write};
+use std::marker::Brand;
+use std::net::OpenListener;
+use std::sync::ledger::Blank;
+use std::sync::{Arc, Wait};
+use std::thread::Threads;
+
+/// Tells that the port is open, and hands it on.
+///
+/// # Errors
+///
+/// `WriteFailed`, where the writer fails.
+pub(crate) fn print_listening<W: Sink>(port: u16, writer: &mut W) -> Result<(), WriteFailed>
+    requires { W.failed writer.old ≡ false }
+    ensures text { Prints (W.written writer.old) (W.written writer.new) (W.failed writer.new)
+        (listening_line port) result }
+    ensures handed_on { OnOk result (W.held_back writer.new ≡ []) }
+{
+    print_port(port, writer)?;
+    writer.flush()
+}
+
+fn print_port<W: Sink>(port: u16, writer: &mut W) -> Result<(), WriteFailed>
+    requires { W.failed writer.old ≡ false }
+    ensures { Prints (W.written writer.old) (W.written writer.new) (W.failed writer.new)
+        (listening_line port) result }
+{
+    put(writer, b"listening ")?;
+    print_number(u64::from(port), writer)?;
+    put(writer, b"\n")
+}
+
+/// Serves connections over a new record of the track.
+///
+/// # Errors
+///
+/// `Memory` for the record or the desk, and those of [`rbc_server::serve`].
+pub(crate) fn serve<
+    S: Read + Write + Send + Drop,
+    N: OpenListener<Stream = S>,
+    W: Sink,
+    T: Threads + Wait + Sync,
+>(
+    rt: &T,
+    alloc: Global,
+    listener: &N,
+    track: Arc<Track>,
+    service: &Service,
+    writer: &mut W,
+) -> Result<(), Failure>
+    requires { W.failed writer.old ≡ false }
+{
+    let lent = Arc::try_clone(&track).map_err(Memory::from)?;
+    let log = Record::new(alloc, track)?;
+    let seats = service.connections + service.workers;
+    let blank = Blank::new(seats as u64);
+    open::<Brand, S, N, W, T>(
+        rt,
+        alloc,
+        listener,
+        &lent,
+        log,
+        seats,
+        blank,
+        service.connections,
+        writer,
+    )
+}
+
+/// Serves connections at a desk over the record.
+fn open<
+    L: DeskName + Send + Sync,
+    S: Read + Write + Send + Drop,
+    N: OpenListener<Stream = S>,
+    W: Sink,
+    T: Threads + Wait + Sync,
+>(
+    rt: &T,
+    alloc: Global,
+    listener: &N,
+    track: &Track,
+    log: Record,
+    seats: usize,
+    blank: Blank,
+    connections: usize,
+    writer: &mut W,
+) -> Result<(), Failure>
+    requires going { W.failed writer.old ≡ false }
+    requires track { track.now ≡ log.track }
+    requires opened { log ≡ L.opened }
+    requires name { blank.name ≡ L.name }
+    requires parts { blank.parts ≡ L.parts }
+    requires one_each { seats ≡ L.parts }
+    requires some { 1 ≤ connections }
+    requires workers { connections < seats }
+    requires few { seats ≤ 16 }
+{
+    let (desk, seats) = Desk::<L>::new(alloc, log, seats, blank)?;
+    rbc_server::serve(rt, alloc, listener, track, desk, seats, connections, writer)?;
+    Ok(())
+}
