@@ -8,7 +8,10 @@ mod memory;
 mod replays;
 mod rows;
 mod scenes;
+mod seats;
+mod servers;
 mod sessions;
+mod sweeps;
 mod telling;
 
 use rbc_track::Track;
