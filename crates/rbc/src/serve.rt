@@ -6,9 +6,8 @@ ghost use Rattle.rbc.specs.Listening.{listening_line};
 
 use crate::command_line::Service;
 use crate::failure::Failure;
-use rbc_desk::{Desk, DeskName};
 use rbc_model::Memory;
-use rbc_record::Record;
+use rbc_server::{Desk, DeskName, Record};
 use rbc_streams::{Sink, WriteFailed, put};
 use rbc_track::Track;
 use rbc_words::print_number;

@@ -7,9 +7,9 @@ ghost use Rattle.rbc_model.specs.StepsReply.{AnswersLine};
 ghost use Rattle.rbc_model.specs.Talks.{IsTalk, EachByItself};
 
 use crate::answers::reply_to;
+use rbc_checks::{Answers, converse};
 use rbc_model::limits::LONGEST_LINE;
-use rbc_model::{LineFault, StepsRefusal};
-use rbc_session::{Answers, SessionFault, converse};
+use rbc_model::{LineFault, SessionFault, StepsRefusal};
 use rbc_streams::{Sink, Source, WriteFailed};
 use rbc_words::{StepsReply, print};
 use std::alloc::Global;

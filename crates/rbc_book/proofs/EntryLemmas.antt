@@ -12,7 +12,7 @@ use Rattle.rbc_model.specs.Events.{cut_at, with_authority, with_train, without_t
 use Rattle.rbc_model.specs.Lines.{Line}
 use Rattle.rbc_model.specs.Placing.{through}
 use Rattle.rbc_model.specs.Histories.{AuthoritiesAreApart}
-use Rattle.rbc_line.specs.OnTracks.{LineOnTrack}
+use Rattle.rbc_extent.specs.OnTracks.{LineOnTrack}
 use Rattle.rbc_extent.specs.TrainsOnTracks.{TrainOnTrack}
 use Rattle.rbc_scene_laws.specs.Good.{IsGoodTrain}
 use Rattle.rbc_scene_laws.proofs.BasicLemmas.{EachPair, recursion_from_AllPairs, the_some}

@@ -16,7 +16,7 @@ use Rattle.rbc_scene_laws.specs.Good.{IsGoodTrain}
 use Rattle.rbc_scene_laws.proofs.OnLineLemmas.{OnLine-IsLine, differ_right}
 use Rattle.rbc_scene_laws.proofs.SpotLemmas.{line_length-cons}
 use Rattle.rbc_scene_laws.proofs.LegLemmas.{meets, stands_on-leg, stands_on-lacks}
-use Rattle.rbc_line.specs.OnTracks.{LineOnTrack}
+use Rattle.rbc_extent.specs.OnTracks.{LineOnTrack}
 use Rattle.rbc_extent.specs.TrainsOnTracks.{TrainOnTrack}
 use Rattle.rbc_book.specs.declared.places.LegPlace.{LegPlace}
 use Rattle.rbc_book.specs.LegPlaces.{at_start, farther, leg_place, metres_until}

@@ -8,8 +8,7 @@ ghost use Rattle.rbc_model.specs.Scenes.{authority_has, extent_has};
 ghost use Rattle.rbc_model.specs.Tracks.{metres_of};
 ghost use Rattle.rbc_book.specs.LegPlaces.{leg_place, metres_until};
 
-use rbc_extent::Train;
-use rbc_line::Line;
+use rbc_extent::{Line, Train};
 use rbc_model::{Direction, Leg, Metre, SectionId};
 use rbc_track::Track;
 

@@ -8,8 +8,8 @@ use Rattle.rbc_model.specs.declared.memory.OrMemory.TheVariants.{Refused, Memory
 use Rattle.rbc_model.specs.declared.refusals.ViewFault.{ViewFault}
 use Rattle.rbc_model.specs.Histories.{Entry, Granted, Receipt}
 use Rattle.rbc_model.specs.Views.{View, view}
-use Rattle.rbc_reach.specs.SameViews.{is_same_view-decides}
-use Rattle.rbc_grant.specs.Candidates.{Candidate}
+use Rattle.rbc_record.specs.SameViews.{is_same_view-decides}
+use Rattle.rbc_record.specs.Candidates.{Candidate}
 use Rattle.rbc_record.specs.declared.faults.CommitFault.{CommitFault}
 use Rattle.rbc_record.specs.declared.faults.CommitFault.TheVariants.{Full as FullToGrants, Stale, Foreign}
 use Rattle.rbc_record.specs.Records.{HistoryOnTrack, scene_now, is_full, with_entry}

@@ -7,7 +7,7 @@ use Rattle.rbc_model.specs.declared.refusals.ViewFault.{ViewFault}
 use Rattle.rbc_model.specs.declared.refusals.ViewFault.TheVariants.{UnknownTrain as NoSuchTrain, Blocked as BlockedAt}
 use Rattle.rbc_model.specs.Views.{View, view}
 use Rattle.rbc_model.specs.Histories.{Granted, Receipt}
-use Rattle.rbc_grant.specs.Candidates.{Candidate}
+use Rattle.rbc_record.specs.Candidates.{Candidate}
 use Rattle.rbc_record.specs.declared.faults.CommitFault.{CommitFault}
 use Rattle.rbc_record.specs.declared.faults.CommitFault.TheVariants.{Full as FullToGrants, Stale, Foreign}
 use Rattle.rbc_record.specs.Records.{HistoryOnTrack, scene_now, is_full, with_entry}

@@ -3,3 +3,12 @@ pub mod Asking
 pub mod Closing
 pub mod Telling
 pub mod Trains
+pub use Rattle.rbc_record.specs.Candidates
+pub use Rattle.rbc_record.specs.Entering
+pub use Rattle.rbc_record.specs.Forms
+pub use Rattle.rbc_record.specs.Records
+pub use Rattle.rbc_record.specs.SameViews
+pub use Rattle.rbc_record.specs.Steps
+pub use Rattle.rbc_record.specs.declared.faults.ApplyFault
+pub use Rattle.rbc_record.specs.declared.faults.CommitFault
+pub use Rattle.rbc_record.specs.declared.limits

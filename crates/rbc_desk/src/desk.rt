@@ -4,7 +4,7 @@ ghost use Rattle.std.specs.Prelude.{◌≡◌, ◌≢◌, ◌+◌, ◌-◌, ◌�
 ghost use Rattle.std.specs.Prelude.{replicate, Ok, Err, IfOk, IfErr, IfSome, IfNone, OnErr};
 ghost use Rattle.rbc_grant_laws.specs.Candidates.{IsCandidateOf};
 ghost use Rattle.rbc_model.specs.Histories.{Granted as GrantedEntry, Heard, IsLegal, Matches};
-ghost use Rattle.rbc_scene.specs.Steps.{IsOfTrack};
+ghost use Rattle.rbc_record.specs.Steps.{IsOfTrack};
 ghost use Rattle.rbc_desk.specs.Asking.{IsAnsweredAt};
 ghost use Rattle.rbc_desk.specs.Closing.{all_receipts, IsUnmatched};
 ghost use Rattle.rbc_desk.specs.Telling.{IsToldAt};

@@ -3,9 +3,8 @@
 ghost use Rattle.std.specs.Prelude.{◌≡◌, IfOk};
 ghost use Rattle.std.specs.Thread.{IsSync};
 
-use rbc_grant::{Candidate, candidate};
 use rbc_model::Memory;
-use rbc_reach::View;
+use rbc_record::{Candidate, View, candidate};
 use std::alloc::Global;
 use std::thread::Threads;
 

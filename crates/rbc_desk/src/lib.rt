@@ -17,5 +17,7 @@ pub use gate::{Gate, OpenGate};
 pub use granted::Granted;
 pub use name::DeskName;
 pub use rbc_model::{Memory, OrMemory, Told};
-pub use rbc_record::{ApplyFault, Receipt, Record};
+pub use rbc_record::{
+    ApplyFault, Candidate, CommitFault, Entry, Receipt, Record, Scene, Train, View, candidate,
+};
 pub use seat::Seat;

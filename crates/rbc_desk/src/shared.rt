@@ -8,7 +8,7 @@ ghost use Rattle.rbc_model.specs.Histories.{Granted as GrantedEntry, IsLegal, Ma
 ghost use Rattle.rbc_grant_laws.specs.Candidates.{IsCandidateOf};
 ghost use Rattle.rbc_record.specs.Entering.{EntersOrMemory, entry_granted, entry_told};
 ghost use Rattle.rbc_record.specs.Records.{is_full, with_entry};
-ghost use Rattle.rbc_scene.specs.Steps.{IsOfTrack};
+ghost use Rattle.rbc_record.specs.Steps.{IsOfTrack};
 ghost use Rattle.rbc_desk.specs.Closing.{all_receipts, IsUnmatchedIn};
 ghost use Rattle.rbc_desk.specs.Trains.{AreTrainsOf, numbers_of};
 ghost use Rattle.rbc_desk.specs.Asking.{fault_at, shown, tried, IsRefused, IsAnsweredAt, Tries};
@@ -18,11 +18,9 @@ ghost use Rattle.rbc_model.specs.declared.memory.OrMemory.TheVariants.{Memory as
 
 use crate::closing::{find_seats, merge_all};
 use crate::{AskFault, CloseFault, DeskName, Granted, Seat};
-use rbc_grant::{Candidate, candidate};
 use rbc_model::{Memory, OrMemory, Told, ViewFault};
-use rbc_reach::View;
 use rbc_record::limits::MOST_ENTRIES;
-use rbc_record::{ApplyFault, CommitFault, Receipt, Record};
+use rbc_record::{ApplyFault, Candidate, CommitFault, Receipt, Record, View, candidate};
 use std::alloc::Global;
 use std::sync::ledger::{Book, Share};
 use std::thread::Threads;

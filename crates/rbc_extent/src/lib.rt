@@ -19,6 +19,8 @@ mod train;
 
 pub use placed::Placed;
 pub use placing::place;
+pub use rbc_line::{Line, SectionSet};
+pub use rbc_locks::Locks;
 pub use rbc_model::{OrMemory, Refusal, Report};
 pub use reporting::reported;
 pub use train::Train;

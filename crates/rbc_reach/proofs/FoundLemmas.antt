@@ -18,7 +18,7 @@ use Rattle.rbc_scene_laws.proofs.BasicLemmas.{and_right}
 use Rattle.rbc_reach_laws.specs.Nearest.{greatest_end_near, nearest_end}
 use Rattle.rbc_reach_laws.proofs.GreatestEndLemmas.{greatest_end-near}
 use Rattle.rbc_reach_laws.proofs.ShownLemmas.{grades_shown, legs_shown, speeds_shown}
-use Rattle.rbc_way.specs.Reaches.{BeginsWay, ReachOnTrack}
+use Rattle.rbc_scene.specs.Reaches.{BeginsWay, ReachOnTrack}
 use Rattle.rbc_reach.specs.Found.{view_found}
 
 -- ---- where the greatest end lies

@@ -3,7 +3,7 @@ use Rattle.std.specs.Prelude.{ℕ, take}
 use Rattle.rbc_model.specs.Lines.{legs_begun_before, speeds, grades}
 use Rattle.rbc_model.specs.Trains.{Train}
 use Rattle.rbc_model.specs.Views.{View, start_of}
-use Rattle.rbc_way.specs.Reaches.{ReachOnTrack}
+use Rattle.rbc_scene.specs.Reaches.{ReachOnTrack}
 
 -- the view of a train up to an end, by the legs that were walked to the reach
 abbrev pub view_found : Train → ReachOnTrack → ℕ → View

@@ -8,6 +8,7 @@ mod views;
 
 pub use parts::ViewParts;
 pub use rbc_model::{OrMemory, ViewFault};
+pub use rbc_scene::{Locks, Scene, Train};
 pub use search::view;
 pub use views::View;
 

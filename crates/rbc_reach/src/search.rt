@@ -10,16 +10,11 @@ ghost use Rattle.rbc_model.specs.Scenes.{train_numbered};
 ghost use Rattle.rbc_model.specs.Views.{from_group, view, view_of};
 ghost use Rattle.rbc_reach.specs.Found.{view_found};
 ghost use Rattle.rbc_scene_laws.specs.Good.{IsGoodLocks};
-ghost use Rattle.rbc_way.specs.Reaches.{scene_of};
+ghost use Rattle.rbc_scene.specs.Reaches.{scene_of};
 
 use crate::{View, ViewParts};
-use rbc_book::Book;
-use rbc_extent::Train;
-use rbc_line::Line;
-use rbc_locks::Locks;
 use rbc_model::{Leg, Memory, OrMemory, ViewFault};
-use rbc_scene::Scene;
-use rbc_way::{Reach, reach};
+use rbc_scene::{Book, Line, Locks, Reach, Scene, Train, reach};
 use std::alloc::Global;
 
 /// The view of the train of this number: what it is shown where it asks how far it may run.

@@ -11,7 +11,7 @@ use Rattle.rbc_model.specs.Answers.{RefusesOrMemory}
 use Rattle.rbc_model.specs.Events.{step}
 use Rattle.rbc_model.specs.Histories.{Entry, Heard, Granted, Receipt}
 use Rattle.rbc_model.specs.Views.{View, view}
-use Rattle.rbc_reach.specs.SameViews.{is_same_view}
+use Rattle.rbc_grant.specs.SameViews.{is_same_view}
 use Rattle.rbc_grant.specs.Candidates.{Candidate}
 use Rattle.rbc_record.specs.declared.faults.ApplyFault.{ApplyFault}
 use Rattle.rbc_record.specs.declared.faults.ApplyFault.TheVariants.{Full as FullToTold, Refused as RefusedByScene}

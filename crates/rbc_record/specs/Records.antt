@@ -4,7 +4,7 @@ use Rattle.rbc_model.specs.Tracks.{Track}
 use Rattle.rbc_model.specs.SoundTracks.{IsInForm, IsSound}
 use Rattle.rbc_model.specs.Scenes.{Scene}
 use Rattle.rbc_model.specs.Histories.{Entry, IsLegal, replay}
-use Rattle.rbc_scene.specs.ScenesOnTracks.{SceneOnTrack}
+use Rattle.rbc_grant.specs.ScenesOnTracks.{SceneOnTrack}
 use Rattle.rbc_record.specs.declared.limits.TheConstants.{MOST_ENTRIES}
 
 -- a history, and the track that it is of

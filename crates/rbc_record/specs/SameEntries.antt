@@ -15,7 +15,7 @@ use Rattle.rbc_model.specs.Reports.{Report}
 use Rattle.rbc_model.specs.Messages.{Authority}
 use Rattle.rbc_model.specs.Histories.{Entry, Heard, Granted, Grants}
 use Rattle.rbc_model.proofs.SamenessLemmas.{group_name_eq-itself, group_name_eq-true}
-use Rattle.rbc_reach.specs.SameViews.{is_same_run, obstacle_eq, obstacle_eq-decides}
+use Rattle.rbc_grant.specs.SameViews.{is_same_run, obstacle_eq, obstacle_eq-decides}
 use Rattle.rbc_record.specs.declared.entry.Entry.{Entry as EntryHeld}
 use Rattle.rbc_record.specs.declared.entry.Entry.TheVariants.{Heard as HeardHeld, Granted as GrantedHeld}
 use Rattle.rbc_record.specs.Entries.{entry_of}

@@ -10,7 +10,7 @@ ghost use Rattle.rbc_model.specs.Histories.{IsLegal, IsBestHistory, NoMetreIsHel
 ghost use Rattle.rbc_model.specs.Scenes.{train_numbered};
 ghost use Rattle.rbc_model.specs.SoundTracks.{IsInForm};
 ghost use Rattle.rbc_model.specs.Views.{view};
-ghost use Rattle.rbc_scene.specs.Steps.{IsOfTrack};
+ghost use Rattle.rbc_grant.specs.Steps.{IsOfTrack};
 ghost use Rattle.rbc_record.specs.declared.limits.TheConstants.{MOST_ENTRIES};
 ghost use Rattle.rbc_record.specs.declared.faults.ApplyFault.TheVariants.{Full as FullToTold};
 ghost use Rattle.rbc_record.specs.declared.faults.CommitFault.TheVariants.{Full as FullToGrants, Stale};
@@ -21,10 +21,8 @@ ghost use Rattle.rbc_record.specs.Records.{scene_now, is_full};
 
 use crate::limits::MOST_ENTRIES;
 use crate::{ApplyFault, CommitFault, Entry, Grant, Receipt};
-use rbc_grant::Candidate;
+use rbc_grant::{Candidate, Scene, View};
 use rbc_model::{Event, Memory, OrMemory, Refusal, Told, ViewFault};
-use rbc_reach::View;
-use rbc_scene::Scene;
 use rbc_track::Track;
 use std::alloc::Global;
 use std::marker::Model;
@@ -228,7 +226,7 @@ impl Record {
         ensures train { IfOk result (λ v. v.train ≡ train) }
         ensures unknown { train_numbered (scene_now self.now) train ≡ None → result ≡ Err (Refused UnknownTrain) }
     {
-        rbc_reach::view(alloc, &self.scene, train)
+        rbc_grant::view(alloc, &self.scene, train)
     }
 
     /// The scene that the history leads to, apart from the record.

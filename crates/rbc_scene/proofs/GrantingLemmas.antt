@@ -34,10 +34,10 @@ use Rattle.rbc_scene_laws.proofs.OnLineLemmas.{OnLine-IsLine}
 use Rattle.rbc_scene_laws.proofs.SpotLemmas.{if_in, if_past, line_length-cons}
 use Rattle.rbc_scene_laws.proofs.TrainListLemmas.{find-passes}
 use Rattle.rbc_reach_laws.proofs.ShownLemmas.{legs_shown}
-use Rattle.rbc_line.specs.OnTracks.{LineOnTrack}
-use Rattle.rbc_extent.specs.TrainsOnTracks.{TrainOnTrack}
-use Rattle.rbc_book.specs.Books.{Book, HoldsOfTrain, book_with, scene_of, train_in}
-use Rattle.rbc_book.specs.Entries.{on_track}
+use Rattle.rbc_way.specs.OnTracks.{LineOnTrack}
+use Rattle.rbc_way.specs.TrainsOnTracks.{TrainOnTrack}
+use Rattle.rbc_way.specs.Books.{Book, HoldsOfTrain, book_with, scene_of, train_in}
+use Rattle.rbc_way.specs.Entries.{on_track}
 use Rattle.rbc_way.specs.Reaches.{BeginsWay}
 use Rattle.rbc_scene.specs.Grants.{granted_train, line_to}
 use Rattle.rbc_scene.specs.ScenesOnTracks.{SceneOnTrack, IsKept, scene_on}

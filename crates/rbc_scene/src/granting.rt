@@ -9,12 +9,8 @@ ghost use Rattle.rbc_scene.specs.Grants.{granted_train, line_to};
 ghost use Rattle.rbc_scene_laws.specs.Good.{IsGoodLocks};
 ghost use Rattle.rbc_way.specs.Reaches.{BeginsWay, scene_of};
 
-use rbc_book::Book;
-use rbc_extent::Train;
-use rbc_line::Line;
-use rbc_locks::Locks;
 use rbc_model::{Memory, OrMemory, Refusal};
-use rbc_way::{Reach, reach};
+use rbc_way::{Book, Line, Locks, Reach, Train, reach};
 use std::alloc::Global;
 
 /// An authority from one place to another, and the train's line, continued to have its metres.

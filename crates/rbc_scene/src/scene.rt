@@ -17,13 +17,10 @@ ghost use Rattle.rbc_scene_laws.specs.Good.{IsGoodScene};
 ghost use Rattle.rbc_scene.specs.Steps.{IsEventOfTrack, IsOfTrack, IsReportTold, MayNeedMemory, StepsOrMemory, StepsTo, end_cut, end_given_back, is_crowded, reach_of, refused_at_once, told_at_once};
 
 use crate::granting::{Granted, granted_to};
-use rbc_book::Book;
-use rbc_extent::{Train, reported};
-use rbc_locks::Locks;
 use rbc_model::limits::MOST_TRAINS;
 use rbc_model::{Event, Memory, Obstacle, OrMemory, Refusal, Report, RouteId, SectionId, Told};
 use rbc_track::Track;
-use rbc_way::reach;
+use rbc_way::{Book, Locks, Train, reach, reported};
 use std::alloc::Global;
 use std::marker::Model;
 use std::sync::Arc;

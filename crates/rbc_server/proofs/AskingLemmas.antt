@@ -25,13 +25,13 @@ use Rattle.rbc_model.specs.Words.{line_of, hex_of}
 use Rattle.rbc_scene_laws.proofs.KeptLemmas.{good_replay}
 use Rattle.rbc_grant_laws.specs.Candidates.{IsCandidateOf}
 use Rattle.rbc_grant_laws.proofs.CandidateLemmas.{IsBest-candidate}
-use Rattle.rbc_reach.specs.Forms.{metres_shown}
-use Rattle.rbc_reach.specs.SameViews.{is_same_view, same_views}
-use Rattle.rbc_grant.specs.Candidates.{Candidate, HasChosenProfiles}
-use Rattle.rbc_record.specs.declared.faults.CommitFault.{CommitFault}
-use Rattle.rbc_record.specs.declared.faults.CommitFault.TheVariants.{Full as FullToGrants, Stale, Foreign}
-use Rattle.rbc_record.specs.Entering.{EntersOrMemory, entry_granted, is_shown}
-use Rattle.rbc_record.specs.Records.{HistoryOnTrack, scene_now, is_full, with_entry}
+use Rattle.rbc_sweep.specs.Forms.{metres_shown}
+use Rattle.rbc_sweep.specs.SameViews.{is_same_view, same_views}
+use Rattle.rbc_sweep.specs.Candidates.{Candidate, HasChosenProfiles}
+use Rattle.rbc_sweep.specs.CommitFault.{CommitFault}
+use Rattle.rbc_sweep.specs.CommitFault.TheVariants.{Full as FullToGrants, Stale, Foreign}
+use Rattle.rbc_sweep.specs.Entering.{EntersOrMemory, entry_granted, is_shown}
+use Rattle.rbc_sweep.specs.Records.{HistoryOnTrack, scene_now, is_full, with_entry}
 use Rattle.rbc_replies.specs.Certificates.{IsBasisOf}
 use Rattle.rbc_words.specs.PriceText.{prices_of}
 use Rattle.rbc_replies.specs.Replies.{ObstacleIsOfTrack, IsWhole, grant_text}

@@ -3,7 +3,7 @@ use Rattle.std.proofs.Common.{◌≡◌, ℕ, List, Option, None, Result, Ok, Er
 use Rattle.rbc_model.specs.Tracks.{Track}
 use Rattle.rbc_model.specs.Histories.{Entry}
 use Rattle.rbc_model.specs.SessionReply.{SessionRefusal, refused_reply}
-use Rattle.rbc_record.specs.Records.{HistoryOnTrack}
+use Rattle.rbc_sweep.specs.Records.{HistoryOnTrack}
 use Rattle.rbc_replies.specs.Replies.{reply_text}
 use Rattle.rbc_replies.specs.declared.replies.SessionReply.{SessionReply}
 use Rattle.rbc_server.specs.declared.demand.Demand.{Demand}

@@ -7,10 +7,10 @@ use Rattle.rbc_model.specs.SoundTracks.{IsSound}
 use Rattle.rbc_model.specs.Tracks.{Track}
 use Rattle.rbc_model.specs.Histories.{Entry, replay}
 use Rattle.rbc_model.specs.Views.{view}
-use Rattle.rbc_record.specs.declared.limits.TheConstants.{MOST_ENTRIES}
-use Rattle.rbc_record.specs.Records.{HistoryOnTrack, history_on}
-use Rattle.rbc_desk.specs.Asking.{IsAnswered, IsAnsweredAt}
-use Rattle.rbc_desk.specs.declared.granted.Granted.{Granted as Grant}
+use Rattle.rbc_sweep.specs.limits.TheConstants.{MOST_ENTRIES}
+use Rattle.rbc_sweep.specs.Records.{HistoryOnTrack, history_on}
+use Rattle.rbc_sweep.specs.Asking.{IsAnswered, IsAnsweredAt}
+use Rattle.rbc_sweep.specs.Granted.{Granted as Grant}
 use Rattle.rbc_replies.specs.Replies.{ObstacleIsOfTrack}
 use Rattle.rbc_sweep.specs.Outcomes.{IsOutcome, asked}
 use Rattle.rbc_sweep.specs.declared.outcome.Answer.{Answer}

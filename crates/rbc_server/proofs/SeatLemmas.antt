@@ -19,17 +19,17 @@ use Rattle.rbc_model.specs.Histories.{Entry, Receipt, IsLegal, replay}
 use Rattle.rbc_model.specs.SessionReply.{SessionRefusal, BadEvent, Full, Memory, accepted_reply, blocked_reply, refused_reply}
 use Rattle.rbc_grant_laws.specs.Candidates.{IsCandidateOf}
 use Rattle.rbc_grant_laws.proofs.CandidateLemmas.{view-train}
-use Rattle.rbc_grant.specs.Candidates.{HasChosenProfiles}
-use Rattle.rbc_record.specs.declared.faults.ApplyFault.{ApplyFault}
-use Rattle.rbc_record.specs.declared.limits.TheConstants.{MOST_ENTRIES}
-use Rattle.rbc_record.specs.Entering.{entry_told}
-use Rattle.rbc_record.specs.Records.{HistoryOnTrack, history_on}
-use Rattle.rbc_desk.specs.declared.faults.AskFault.{AskFault}
-use Rattle.rbc_desk.specs.declared.faults.AskFault.TheVariants.{UnknownTrain, Blocked, Full as FullToAsker}
-use Rattle.rbc_desk.specs.declared.granted.Granted.{Granted as GrantedAtDesk}
-use Rattle.rbc_desk.specs.Asking.{fault_at, IsAnswered, IsAnsweredAt}
-use Rattle.rbc_desk.specs.Desks.{IsOfDesk}
-use Rattle.rbc_desk.specs.Telling.{IsToldAt}
+use Rattle.rbc_sweep.specs.Candidates.{HasChosenProfiles}
+use Rattle.rbc_sweep.specs.ApplyFault.{ApplyFault}
+use Rattle.rbc_sweep.specs.limits.TheConstants.{MOST_ENTRIES}
+use Rattle.rbc_sweep.specs.Entering.{entry_told}
+use Rattle.rbc_sweep.specs.Records.{HistoryOnTrack, history_on}
+use Rattle.rbc_sweep.specs.AskFault.{AskFault}
+use Rattle.rbc_sweep.specs.AskFault.TheVariants.{UnknownTrain, Blocked, Full as FullToAsker}
+use Rattle.rbc_sweep.specs.Granted.{Granted as GrantedAtDesk}
+use Rattle.rbc_sweep.specs.Asking.{fault_at, IsAnswered, IsAnsweredAt}
+use Rattle.rbc_sweep.specs.Desks.{IsOfDesk}
+use Rattle.rbc_sweep.specs.Telling.{IsToldAt}
 use Rattle.rbc_replies.specs.Replies.{refusal_view, ObstacleIsOfTrack, RefusalIsOfTrack, IsWhole, ReplyIsWhole, grant_text}
 use Rattle.rbc_replies.specs.declared.replies.Granted.{Granted as ToldGrant}
 use Rattle.rbc_replies.specs.declared.replies.SessionReply.{SessionReply}

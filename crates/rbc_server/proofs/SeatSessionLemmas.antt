@@ -8,7 +8,7 @@ use Rattle.rbc_model.specs.declared.limits.TheConstants.{LONGEST_LINE, MOST_LINE
 use Rattle.rbc_model.specs.declared.sessions.SessionFault.{SessionFault}
 use Rattle.rbc_model.specs.Talks.{Answered, IsTalk, Ends}
 use Rattle.rbc_model.specs.Histories.{Receipt}
-use Rattle.rbc_record.specs.Records.{HistoryOnTrack}
+use Rattle.rbc_sweep.specs.Records.{HistoryOnTrack}
 use Rattle.rbc_server.specs.SeatChanges.{SeatGoes}
 use Rattle.rbc_server.specs.SeatSessions.{SeatTurn, IsTurnAtDesk, receipts_of, receipts_gained, lines_at_seat, replies_at_seat, IsSeatSession}
 

@@ -5,9 +5,9 @@ use Rattle.std.specs.List.{AllZip}
 use Rattle.std.proofs.lemmas.Grind.{flat_map-append}
 use Rattle.std.proofs.lemmas.List.Sorted.{IsPermutation-append_right}
 use Rattle.rbc_model.specs.Histories.{Receipt}
-use Rattle.rbc_desk.specs.Closing.{all_receipts, IsUnmatched}
-use Rattle.rbc_record.specs.Records.{HistoryOnTrack}
-use Rattle.rbc_desk.specs.declared.faults.CloseFault.{CloseFault}
+use Rattle.rbc_sweep.specs.Closing.{all_receipts, IsUnmatched}
+use Rattle.rbc_sweep.specs.Records.{HistoryOnTrack}
+use Rattle.rbc_sweep.specs.CloseFault.{CloseFault}
 use Rattle.rbc_sweep.specs.Outcomes.{AreFirst}
 use Rattle.rbc_server.specs.Serving.{IsServeFault}
 use Rattle.rbc_server.specs.declared.serving.ServeFault.{ServeFault}

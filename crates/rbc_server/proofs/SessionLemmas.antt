@@ -7,7 +7,7 @@ use Rattle.rbc_model.specs.declared.sessions.SessionFault.{SessionFault}
 use Rattle.rbc_model.specs.Talks.{Answered, IsTalk, Ends}
 use Rattle.rbc_model.specs.Tracks.{Track}
 use Rattle.rbc_model.specs.Histories.{Entry}
-use Rattle.rbc_record.specs.Records.{HistoryOnTrack}
+use Rattle.rbc_sweep.specs.Records.{HistoryOnTrack}
 use Rattle.rbc_server.specs.Turns.{AnswersLine}
 use Rattle.rbc_server.specs.SessionRuns.{Turn, entries_of, entries_added, lines_treated, replies_to, IsSession}
 use Rattle.rbc_server.specs.Changes.{with_added, Goes}

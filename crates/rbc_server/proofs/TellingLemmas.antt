@@ -13,10 +13,10 @@ use Rattle.rbc_model.specs.Scenes.{Scene}
 use Rattle.rbc_model.specs.Events.{step}
 use Rattle.rbc_model.specs.Histories.{Entry, Heard, Receipt}
 use Rattle.rbc_model.specs.SessionReply.{Full, BadEvent, accepted_reply, refused_reply}
-use Rattle.rbc_record.specs.declared.faults.ApplyFault.{ApplyFault}
-use Rattle.rbc_record.specs.declared.faults.ApplyFault.TheVariants.{Full as FullToTold, Refused as RefusedByScene}
-use Rattle.rbc_record.specs.Entering.{EntersOrMemory, entry_told}
-use Rattle.rbc_record.specs.Records.{HistoryOnTrack, scene_now, is_full}
+use Rattle.rbc_sweep.specs.ApplyFault.{ApplyFault}
+use Rattle.rbc_sweep.specs.ApplyFault.TheVariants.{Full as FullToTold, Refused as RefusedByScene}
+use Rattle.rbc_sweep.specs.Entering.{EntersOrMemory, entry_told}
+use Rattle.rbc_sweep.specs.Records.{HistoryOnTrack, scene_now, is_full}
 use Rattle.rbc_replies.specs.Replies.{refusal_view, RefusalIsOfTrack, EventIsOfTrack}
 use Rattle.rbc_server.specs.Demands.{IsToldOfTrack}
 use Rattle.rbc_server.specs.Turns.{AnswersEvent, IsRefused, IsGivenUp, IsAccepted}

@@ -2,7 +2,7 @@
 use Rattle.std.specs.Prelude.{◌≡◌, ℕ, List, ◌++◌, Option}
 use Rattle.rbc_model.specs.Tracks.{Track}
 use Rattle.rbc_model.specs.Histories.{Entry}
-use Rattle.rbc_record.specs.Records.{HistoryOnTrack}
+use Rattle.rbc_sweep.specs.Records.{HistoryOnTrack}
 use Rattle.rbc_server.specs.Turns.{AnswersLine}
 use Rattle.rbc_server.specs.SessionRuns.{entries_of}
 

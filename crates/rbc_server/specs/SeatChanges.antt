@@ -2,7 +2,7 @@
 use Rattle.std.specs.Prelude.{◌≡◌, ℕ, List, ◌++◌, Option, Result}
 use Rattle.rbc_model.specs.Histories.{Receipt}
 use Rattle.rbc_model.specs.SessionReply.{SessionRefusal}
-use Rattle.rbc_record.specs.Records.{HistoryOnTrack}
+use Rattle.rbc_sweep.specs.Records.{HistoryOnTrack}
 use Rattle.rbc_server.specs.declared.demand.Demand.{Demand}
 use Rattle.rbc_server.specs.Demands.{demand_in}
 use Rattle.rbc_server.specs.SeatTurns.{AnswersDemandAtDesk}

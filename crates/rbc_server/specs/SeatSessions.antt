@@ -6,7 +6,7 @@ use Rattle.rbc_model.specs.declared.sessions.SessionFault.{SessionFault}
 use Rattle.rbc_model.specs.Sessions.{lines_of}
 use Rattle.rbc_model.specs.Talks.{Ends}
 use Rattle.rbc_model.specs.Histories.{Receipt}
-use Rattle.rbc_record.specs.Records.{HistoryOnTrack}
+use Rattle.rbc_sweep.specs.Records.{HistoryOnTrack}
 use Rattle.rbc_server.specs.SeatTurns.{AnswersLineAtDesk}
 
 -- A line that was treated, the reply to it, and the receipt that the seat gained for it, or none.

@@ -4,8 +4,8 @@ use Rattle.rbc_model.specs.declared.reports.Told.{Told}
 use Rattle.rbc_model.specs.Tracks.{Track}
 use Rattle.rbc_model.specs.Histories.{Entry, Receipt}
 use Rattle.rbc_model.specs.SessionReply.{SessionRefusal, Full, refused_reply}
-use Rattle.rbc_record.specs.Records.{HistoryOnTrack, history_on}
-use Rattle.rbc_desk.specs.Desks.{IsOfDesk}
+use Rattle.rbc_sweep.specs.Records.{HistoryOnTrack, history_on}
+use Rattle.rbc_sweep.specs.Desks.{IsOfDesk}
 use Rattle.rbc_server.specs.declared.demand.Demand.{Demand}
 use Rattle.rbc_server.specs.declared.demand.Demand.TheVariants.{Nothing, Event, Authority}
 use Rattle.rbc_server.specs.Demands.{demand_in}

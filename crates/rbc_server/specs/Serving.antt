@@ -9,12 +9,12 @@ use Rattle.rbc_model.specs.Scales.{unit_of}
 use Rattle.rbc_model.specs.SessionReply.{grant_reply, blocked_reply, refused_reply, Full as HistoryIsFull, Memory as NoMemory}
 use Rattle.rbc_model.specs.Tracks.{Track}
 use Rattle.rbc_model.specs.Words.{line_of}
-use Rattle.rbc_record.specs.Records.{HistoryOnTrack}
-use Rattle.rbc_record.specs.declared.limits.TheConstants.{MOST_ENTRIES}
-use Rattle.rbc_desk.specs.Closing.{all_receipts, IsUnmatched}
-use Rattle.rbc_desk.specs.declared.granted.Granted.{Granted as Grant}
+use Rattle.rbc_sweep.specs.Records.{HistoryOnTrack}
+use Rattle.rbc_sweep.specs.limits.TheConstants.{MOST_ENTRIES}
+use Rattle.rbc_sweep.specs.Closing.{all_receipts, IsUnmatched}
+use Rattle.rbc_sweep.specs.Granted.{Granted as Grant}
 use Rattle.rbc_replies.specs.Replies.{ObstacleIsOfTrack}
-use Rattle.rbc_desk.specs.Trains.{AreTrainsOf}
+use Rattle.rbc_sweep.specs.Trains.{AreTrainsOf}
 use Rattle.rbc_sweep.specs.Outcomes.{AreFirst, IsOutcome, granted, train_of}
 use Rattle.rbc_sweep.specs.declared.outcome.Answer.{Answer}
 use Rattle.rbc_sweep.specs.declared.outcome.Answer.TheVariants.{Granted, Blocked, Gone, Full, Memory}

@@ -9,12 +9,12 @@ use Rattle.rbc_model.specs.Reading.{read_message}
 use Rattle.rbc_model.specs.declared.places.Format.TheVariants.{Near}
 use Rattle.rbc_model.specs.PriceTables.{IsGreatestSoundTable}
 use Rattle.rbc_model.specs.Scales.{unit_of}
-use Rattle.rbc_reach.specs.Forms.{metres_shown}
-use Rattle.rbc_grant.specs.Candidates.{Candidate}
-use Rattle.rbc_record.specs.declared.faults.ApplyFault.{ApplyFault}
-use Rattle.rbc_record.specs.declared.faults.ApplyFault.TheVariants.{Full as FullToTold, Refused as RefusedByScene}
-use Rattle.rbc_desk.specs.declared.faults.AskFault.{AskFault}
-use Rattle.rbc_desk.specs.declared.granted.Granted.{Granted as GrantedAtDesk}
+use Rattle.rbc_sweep.specs.Forms.{metres_shown}
+use Rattle.rbc_sweep.specs.Candidates.{Candidate}
+use Rattle.rbc_sweep.specs.ApplyFault.{ApplyFault}
+use Rattle.rbc_sweep.specs.ApplyFault.TheVariants.{Full as FullToTold, Refused as RefusedByScene}
+use Rattle.rbc_sweep.specs.AskFault.{AskFault}
+use Rattle.rbc_sweep.specs.Granted.{Granted as GrantedAtDesk}
 use Rattle.rbc_words.specs.PriceText.{prices_of}
 use Rattle.rbc_replies.specs.declared.replies.Granted.{Granted}
 use Rattle.rbc_replies.specs.declared.replies.SessionRefusal.{SessionRefusal}

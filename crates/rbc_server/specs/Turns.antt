@@ -17,7 +17,7 @@ use Rattle.rbc_model.specs.Events.{step}
 use Rattle.rbc_model.specs.Views.{View, view}
 use Rattle.rbc_model.specs.Histories.{Entry, Heard, Granted, Grants, IsBest, replay}
 use Rattle.rbc_model.specs.SessionReply.{SessionRefusal, BadEvent, Full, Memory, accepted_reply, grant_reply, blocked_reply, refused_reply}
-use Rattle.rbc_record.specs.declared.limits.TheConstants.{MOST_ENTRIES}
+use Rattle.rbc_sweep.specs.limits.TheConstants.{MOST_ENTRIES}
 use Rattle.rbc_server.specs.declared.demand.Demand.{Demand}
 use Rattle.rbc_server.specs.declared.demand.Demand.TheVariants.{Nothing, Event, Authority}
 use Rattle.rbc_server.specs.Demands.{demand_in}

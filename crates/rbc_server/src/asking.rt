@@ -7,20 +7,18 @@ ghost use Rattle.rbc_model.specs.Answers.{RefusesOrMemory};
 ghost use Rattle.rbc_model.specs.Scenes.{train_numbered};
 ghost use Rattle.rbc_model.specs.Sessions.{Prints};
 ghost use Rattle.rbc_model.specs.Views.{view};
-ghost use Rattle.rbc_grant.specs.Candidates.{HasChosenProfiles};
+ghost use Rattle.rbc_sweep.specs.Candidates.{HasChosenProfiles};
 ghost use Rattle.rbc_grant_laws.specs.Candidates.{IsCandidateOf};
-ghost use Rattle.rbc_record.specs.Records.{scene_now};
+ghost use Rattle.rbc_sweep.specs.Records.{scene_now};
 ghost use Rattle.rbc_replies.specs.Replies.{reply_text, ReplyIsWhole};
 ghost use Rattle.rbc_server.specs.Changes.{Comes};
 ghost use Rattle.rbc_server.specs.Shown.{IsToldOf};
 ghost use Rattle.rbc_server.specs.Turns.{AnswersAuthority};
 
-use rbc_grant::{Candidate, candidate};
 use rbc_model::{OrMemory, Refusal, ViewFault};
-use rbc_reach::View;
-use rbc_record::{CommitFault, Record};
 use rbc_replies::{Basis, Granted, SessionRefusal, SessionReply, print};
 use rbc_streams::{Sink, WriteFailed};
+use rbc_sweep::{Candidate, CommitFault, Record, View, candidate};
 use std::alloc::Global;
 use std::thread::Threads;
 

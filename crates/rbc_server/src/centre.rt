@@ -5,10 +5,10 @@ use crate::demand::{Demand, demand_in};
 use crate::telling::tell;
 use rbc_model::LineFault;
 use rbc_model::limits::LONGEST_LINE;
-use rbc_record::Record;
 use rbc_replies::{SessionRefusal, SessionReply, print};
 use rbc_session::Answers;
 use rbc_streams::{Sink, WriteFailed};
+use rbc_sweep::Record;
 use std::alloc::Global;
 use std::thread::Threads;
 

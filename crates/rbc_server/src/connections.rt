@@ -7,8 +7,8 @@ ghost use Rattle.rbc_sweep.specs.Outcomes.{AreFirst};
 
 use crate::ends::End;
 use crate::session;
-use rbc_desk::{Desk, DeskName, OpenGate, Seat};
 use rbc_streams::Stream;
+use rbc_sweep::{Desk, DeskName, OpenGate, Seat};
 use rbc_track::Track;
 use std::alloc::{AllocError, Global};
 use std::cell::RefCell;

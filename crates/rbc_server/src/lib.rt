@@ -14,5 +14,6 @@ mod telling;
 
 pub use demand::Demand;
 pub use rbc_session::SessionFault;
+pub use rbc_sweep::{Desk, DeskName, Record};
 pub use serving::{ServeFault, serve};
 pub use sessions::{run, session};

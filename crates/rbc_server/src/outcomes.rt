@@ -3,15 +3,14 @@
 ghost use Rattle.std.specs.Prelude.{◌≡◌, ◌<◌, ◌∷◌, ◌++◌, [], ℕ, List, All, false, decimal, OnOk, is_err};
 ghost use Rattle.std.specs.Io.KnownBytes.{Appends};
 ghost use Rattle.rbc_model.specs.Sessions.{Prints};
-ghost use Rattle.rbc_record.specs.declared.limits.TheConstants.{MOST_ENTRIES};
+ghost use Rattle.rbc_sweep.specs.limits.TheConstants.{MOST_ENTRIES};
 ghost use Rattle.rbc_replies.specs.Replies.{ObstacleIsOfTrack};
 ghost use Rattle.rbc_server.specs.Serving.{TellsAll, TellsAnswer, TellsGrant, AnswerIsTellable, IsTellable, closed_line};
 
 use crate::asking::told_of;
-use rbc_desk::Granted;
 use rbc_replies::{SessionRefusal, SessionReply, print};
 use rbc_streams::{Sink, WriteFailed, put};
-use rbc_sweep::{Answer, Outcome};
+use rbc_sweep::{Answer, Granted, Outcome};
 use rbc_track::Track;
 use rbc_words::print_number;
 

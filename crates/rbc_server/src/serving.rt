@@ -7,10 +7,9 @@ ghost use Rattle.rbc_server.specs.declared.serving.ServeFault.TheVariants.{Port,
 
 use crate::connections::{ConnectFault, connect};
 use crate::outcomes::{print_closed, print_outcomes};
-use rbc_desk::{CloseFault, Desk, DeskName, OpenGate, Record, Seat};
 use rbc_model::Memory;
 use rbc_streams::{Sink, WriteFailed};
-use rbc_sweep::sweep;
+use rbc_sweep::{CloseFault, Desk, DeskName, OpenGate, Record, Seat, sweep};
 use rbc_track::Track;
 use std::alloc::{AllocError, Global};
 use std::io::{Read, Write};

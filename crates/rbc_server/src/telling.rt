@@ -8,8 +8,8 @@ ghost use Rattle.rbc_server.specs.Shown.{told_refusal};
 ghost use Rattle.rbc_server.specs.Turns.{AnswersEvent};
 
 use rbc_model::{OrMemory, Told};
-use rbc_record::{ApplyFault, Record};
 use rbc_replies::{SessionRefusal, SessionReply};
+use rbc_sweep::{ApplyFault, Record};
 use std::alloc::Global;
 
 /// The reply to what is told. Where it is accepted, the record gains an entry; where it is refused, nothing changes.

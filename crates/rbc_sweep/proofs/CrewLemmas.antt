@@ -7,7 +7,7 @@ use Rattle.std.proofs.lemmas.List.Concat.{flat_map-append}
 use Rattle.std.proofs.lemmas.List.Elements.{All-append, All-nil}
 use Rattle.std.proofs.lemmas.List.Sorted.{IsPermutation-append_left, IsPermutation-append_right, IsPermutation-refl, IsPermutation-trans}
 use Rattle.rbc_model.specs.Histories.{Receipt}
-use Rattle.rbc_record.specs.Records.{HistoryOnTrack}
+use Rattle.rbc_desk.specs.Records.{HistoryOnTrack}
 use Rattle.rbc_desk.specs.Closing.{all_receipts}
 use Rattle.rbc_sweep.specs.declared.jobs.Tally.{Tally}
 use Rattle.rbc_sweep.specs.declared.order.Done.{Done}

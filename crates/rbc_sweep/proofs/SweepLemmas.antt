@@ -7,7 +7,7 @@ use Rattle.std.proofs.lemmas.List.Elements.{All-append, All-map, All-same}
 use Rattle.std.proofs.lemmas.List.Sorted.{All-permutation, IsPermutation-append_comm, IsPermutation-sym, IsPermutation-trans}
 use Rattle.std.proofs.lemmas.List.Sums.{sum_by-append}
 use Rattle.rbc_model.specs.Histories.{Receipt}
-use Rattle.rbc_record.specs.Records.{HistoryOnTrack}
+use Rattle.rbc_desk.specs.Records.{HistoryOnTrack}
 use Rattle.rbc_sweep.specs.declared.jobs.Job.{Job}
 use Rattle.rbc_sweep.specs.declared.jobs.Tally.{Tally}
 use Rattle.rbc_sweep.specs.declared.order.Done.{Done}

@@ -7,7 +7,7 @@ use Rattle.std.proofs.lemmas.List.Elements.{All-nil, All-push}
 use Rattle.rbc_model.specs.declared.memory.OrMemory.{OrMemory}
 use Rattle.rbc_model.specs.Histories.{Granted as GrantedEntry, Receipt}
 use Rattle.rbc_grant_laws.specs.Candidates.{IsCandidateOf}
-use Rattle.rbc_record.specs.Records.{HistoryOnTrack}
+use Rattle.rbc_desk.specs.Records.{HistoryOnTrack}
 use Rattle.rbc_desk.specs.declared.faults.AskFault.{AskFault}
 use Rattle.rbc_desk.specs.declared.granted.Granted.{Granted as Grant}
 use Rattle.rbc_sweep.specs.declared.jobs.Job.{Job}

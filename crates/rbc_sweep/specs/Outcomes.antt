@@ -4,7 +4,7 @@ use Rattle.rbc_model.specs.declared.memory.OrMemory.{OrMemory}
 use Rattle.rbc_model.specs.declared.memory.OrMemory.TheVariants.{Refused, Memory as NoMemory}
 use Rattle.rbc_model.specs.Histories.{Granted as GrantedEntry, Receipt}
 use Rattle.rbc_grant_laws.specs.Candidates.{IsCandidateOf}
-use Rattle.rbc_record.specs.Records.{HistoryOnTrack}
+use Rattle.rbc_desk.specs.Records.{HistoryOnTrack}
 use Rattle.rbc_desk.specs.declared.faults.AskFault.{AskFault}
 use Rattle.rbc_desk.specs.declared.faults.AskFault.TheVariants.{UnknownTrain, Blocked as BlockedAt, Full as FullRecord}
 use Rattle.rbc_desk.specs.declared.granted.Granted.{Granted as Grant}

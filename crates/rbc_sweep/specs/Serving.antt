@@ -3,7 +3,7 @@ use Rattle.std.specs.Prelude.{◌≡◌, ℕ, ◌+◌, List, ◌++◌, All, IsPe
 use Rattle.std.specs.List.{AllZip}
 use Rattle.crossbeam_queue.specs.Passes.{Pass, view}
 use Rattle.rbc_model.specs.Histories.{Receipt}
-use Rattle.rbc_record.specs.Records.{HistoryOnTrack}
+use Rattle.rbc_desk.specs.Records.{HistoryOnTrack}
 use Rattle.rbc_desk.specs.Closing.{all_receipts}
 use Rattle.rbc_sweep.specs.declared.jobs.Job.{Job}
 use Rattle.rbc_sweep.specs.declared.jobs.Tally.{Tally}

@@ -10,5 +10,9 @@ mod sweeping;
 mod worker;
 
 pub use outcome::{Answer, Outcome};
+pub use rbc_desk::{
+    ApplyFault, AskFault, Candidate, CloseFault, CommitFault, Desk, DeskName, Entry, Gate, Granted,
+    OpenGate, Receipt, Record, Scene, Seat, Train, View, candidate,
+};
 pub use rbc_model::Memory;
 pub use sweeping::sweep;

@@ -3,7 +3,7 @@ use Rattle.std.proofs.Common.{◌≡◌, List, [], ◌∷◌, refl, ap}
 use Rattle.std.specs.Prelude.{map}
 use Rattle.rbc_model.specs.Tracks.{Track}
 use Rattle.rbc_model.specs.Trains.{Train}
-use Rattle.rbc_extent.specs.TrainsOnTracks.{TrainOnTrack}
+use Rattle.rbc_book.specs.TrainsOnTracks.{TrainOnTrack}
 use Rattle.rbc_book.specs.Entries.{on_track}
 
 pub same_trains : (track : Track) (trains : List Train) → map (λ (t : TrainOnTrack). t.train) (map (on_track track) trains) ≡ trains

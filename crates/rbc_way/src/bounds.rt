@@ -5,7 +5,7 @@ ghost use Rattle.rbc_model.specs.Scales.{farthest};
 ghost use Rattle.rbc_model.specs.Views.{start_of};
 ghost use Rattle.rbc_model.specs.declared.places.Format.TheVariants.{Near};
 
-use rbc_extent::Train;
+use rbc_book::Train;
 
 /// The place from which the way is searched: the start of the train's authority, or its front where that lies behind.
 pub(crate) fn start_of(train: &Train) -> u32

@@ -9,8 +9,7 @@ ghost use Rattle.rbc_model.specs.declared.places.Format.TheVariants.{Near};
 ghost use Rattle.rbc_way.specs.Reaches.{is_ahead};
 
 use crate::bounds::limit_of;
-use rbc_extent::Train;
-use rbc_line::Line;
+use rbc_book::{Line, Train};
 use rbc_model::Obstacle;
 use std::marker::Model;
 

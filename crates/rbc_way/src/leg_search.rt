@@ -14,8 +14,7 @@ ghost use Rattle.rbc_way.specs.Stretches.{IsTableOf, stretches_at};
 
 use crate::bounds::{limit_of, start_of};
 use crate::stretches::{Span, Stretch, Stretches, metres_of};
-use rbc_extent::Train;
-use rbc_locks::Locks;
+use rbc_book::{Locks, Train};
 use rbc_model::{Direction, Leg, Obstacle, SectionId};
 
 /// A place with an obstacle, and the obstacle.

@@ -10,5 +10,6 @@ mod search;
 mod stretches;
 
 pub use found::Reach;
+pub use rbc_book::{Book, Line, Locks, Train, reported};
 pub use rbc_model::{Memory, Obstacle};
 pub use search::reach;

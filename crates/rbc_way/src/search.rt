@@ -17,10 +17,7 @@ ghost use Rattle.rbc_way.specs.Stretches.{IsTableOf};
 use crate::found::Reach;
 use crate::leg_search::{Stop, WayLeg, stop_on};
 use crate::stretches::{Stretches, metres_of, stretches_of};
-use rbc_book::Book;
-use rbc_extent::Train;
-use rbc_line::{Line, SectionSet};
-use rbc_locks::Locks;
+use rbc_book::{Book, Line, Locks, SectionSet, Train};
 use rbc_model::{Leg, Memory, Obstacle};
 use std::alloc::Global;
 

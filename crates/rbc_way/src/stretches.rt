@@ -8,8 +8,7 @@ ghost use Rattle.rbc_model.specs.declared.limits.TheConstants.{LONGEST_TRACK};
 ghost use Rattle.rbc_way.specs.Reaches.{scene_of};
 ghost use Rattle.rbc_way.specs.Stretches.{IsTableOf, span_has, span_met_on, span_on, stretch_of, stretches_along, stretches_at};
 
-use rbc_book::Book;
-use rbc_extent::Train;
+use rbc_book::{Book, Train};
 use rbc_model::{Direction, Leg, Memory, SectionId};
 use rbc_track::Track;
 use std::alloc::Global;

@@ -1,14 +1,13 @@
 //! Desks with two seats, of which one is slow.
 
 ghost use Rattle.std.specs.Prelude.{◌≡◌};
-ghost use Rattle.rbc_scene.specs.Steps.{IsOfTrack};
+ghost use Rattle.rbc_sweep.specs.Steps.{IsOfTrack};
 
 use super::gates::{Tells, Waits};
 use super::telling::{record_of, shared_track, told_by};
 use super::{BRANCH, PLAIN};
-use rbc_desk::{AskFault, CloseFault, Desk, DeskName, OpenGate};
 use rbc_model::{Direction, Leg, Obstacle, OrMemory, SectionId, Told};
-use rbc_record::Record;
+use rbc_sweep::{AskFault, CloseFault, Desk, DeskName, OpenGate, Record};
 use std::marker::Brand;
 use std::process::Abort;
 use std::sync::atomic::{AtomicU64, Ordering};

@@ -3,10 +3,8 @@
 ghost use Rattle.std.specs.Prelude.{◌≡◌};
 
 use super::telling::told_by;
-use rbc_desk::{Desk, DeskName, Gate, Seat};
-use rbc_grant::{Candidate, candidate};
 use rbc_model::Memory;
-use rbc_reach::View;
+use rbc_sweep::{Candidate, Desk, DeskName, Gate, Seat, View, candidate};
 use rbc_track::Track;
 use std::alloc::Global;
 use std::process::Abort;

@@ -4,13 +4,12 @@
 //! example go on.
 
 ghost use Rattle.std.specs.Prelude.{◌≡◌};
-ghost use Rattle.rbc_scene.specs.Steps.{IsOfTrack};
+ghost use Rattle.rbc_sweep.specs.Steps.{IsOfTrack};
 
 use super::BRANCH;
 use super::telling::{record_of, shared_track, told_by};
-use rbc_desk::{Desk, DeskName, OpenGate, Seat};
 use rbc_model::{OrMemory, Told};
-use rbc_record::Record;
+use rbc_sweep::{Desk, DeskName, OpenGate, Record, Seat};
 use std::marker::Brand;
 use std::process::Abort;
 use std::sync::Wait;

@@ -1,12 +1,11 @@
 //! The same history once more.
 
 ghost use Rattle.std.specs.Prelude.{◌≡◌};
-ghost use Rattle.rbc_scene.specs.Steps.{IsOfTrack};
+ghost use Rattle.rbc_sweep.specs.Steps.{IsOfTrack};
 
 use super::telling::shared_track;
-use rbc_grant::candidate;
 use rbc_model::Told;
-use rbc_record::{Entry, Receipt, Record};
+use rbc_sweep::{Entry, Receipt, Record, candidate};
 use rbc_track::Track;
 use std::process::Abort;
 use std::thread::Threads;

@@ -1,8 +1,7 @@
 //! Whether two scenes are the same.
 
-use rbc_extent::Train;
 use rbc_model::SectionId;
-use rbc_scene::Scene;
+use rbc_sweep::{Scene, Train};
 use std::process::Abort;
 
 /// The two trains are the same.

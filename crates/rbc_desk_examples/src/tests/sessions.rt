@@ -4,9 +4,9 @@ use super::rows::{
     ONE_TRAIN, ONE_TRAIN_REPLIES, ROWS, Row, TWO_TRAINS, come_in_order, entries_told,
 };
 use super::{BRANCH, PLAIN, track_of};
-use rbc_record::Record;
 use rbc_server::{SessionFault, run};
 use rbc_streams::Stream;
+use rbc_sweep::Record;
 use std::alloc::Global;
 use std::io::{Read, Write};
 use std::process::Abort;

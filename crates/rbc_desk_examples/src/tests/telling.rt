@@ -2,11 +2,11 @@
 
 ghost use Rattle.std.specs.Prelude.{◌≡◌};
 ghost use Rattle.std.specs.Arc.{arc_value};
-ghost use Rattle.rbc_scene.specs.Steps.{IsOfTrack};
+ghost use Rattle.rbc_sweep.specs.Steps.{IsOfTrack};
 
 use super::track_of;
 use rbc_model::Told;
-use rbc_record::Record;
+use rbc_sweep::Record;
 use rbc_track::Track;
 use rbc_words::{Request, parse};
 use std::alloc::Global;

@@ -1,12 +1,10 @@
 //! What a scene answers to the lines of a session, and to grants, in words.
 
-ghost use Rattle.rbc_scene.specs.Steps.{IsEventOfTrack};
+ghost use Rattle.rbc_record.specs.Steps.{IsEventOfTrack};
 
 use super::scenes::{refused, scene_of, told_by};
-use rbc_grant::{Candidate, candidate};
 use rbc_model::{Event, Leg, Obstacle, OrMemory, Refusal, SectionId, Told, ViewFault};
-use rbc_reach::view;
-use rbc_scene::Scene;
+use rbc_record::{Candidate, Scene, candidate, view};
 use rbc_track::{LegName, Name, Track};
 use rbc_words::{Request, parse};
 use std::alloc::{AllocError, Global};

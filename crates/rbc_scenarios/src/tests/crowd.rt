@@ -3,7 +3,7 @@
 use super::PLAIN;
 use super::scenes::{refusal, scene_of};
 use rbc_model::{GroupName, OrMemory, Refusal, Report, ReportFields};
-use rbc_scene::Scene;
+use rbc_record::Scene;
 use std::alloc::Global;
 use std::process::Abort;
 

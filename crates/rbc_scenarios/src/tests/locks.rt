@@ -1,8 +1,8 @@
 //! Locks of the fork, and of as many sections as a track may have.
 
 use super::{FORK, leg, track_of};
-use rbc_locks::{Locks, Refusal};
-use rbc_model::{Direction, RouteId, SectionId};
+use rbc_model::{Direction, Refusal, RouteId, SectionId};
+use rbc_record::Locks;
 use rbc_track::Track;
 use std::alloc::Global;
 use std::process::Abort;

@@ -2,10 +2,8 @@
 
 use super::scenes::{shared, told_by};
 use super::{BRANCH, PLAIN};
-use rbc_grant::{Candidate, candidate};
 use rbc_model::OrMemory;
-use rbc_record::{CommitFault, Record};
-use rbc_scene::Scene;
+use rbc_record::{Candidate, CommitFault, Record, Scene, candidate};
 use std::alloc::Global;
 use std::process::Abort;
 use std::thread::Threads;

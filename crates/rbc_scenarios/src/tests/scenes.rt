@@ -1,12 +1,11 @@
 //! Scenes, told what the lines of a session say.
 
 ghost use Rattle.std.specs.Prelude.{◌≡◌};
-ghost use Rattle.rbc_scene.specs.Steps.{IsEventOfTrack, IsOfTrack};
+ghost use Rattle.rbc_record.specs.Steps.{IsEventOfTrack, IsOfTrack};
 
 use super::track_of;
-use rbc_extent::Train;
 use rbc_model::{Event, OrMemory, Refusal, SectionId, Told};
-use rbc_scene::Scene;
+use rbc_record::{Scene, Train};
 use rbc_track::Track;
 use rbc_words::{Request, parse};
 use std::alloc::Global;

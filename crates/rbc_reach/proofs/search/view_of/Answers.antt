@@ -5,7 +5,7 @@ use Rattle.rbc_model.specs.declared.refusals.ViewFault.TheVariants.{Blocked}
 use Rattle.rbc_model.specs.Lines.{line_length}
 use Rattle.rbc_model.specs.Tracks.{Track}
 use Rattle.rbc_model.specs.Views.{from_group, greatest_end, reach}
-use Rattle.rbc_way.specs.Reaches.{ReachOnTrack, scene_of}
+use Rattle.rbc_scene.specs.Reaches.{ReachOnTrack, scene_of}
 use Rattle.rbc_reach.proofs.FoundLemmas.{blocked, end_is, shown}
 use Rattle.rbc_reach.proofs.search.view_of.Goals as goal
 

@@ -1,7 +1,7 @@
 use Rattle.std.proofs.Common.{ap, ◌∙◌, refl, rules, SFits, w64}
 use Rattle.std.proofs.lemmas.Int.{to_z-of_z}
 use Rattle.rbc_model.specs.Views.{View}
-use Rattle.rbc_reach.specs.Forms.{metres_shown}
+use Rattle.rbc_sweep.specs.Forms.{metres_shown}
 use Rattle.rbc_server.proofs.AskingLemmas.{reads_back}
 use Rattle.rbc_server.proofs.asking.told_of.Goals as goal
 

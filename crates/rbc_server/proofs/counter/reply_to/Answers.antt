@@ -1,8 +1,8 @@
 use Rattle.std.proofs.Common.{◌≡◌, Err, rules, subst, sym}
 use Rattle.rbc_model.specs.declared.memory.OrMemory.TheVariants.{Refused}
-use Rattle.rbc_record.specs.Records.{history_on}
-use Rattle.rbc_desk.specs.declared.faults.AskFault.TheVariants.{Blocked}
-use Rattle.rbc_desk.specs.Asking.{IsAnswered}
+use Rattle.rbc_sweep.specs.Records.{history_on}
+use Rattle.rbc_sweep.specs.AskFault.TheVariants.{Blocked}
+use Rattle.rbc_sweep.specs.Asking.{IsAnswered}
 use Rattle.rbc_replies.specs.Replies.{grant_text}
 use Rattle.rbc_server.specs.SeatTurns.{AnswersAsked}
 use Rattle.rbc_server.specs.Shown.{entry_granted_in}

@@ -3,7 +3,7 @@ use Rattle.std.specs.Prelude.{All, IsPermutation}
 use Rattle.std.proofs.lemmas.Result.{err_from_is_err_and}
 use Rattle.std.proofs.KnownBytes.{Appends-trans}
 use Rattle.std.specs.Io.KnownBytes.{Appends}
-use Rattle.rbc_desk.specs.Closing.{all_receipts}
+use Rattle.rbc_sweep.specs.Closing.{all_receipts}
 use Rattle.rbc_model.specs.SoundTracks.{IsSound}
 use Rattle.rbc_sweep.specs.Outcomes.{AreFirst, IsOutcome, granted}
 use Rattle.rbc_server.specs.Serving.{TellsAll, IsTellable, closed_line}

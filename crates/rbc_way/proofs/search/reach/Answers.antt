@@ -5,7 +5,7 @@ use Rattle.rbc_model.specs.Obstacles.{way}
 use Rattle.rbc_model.specs.Scenes.{others}
 use Rattle.rbc_model.specs.Tracks.{Track}
 use Rattle.rbc_model.specs.Views.{reach, stop}
-use Rattle.rbc_line.specs.OnTracks.{LineOnTrack}
+use Rattle.rbc_book.specs.OnTracks.{LineOnTrack}
 use Rattle.rbc_reach_laws.specs.Nearest.{walk_on}
 use Rattle.rbc_way.specs.declared.leg_search.Stop.{Stop}
 use Rattle.rbc_way.specs.OnLegs.{told}

@@ -7,7 +7,7 @@ use Rattle.rbc_scene_laws.proofs.SpotLemmas.{line_length-append}
 use Rattle.rbc_way.specs.declared.leg_search.Stop.{Stop}
 use Rattle.rbc_way.specs.OnLegs.{told}
 use Rattle.rbc_model.specs.Locks.{lengthened_fully, longer_ahead}
-use Rattle.rbc_line.specs.OnTracks.{LineOnTrack}
+use Rattle.rbc_book.specs.OnTracks.{LineOnTrack}
 use Rattle.rbc_reach_laws.specs.Nearest.{walk_on}
 use Rattle.rbc_model.specs.Tracks.{Track, metres_of}
 use Rattle.rbc_model.specs.Lines.{line_length, has_section}

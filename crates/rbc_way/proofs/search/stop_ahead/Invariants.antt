@@ -3,7 +3,7 @@ use Rattle.rbc_model.specs.Lines.{has_section, line_length}
 use Rattle.rbc_model.specs.Locks.{lengthened_fully, longer_ahead}
 use Rattle.rbc_model.specs.Scenes.{others}
 use Rattle.rbc_reach_laws.specs.Nearest.{walk_on}
-use Rattle.rbc_line.specs.SectionSets.{is_in}
+use Rattle.rbc_book.specs.SectionSets.{is_in}
 use Rattle.rbc_way.specs.Reaches.{Trains, scene_of}
 use Rattle.rbc_way.specs.Stretches.{IsTableOf}
 use Rattle.rbc_way.proofs.search.stop_ahead.Given as goal

@@ -6,7 +6,7 @@ use Rattle.std.specs.Prelude.{map}
 use Rattle.rbc_model.specs.Tracks.{Track}
 use Rattle.rbc_model.specs.Trains.{Train}
 use Rattle.rbc_model.specs.Scenes.{others}
-use Rattle.rbc_extent.specs.TrainsOnTracks.{TrainOnTrack}
+use Rattle.rbc_book.specs.TrainsOnTracks.{TrainOnTrack}
 use Rattle.rbc_book.specs.Entries.{on_track}
 use Rattle.rbc_way.specs.declared.stretches.Stretch.{Stretch}
 use Rattle.rbc_way.specs.Reaches.{scene_of}

@@ -1,7 +1,7 @@
 use Rattle.std.proofs.Common.{◌≡◌, ℕ, ◌++◌, [], length}
 use Rattle.std.specs.Prelude.{map}
 use Rattle.rbc_model.specs.Scenes.{others}
-use Rattle.rbc_extent.specs.TrainsOnTracks.{TrainOnTrack}
+use Rattle.rbc_book.specs.TrainsOnTracks.{TrainOnTrack}
 use Rattle.rbc_book.specs.Entries.{on_track}
 use Rattle.rbc_way.specs.Reaches.{scene_of}
 use Rattle.rbc_way.specs.Stretches.{stretches_at, stretches_of}
