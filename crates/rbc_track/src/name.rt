@@ -14,9 +14,6 @@ use std::hash::{Hash, Hasher};
 use std::marker::Model;
 use std::{fmt, str};
 
-#[cfg(test)]
-mod tests;
-
 /// The name of a section or a route: 1 to 16 bytes of `A` to `Z`, `a` to `z`, `0` to `9` and `_`. It is kept in place
 /// and takes no memory.
 #[derive(Clone, Copy)]

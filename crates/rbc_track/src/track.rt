@@ -25,9 +25,6 @@ use rbc_model::{BaliseGroup, GroupName, Leg, OrMemory, RouteId, SectionId, Track
 use std::alloc::Global;
 use std::marker::Model;
 
-#[cfg(test)]
-mod tests;
-
 /// A track: sections with their speeds and gradients, links between their legs, balise groups and routes. Names and
 /// links are found by look-ups.
 #[derive(Drop)]

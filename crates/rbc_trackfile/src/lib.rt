@@ -7,8 +7,6 @@ mod forms;
 mod items;
 mod levels;
 mod parts;
-#[cfg(test)]
-mod tests;
 mod values;
 
 pub use file::{parse, read, read_parts};
