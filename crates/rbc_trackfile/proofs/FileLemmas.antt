@@ -1,5 +1,5 @@
 -- The steps that are taken here make up the definition.
-use Rattle.std.proofs.Common.{◌≡◌, List, Option, Some, None, option_map, ℕ, refl, ap}
+use Rattle.std.proofs.Common.{◌≡◌, List, Option, Some, None, option_map, ℕ, refl}
 use Rattle.std.specs.Result.{result_map_both}
 use Rattle.toml.specs.Data.{Data, Members}
 use Rattle.rbc_model.specs.declared.files.FileFault.TheVariants.{Toml, Track as BadTrack}
@@ -19,10 +19,10 @@ unfolding keys_told top_told required_told optional_told there_told in_form_told
 top_is top = refl
 
 by_table : (found : Option Members)
-    → (or_fault Toml found >>= λ members. top_told (top_of members) >>= λ parts. result_map_both (λ (track : Track). track) BadTrack (track_of parts))
+    → (or_fault Toml found >>= λ members. parts_at toml_document (top_of members) >>= λ parts. result_map_both (λ (track : Track). track) BadTrack (track_of parts))
     ≡ track_in_file toml_document (option_map member_list found)
 by_table None = refl
-by_table (Some members) = ap (λ parts. parts >>= λ parts. result_map_both (λ (track : Track). track) BadTrack (track_of parts)) (top_is (top_of members))
+by_table (Some members) = refl
 
 pub file_is : (text : List ℕ) → file_told text ≡ track_in_file toml_document (option_map member_list (toml_table text))
 unfolding file_told

@@ -13,7 +13,7 @@ use Rattle.rbc_model.specs.declared.files.FileTable.TheVariants.{Top, Section as
 use Rattle.rbc_model.specs.declared.files.Key.{Key}
 use Rattle.rbc_model.specs.declared.files.Key.TheVariants.{Format as FormatKey, SpeedSteps, GradeSteps, Section as SectionKey, Link as LinkKey, Group as GroupKey, Route as RouteKey, Name, Length, Speeds, Grades, From, To, Country, Number, Offset, Nominal, After, Legs}
 use Rattle.rbc_model.specs.Results.{demand, ◌>>=◌, ◌>>◌}
-use Rattle.rbc_model.specs.TrackFile.{FileEntry, TopKeys, or_fault, or_absent, pair_in, each_at, value_at_key, number_from_to, run_of_pair, speed_in, grade_in, only_keys, track_in_file}
+use Rattle.rbc_model.specs.TrackFile.{FileEntry, TopKeys, or_fault, or_absent, pair_in, each_at, value_at_key, number_from_to, run_of_pair, speed_in, grade_in, only_keys, parts_at, track_in_file}
 use Rattle.rbc_model.specs.Levels.{Levels, speed_levels, grade_levels}
 use Rattle.rbc_model.specs.Names.{LegName, name_in, leg_in, direction_in}
 use Rattle.rbc_model.specs.Profiles.{StepFunction, runs_of}
@@ -194,7 +194,7 @@ toml_table text = if is_utf8 text then parse_document text else None
 unfoldable pub file_told : List ℕ → Result Track FileFault
 file_told text = do
   members ← or_fault Toml (toml_table text)
-  parts ← top_told (top_of members)
+  parts ← parts_at toml_document (top_of members)
   result_map_both (λ track. track) BadTrack (track_of parts)
 
 -- the track that a text tells, by the definition

@@ -151,7 +151,7 @@ fn track_in(alloc: Global, text: &[u8]) -> Result<Track, OrMemory<FileFault>>
     ensures { AnswersOrMemory result (file_told text.now) }
 {
     let table = parse(alloc, text)?;
-    let parts = top_parts(alloc, FileEntry::new(FileTable::Top, 1, &table))?;
+    let parts = read_parts(alloc, &table)?;
     match Track::new(alloc, parts) {
         Ok(track) => Ok(track),
         Err(OrMemory::Refused(refusal)) => Err(OrMemory::Refused(FileFault::Track(refusal))),
