@@ -6,4 +6,3 @@ mod LeavingLemmas
 mod LengthenedLemmas
 mod PositionLemmas
 mod OutcomeLemmas
-mod LockedLemmas

@@ -12,8 +12,6 @@ mod finding;
 mod placed;
 mod placing;
 mod reporting;
-#[cfg(test)]
-mod tests;
 mod through;
 mod train;
 

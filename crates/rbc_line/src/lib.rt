@@ -5,8 +5,6 @@ mod along;
 mod legs;
 mod line;
 mod section_set;
-#[cfg(test)]
-mod tests;
 mod track_level;
 
 pub use line::Line;
