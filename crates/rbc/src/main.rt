@@ -7,8 +7,6 @@ mod failure;
 mod load;
 mod serve;
 mod steps;
-#[cfg(test)]
-mod tests;
 
 use command_line::{Service, Task};
 use failure::Failure;

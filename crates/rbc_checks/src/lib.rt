@@ -12,6 +12,3 @@ pub use checking::check;
 pub use lines::{CheckLine, parse_check};
 pub use rbc_model::{Part, Reason};
 pub use rbc_session::{Answers, SessionFault, converse};
-
-#[cfg(test)]
-mod tests;

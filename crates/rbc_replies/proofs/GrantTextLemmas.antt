@@ -45,12 +45,6 @@ basis_of {V} levels profile track steps end basis same_steps same_end =
           (basis.below x (subst (λ e. x < e) same_end inside));
     }
 
--- the other way round
-pub basis_from : {V : Type 0} (levels : Levels V) (profile track : StepFunction V) (steps : List (ℕ × V)) (end : ℕ)
-    → IsBasisOf levels profile track → profile.steps ≡ steps → profile.end ≡ end → IsBasisOf levels (record { steps = steps; end = end }) track
-basis_from levels profile track steps end basis same_steps same_end =
-    basis_of levels (record { steps = steps; end = end }) track profile.steps profile.end basis (sym same_steps) (sym same_end)
-
 -- the line of a message
 abbrev pub message_line : List ℕ → List ℕ
 message_line message = line_of (codes "message" ∷ hex_of message ∷ [])

@@ -6,8 +6,3 @@ mod line_words;
 mod replies;
 
 pub use replies::{Basis, Granted, SessionRefusal, SessionReply, print};
-
-#[cfg(test)]
-mod sheet;
-#[cfg(test)]
-mod tests;

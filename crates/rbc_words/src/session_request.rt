@@ -16,9 +16,6 @@ use rbc_model::limits::{
 use rbc_model::{GroupName, LineFault, Report, ReportFields};
 use rbc_track::Name;
 
-#[cfg(test)]
-mod tests;
-
 /// What a line of a session says that is not refused. Whether the track has a route, a section or a group of that
 /// name is not asked here.
 #[derive(Clone, Copy, Debug, PartialEq, Eq)]

@@ -73,31 +73,3 @@ impl Spelled for Grade {
 
     ghost same_levels = { refl };
 }
-
-#[cfg(test)]
-mod tests {
-    use super::*;
-    use std::test::*;
-
-    fn is_read<V: Spelled>(word: &[u8]) -> bool {
-        V::read(word).is_some()
-    }
-
-    #[test]
-    fn ranges(rt: HostRuntime) {
-        let words: [(&[u8], bool, bool); 8] = [
-            (b"4", false, true),
-            (b"5", true, true),
-            (b"254", true, true),
-            (b"255", true, false),
-            (b"600", true, false),
-            (b"601", false, false),
-            (b"-254", false, true),
-            (b"65541", false, false),
-        ];
-        for (word, speed, grade) in words {
-            assert_eq!(rt; is_read::<Speed>(word), speed);
-            assert_eq!(rt; is_read::<Grade>(word), grade);
-        }
-    }
-}

@@ -225,6 +225,3 @@ fn print_run<V: Spelled, W: Sink>(start: u32, value: V, writer: &mut W) -> Resul
     put(writer, b":")?;
     value.print(writer)
 }
-
-#[cfg(test)]
-mod tests;
