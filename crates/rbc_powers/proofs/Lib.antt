@@ -1,1 +1,2 @@
-mod PowerLemmas
+pub mod LayoutLemmas
+pub mod PowerLemmas

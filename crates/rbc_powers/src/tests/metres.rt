@@ -1,7 +1,17 @@
 //! The plain way to reduce: each cut at each metre is tried.
 
-use super::is_at_most;
+ghost use Rattle.std.specs.Prelude.{◌≡◌};
+
 use rbc_steps::Level;
+
+/// Whether the one level is no higher than the other.
+fn is_at_most<V: Level>(a: V, b: V) -> bool
+    ensures { result ≡ V.levels.at_most a b }
+{
+    a.known();
+    b.known();
+    a <= b
+}
 
 /// The lower of two levels.
 fn lower<V: Level>(a: V, b: V) -> V {

@@ -1,4 +1,4 @@
-use Rattle.rbc_powers.proofs.tests.is_at_most.Goals as goal
+use Rattle.rbc_powers.proofs.tests.metres.is_at_most.Goals as goal
 
 pub returns : goal.returns
 returns g c =
