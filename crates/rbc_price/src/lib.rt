@@ -14,6 +14,3 @@ mod shape;
 
 pub use checking::{Prices, check};
 pub use rbc_model::Reason;
-
-#[cfg(test)]
-mod tests;

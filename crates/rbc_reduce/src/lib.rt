@@ -14,6 +14,3 @@ mod traceback;
 
 pub use rbc_model::Memory;
 pub use reduction::{Reduced, reduce};
-
-#[cfg(test)]
-mod tests;

@@ -10,8 +10,6 @@ mod profile;
 mod rows;
 mod runs;
 mod speed;
-#[cfg(test)]
-mod tests;
 
 pub use grade::Grade;
 pub use level::Level;
