@@ -11,4 +11,4 @@ mod verdict;
 pub use checking::check;
 pub use lines::{CheckLine, parse_check};
 pub use rbc_model::{Part, Reason};
-pub use rbc_session::{Answers, SessionFault, converse};
+pub use rbc_streams::{Answers, SessionFault, converse};

@@ -13,7 +13,7 @@ mod sessions;
 mod telling;
 
 pub use demand::Demand;
-pub use rbc_session::SessionFault;
+pub use rbc_streams::SessionFault;
 pub use rbc_sweep::{Desk, DeskName, Record};
 pub use serving::{ServeFault, serve};
 pub use sessions::{run, session};

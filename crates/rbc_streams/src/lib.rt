@@ -1,15 +1,20 @@
-//! Readers and writers of bytes, and lines.
+//! Readers and writers of bytes, the lines of what is read, and sessions: what answers the lines, and the one loop over
+//! them.
 #![tactic(auto)]
 
+mod answers;
 mod line_reader;
 mod retried;
+mod session;
 mod stream;
 mod streams;
 mod whole;
 
+pub use answers::Answers;
 pub use line_reader::{Advance, LineReader};
 pub use rbc_model::{Memory, SessionFault};
 pub use retried::Retried;
+pub use session::converse;
 pub use stream::Stream;
 pub use streams::{ReadFailed, Sink, Source, WriteFailed, put};
 pub use whole::{WholeFault, read_whole};

@@ -2,8 +2,8 @@ use Rattle.std.proofs.Common.{refl, sym, ◌∙◌, subst, arith, add-one}
 use Rattle.std.proofs.lemmas.Result.{err_from_is_err_and}
 use Rattle.rbc_streams.specs.LineReading.{Steps, IsOverlong}
 use Rattle.rbc_streams.proofs.LineLemmas.{lines_of_overlong}
-use Rattle.rbc_session.proofs.UnderWayLemmas.{begins, over_before, takes, fails_reading, ends, has_too_many, goes_on, fails_writing, refuses, front_of, some_line}
-use Rattle.rbc_session.proofs.session.converse.Goals as goal
+use Rattle.rbc_streams.proofs.UnderWayLemmas.{begins, over_before, takes, fails_reading, ends, has_too_many, goes_on, fails_writing, refuses, front_of, some_line}
+use Rattle.rbc_streams.proofs.session.converse.Goals as goal
 
 pub loop-init : goal.loop-init
 loop-init g c =

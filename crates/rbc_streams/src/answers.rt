@@ -4,7 +4,7 @@ ghost use Rattle.std.specs.Prelude.{◌≡◌, ◌<◌, ◌≤◌, ℕ, List, le
 ghost use Rattle.std.specs.Thread.{IsSync};
 ghost use Rattle.rbc_model.specs.Sessions.{Prints};
 
-use rbc_streams::{Sink, WriteFailed};
+use crate::{Sink, WriteFailed};
 use std::alloc::Global;
 use std::thread::Threads;
 

@@ -5,10 +5,9 @@ ghost use Rattle.std.specs.Io.KnownBytes.{Consumes, IsAtEnd};
 ghost use Rattle.rbc_model.specs.Sessions.{Prints};
 ghost use Rattle.rbc_model.specs.Talks.{IsTalk};
 
-use crate::Answers;
+use crate::{Advance, Answers, LineReader, Sink, Source, WriteFailed};
 use rbc_model::SessionFault;
 use rbc_model::limits::MOST_LINES;
-use rbc_streams::{Advance, LineReader, Sink, Source, WriteFailed};
 use std::alloc::Global;
 use std::thread::Threads;
 

@@ -1,7 +1,7 @@
 use Rattle.std.proofs.Common.{◌≡◌, false, []}
 use Rattle.rbc_streams.specs.LineReading.{KnowsEnd}
-use Rattle.rbc_session.proofs.UnderWayLemmas.{IsUnderWay}
-use Rattle.rbc_session.proofs.session.converse.Given as goal
+use Rattle.rbc_streams.proofs.UnderWayLemmas.{IsUnderWay}
+use Rattle.rbc_streams.proofs.session.converse.Given as goal
 
 abbrev pub invariant-loop : goal.invariant-loop
 invariant-loop g l = record {
