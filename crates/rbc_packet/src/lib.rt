@@ -20,6 +20,3 @@ pub use packet_21::write_grade;
 pub use packet_27::write_speed;
 pub use profile::write_profile;
 pub use rbc_model::{Fault, FieldName, GroupName as Group, Memory};
-
-#[cfg(test)]
-mod tests;

@@ -10,9 +10,6 @@ use rbc_model::Memory;
 use std::alloc::Global;
 use std::marker::Model;
 
-#[cfg(test)]
-mod tests;
-
 /// How many bytes each read asks for at least.
 const PIECE: usize = 64 * 1024;
 

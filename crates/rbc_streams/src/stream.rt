@@ -9,9 +9,6 @@ use rbc_model::Memory;
 use std::alloc::Global;
 use std::io::{BufWriter, Read, Write};
 
-#[cfg(test)]
-mod tests;
-
 /// A reader of the standard library as a source, or a writer, behind a buffer, as a sink.
 ///
 /// A call that a signal interrupts is tried again, at most 1,000 times in a row. Any other error is a fault, and so is

@@ -79,36 +79,3 @@ fn append(bytes: &mut Vec<u8>, piece: &[u8]) -> Result<(), Memory>
 {
     Ok(bytes.extend_from_slice(piece)?)
 }
-
-#[cfg(test)]
-mod tests {
-    use super::*;
-    use crate::Stream;
-    use std::test::Fail;
-
-    #[test]
-    fn up_to_the_limit(rt: HostRuntime) -> Result<(), Fail> {
-        let bytes = vec![in rt.alloc(); 7u8; 20_000]?;
-        let mut reader = Stream::reader(bytes.as_slice());
-        match read_whole(rt.alloc(), &mut reader, 20_000) {
-            Ok(read) => assert_eq!(rt; read.as_slice(), bytes.as_slice()),
-            Err(_) => assert!(rt; false, "they are few enough"),
-        }
-        let mut again = Stream::reader(bytes.as_slice());
-        assert!(rt;
-            matches!(
-                read_whole(rt.alloc(), &mut again, 19_999),
-                Err(WholeFault::TooLong)
-            )
-        );
-        Ok(())
-    }
-
-    #[test]
-    fn no_byte(rt: HostRuntime) {
-        let mut reader = Stream::reader(b"".as_slice());
-        assert!(rt;
-            matches!(read_whole(rt.alloc(), &mut reader, 0), Ok(bytes) if bytes.is_empty())
-        );
-    }
-}

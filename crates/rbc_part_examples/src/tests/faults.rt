@@ -1,0 +1,118 @@
+//! Bytes that are no message: the first fault is told.
+
+use super::MESSAGE;
+use rbc_packet::{Fault, FieldName, read_message};
+use std::process::Abort;
+
+/// What comes of the message where one bit is another, any from the first to below the second: a fault, or another
+/// authority.
+const ONE_BIT: [(usize, usize, Option<Fault>); 45] = [
+    // The header.
+    (0, 8, Some(Fault::Number)),
+    (8, 12, Some(Fault::Short)),
+    (12, 13, Some(Fault::Extra)),
+    (13, 15, Some(Fault::Short)),
+    (15, 18, Some(Fault::Extra)),
+    (18, 50, None),
+    (50, 51, Some(Fault::Field(FieldName::M_ACK))),
+    (51, 75, None),
+    // Packet 15.
+    (75, 83, Some(Fault::Number)),
+    (83, 85, Some(Fault::Field(FieldName::Q_DIR))),
+    (85, 98, Some(Fault::Length)),
+    (98, 100, Some(Fault::Field(FieldName::Q_SCALE))),
+    (100, 107, Some(Fault::Field(FieldName::V_LOA))),
+    (107, 117, Some(Fault::Field(FieldName::T_LOA))),
+    (117, 122, Some(Fault::Field(FieldName::N_ITER))),
+    // Another end than the gradients have.
+    (122, 137, Some(Fault::Field(FieldName::D_GRADIENT))),
+    (137, 138, Some(Fault::Field(FieldName::Q_SECTIONTIMER))),
+    (138, 139, Some(Fault::Field(FieldName::Q_ENDTIMER))),
+    (139, 140, Some(Fault::Field(FieldName::Q_DANGERPOINT))),
+    (140, 141, Some(Fault::Field(FieldName::Q_OVERLAP))),
+    // Packet 21.
+    (141, 149, Some(Fault::Number)),
+    (149, 151, Some(Fault::Field(FieldName::Q_DIR))),
+    (151, 164, Some(Fault::Length)),
+    (164, 166, Some(Fault::Field(FieldName::Q_SCALE))),
+    (166, 181, Some(Fault::Field(FieldName::D_GRADIENT))),
+    (181, 190, None),
+    // More steps than the packet has room for, and none.
+    (190, 194, Some(Fault::Length)),
+    (194, 195, Some(Fault::Field(FieldName::N_ITER))),
+    (195, 210, Some(Fault::Field(FieldName::D_GRADIENT))),
+    (210, 219, Some(Fault::Field(FieldName::G_A))),
+    // Packet 27.
+    (219, 227, Some(Fault::Number)),
+    (227, 229, Some(Fault::Field(FieldName::Q_DIR))),
+    (229, 242, Some(Fault::Length)),
+    (242, 244, Some(Fault::Field(FieldName::Q_SCALE))),
+    (244, 259, Some(Fault::Field(FieldName::D_STATIC))),
+    (259, 266, None),
+    (266, 267, Some(Fault::Field(FieldName::Q_FRONT))),
+    (267, 272, Some(Fault::Field(FieldName::N_ITER))),
+    (272, 276, Some(Fault::Length)),
+    (276, 277, Some(Fault::Field(FieldName::N_ITER))),
+    (277, 292, Some(Fault::Field(FieldName::D_STATIC))),
+    (292, 299, Some(Fault::Field(FieldName::V_STATIC))),
+    (299, 300, Some(Fault::Field(FieldName::Q_FRONT))),
+    (300, 305, Some(Fault::Field(FieldName::N_ITER))),
+    // Behind the last packet.
+    (305, 312, Some(Fault::Padding)),
+];
+
+/// What comes of it where all these bits are others.
+const MORE_BITS: [(&[usize], Fault); 7] = [
+    // Group 16,383.
+    (
+        &[61, 62, 63, 64, 65, 66, 67, 68, 69, 71, 72, 73],
+        Fault::Field(FieldName::NID_BG),
+    ),
+    // An end at 0 m, and at 32,001 m.
+    (
+        &[127, 128, 129, 130, 131, 133],
+        Fault::Field(FieldName::L_ENDSECTION),
+    ),
+    (
+        &[122, 123, 124, 125, 126, 127, 129, 130, 131, 133, 136],
+        Fault::Field(FieldName::L_ENDSECTION),
+    ),
+    // A gradient of 0 downhill, and of 255.
+    (&[187, 189], Fault::Field(FieldName::G_A)),
+    (
+        &[182, 183, 184, 185, 186, 188],
+        Fault::Field(FieldName::G_A),
+    ),
+    // A speed of 0, and of 605 km/h.
+    (&[261, 263], Fault::Field(FieldName::V_STATIC)),
+    (
+        &[259, 260, 262, 263, 265],
+        Fault::Field(FieldName::V_STATIC),
+    ),
+];
+
+/// What is told of the message with these bits changed.
+fn fault_of(rt: &impl Abort, bits: &[usize]) -> Option<Fault> {
+    let mut bytes = MESSAGE;
+    for bit in bits {
+        assert!(rt; *bit < 312);
+        bytes[*bit / 8] ^= 0x80 >> (*bit % 8);
+    }
+    read_message(&bytes).err()
+}
+
+#[test]
+fn each_change_of_one_bit(rt: HostRuntime) {
+    for (first, end, outcome) in &ONE_BIT {
+        for bit in *first..*end {
+            assert_eq!(rt; fault_of(&rt, &[bit]), *outcome, "at {bit}");
+        }
+    }
+}
+
+#[test]
+fn values_that_are_not_allowed(rt: HostRuntime) {
+    for (bits, fault) in &MORE_BITS {
+        assert_eq!(rt; fault_of(&rt, bits), Some(*fault));
+    }
+}
