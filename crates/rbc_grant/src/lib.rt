@@ -10,6 +10,3 @@ pub use candidates::of_view::candidate;
 pub use certificates::{Losses, PriceTables};
 pub use rbc_model::Memory;
 pub use rbc_reach::{Locks, Scene, Train, View, view};
-
-#[cfg(test)]
-mod tests;

@@ -11,6 +11,3 @@ pub use rbc_model::{OrMemory, ViewFault};
 pub use rbc_scene::{Locks, Scene, Train};
 pub use search::view;
 pub use views::View;
-
-#[cfg(test)]
-mod tests;

@@ -1,0 +1,7 @@
+use Rattle.rbc_centre_examples.proofs.tests.servers.talking_peer_is_answered_and_its_train_swept.Given as goal
+
+abbrev pub ghosts-served-L-DeskName : goal.ghosts-served-L-DeskName
+ghosts-served-L-DeskName _ a = record { opened = a.history }
+
+abbrev pub ghosts-served-L-Ledger : goal.ghosts-served-L-Ledger
+ghosts-served-L-Ledger _ a = record { name = a.blank.name; parts = a.blank.parts }

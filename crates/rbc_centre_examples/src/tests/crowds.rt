@@ -1,0 +1,128 @@
+//! Four seats at once, of which some tell and ask for the same.
+
+ghost use Rattle.std.specs.Prelude.{◌≡◌};
+
+use super::BRANCH;
+use super::replays::replayed;
+use super::scenes::scenes_agree;
+use super::telling::{closed, record_of, shared_track, told_by};
+use rbc_model::OrMemory;
+use rbc_sweep::{Desk, DeskName, OpenGate, Record, Seat};
+use rbc_track::Track;
+use rbc_words::{Request, parse};
+use std::marker::Brand;
+use std::process::Abort;
+use std::sync::Wait;
+use std::sync::ledger::Blank;
+use std::thread;
+use std::thread::Threads;
+
+/// How often each seat treats its lines.
+const ROUNDS: usize = 250;
+
+/// The lines of each seat. The first and the third lock the same section, and their trains stand on it.
+const LINES: [[&str; 8]; 4] = [
+    [
+        "lock R1",
+        "report 1 5/17 nominal 300 5 5 200 1000",
+        "ask 1",
+        "free S1",
+        "report 1 5/17 nominal 420 5 5 200 1010",
+        "ask 2",
+        "leave 1",
+        "free S1",
+    ],
+    [
+        "lock R2",
+        "report 2 5/17 nominal 700 5 5 200 2000",
+        "ask 2",
+        "report 2 5/17 nominal 1200 5 5 200 2010",
+        "ask 1",
+        "free S2",
+        "leave 2",
+        "free S2",
+    ],
+    [
+        "lock R3",
+        "report 3 5/18 nominal 0 5 5 200 3000",
+        "ask 3",
+        "free S2",
+        "report 3 5/18 nominal 300 5 5 200 3010",
+        "ask 3",
+        "leave 3",
+        "free S1",
+    ],
+    [
+        "lock R4",
+        "report 4 5/17 nominal 250 5 5 200 4000",
+        "ask 4",
+        "lock R4",
+        "leave 4",
+        "ask 1",
+        "free S3",
+        "lock R2",
+    ],
+];
+
+/// Treats a line at the desk. It may be refused, but never for want of memory.
+fn treat<L: DeskName, R>(rt: &R, desk: &Desk<L>, track: &Track, seat: &mut Seat<L>, line: &str)
+where
+    R: Threads + Wait + Abort + AllocGlobal + Sync,
+    requires { track.now ≡ L.opened.track }
+{
+    if let Ok(Request::Ask(train)) = parse(line.as_bytes()) {
+        let asked = desk.ask(rt, rt.alloc(), seat, train, &OpenGate);
+        assert!(rt; !matches!(&asked, Err(OrMemory::Memory)));
+        return;
+    }
+    let told = told_by(rt, track, line);
+    let heard = desk.event(rt, rt.alloc(), seat, told);
+    assert!(rt; !matches!(&heard, Err(OrMemory::Memory)));
+}
+
+/// Treats the lines of a seat, again and again.
+fn work<L: DeskName, R>(rt: &R, desk: &Desk<L>, track: &Track, seat: &mut Seat<L>, lines: &[&str])
+where
+    R: Threads + Wait + Abort + AllocGlobal + Sync,
+    requires { track.now ≡ L.opened.track }
+{
+    for _round in 0..ROUNDS {
+        for line in lines {
+            treat(rt, desk, track, seat, line);
+        }
+    }
+}
+
+/// The record after all four seats have done their work at once.
+fn crowd<L: DeskName + Send + Sync, R>(rt: &R, history: Record, blank: Blank) -> Record
+where
+    R: Threads + Wait + Abort + AllocGlobal + Sync,
+    requires name { blank.name ≡ L.name }
+    requires parts { (blank.parts ≡ L.parts) × (4 ≡ L.parts) }
+    requires opened { history ≡ L.opened }
+{
+    let shared = shared_track(rt, &history);
+    let (desk, mut seats) = Desk::<L>::new(rt.alloc(), history, 4, blank).expect(rt, "seats");
+    let track: &Track = &shared;
+    thread::for_each_mut(
+        rt,
+        seats.as_mut_slice(),
+        4,
+        &|number: usize, seat: &mut Seat<L>|
+            requires { track.now ≡ L.opened.track }
+        { work(rt, &desk, track, seat, &LINES[number % 4]) },
+    );
+    for seat in &seats {
+        assert!(rt; !seat.receipts().is_empty());
+    }
+    closed(rt, desk, seats)
+}
+
+#[test]
+fn crowded_desk_has_one_history(rt: HostRuntime) {
+    let history = record_of(&rt, rt.alloc(), BRANCH, &[]);
+    let history = crowd::<Brand, _>(&rt, history, Blank::new(4));
+    let again = replayed(&rt, &history);
+    let scene = history.snapshot(rt.alloc()).expect(&rt, "room");
+    scenes_agree(&rt, &scene, &again.snapshot(rt.alloc()).expect(&rt, "room"));
+}

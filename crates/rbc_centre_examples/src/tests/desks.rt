@@ -1,0 +1,154 @@
+//! Desks with two seats, of which one is slow.
+
+ghost use Rattle.std.specs.Prelude.{◌≡◌};
+ghost use Rattle.rbc_sweep.specs.Steps.{IsOfTrack};
+
+use super::gates::{Tells, Waits};
+use super::telling::{closed, record_of, shared_track, told_by};
+use super::{BRANCH, ONE_TRAIN, PLAIN, TWO_TRAINS};
+use rbc_model::Told;
+use rbc_sweep::{Desk, DeskName, Granted, Record};
+use std::marker::Brand;
+use std::process::Abort;
+use std::sync::atomic::{AtomicU64, Ordering};
+use std::sync::ledger::Blank;
+use std::sync::{Mutex, Wait};
+use std::thread;
+use std::thread::Threads;
+
+/// While a train's authority is computed, another seat tells. The authority is computed again after that.
+fn work_goes_on<L: DeskName + Send + Sync, R>(rt: &R, history: Record, blank: Blank, lock: Told)
+where
+    R: Threads + Wait + Abort + AllocGlobal + Sync,
+    requires name { blank.name ≡ L.name }
+    requires parts { (blank.parts ≡ L.parts) × (2 ≡ L.parts) }
+    requires opened { history ≡ L.opened }
+    requires route { IsOfTrack L.opened.track lock }
+{
+    let alloc = rt.alloc();
+    let (desk, mut seats) = Desk::<L>::new(alloc, history, 2, blank).expect(rt, "seats");
+    let mut asks = seats.pop().expect(rt, "a seat");
+    let mut tells = seats.pop().expect(rt, "a seat");
+    let answered = AtomicU64::new(0);
+    let gate = Waits {
+        rt,
+        answered: &answered,
+    };
+    let (granted, told) = thread::join(
+        rt,
+        || match desk.ask(rt, alloc, &mut asks, 1, &gate) {
+            Ok(granted) => granted.receipt.place() == 5
+                && granted.candidate.authority().end() == 495,
+            Err(_) => false,
+        },
+        || -> bool
+            requires { IsOfTrack L.opened.track lock }
+        {
+            let told = desk.event(rt, alloc, &mut tells, lock).is_ok();
+            answered.store(1, Ordering::SeqCst);
+            told
+        },
+    );
+    assert!(rt; granted && told);
+    seats.push(asks).expect(rt, "room");
+    seats.push(tells).expect(rt, "room");
+    assert_eq!(rt; closed(rt, desk, seats).version(), 6);
+}
+
+#[test]
+fn work_goes_on_outside_the_lock(rt: HostRuntime) {
+    let history = record_of(&rt, rt.alloc(), BRANCH, &TWO_TRAINS);
+    let lock = told_by(&rt, history.track(), "lock R4");
+    work_goes_on::<Brand, _>(&rt, history, Blank::new(2), lock);
+}
+
+/// A train that asks, lines that another seat tells meanwhile, and what is granted.
+#[derive(Clone, Copy, Drop)]
+struct Overtaken {
+    file: &'static str,
+    /// What is told at the passes of the gate.
+    lines: &'static [&'static str],
+    passes: u64,
+    place: u64,
+    end: u32,
+    time: u32,
+}
+
+/// The train reports again at each of three tries, and the fourth is made under the lock. A route is locked elsewhere,
+/// and the same is granted. A route is locked ahead, and more is granted.
+const OVERTAKEN: [Overtaken; 3] = [
+    Overtaken {
+        file: PLAIN,
+        lines: &[
+            "report 1 5/17 nominal 300 5 5 200 1001",
+            "report 1 5/17 nominal 300 5 5 200 1002",
+            "report 1 5/17 nominal 300 5 5 200 1003",
+        ],
+        passes: 3,
+        place: 5,
+        end: 1_000,
+        time: 1_003,
+    },
+    Overtaken {
+        file: BRANCH,
+        lines: &["lock R4"],
+        passes: 2,
+        place: 3,
+        end: 1_000,
+        time: 1_000,
+    },
+    Overtaken {
+        file: BRANCH,
+        lines: &["lock R2"],
+        passes: 2,
+        place: 3,
+        end: 1_500,
+        time: 1_000,
+    },
+];
+
+/// What was granted is what the case says.
+fn is_grant_of(rt: &impl Abort, granted: &Granted, case: &Overtaken) {
+    assert_eq!(rt; granted.receipt.place(), case.place);
+    assert_eq!(rt; granted.candidate.authority().end(), case.end);
+    assert_eq!(rt; granted.candidate.authority().time(), case.time);
+}
+
+/// Asks for train 1, while another seat tells.
+fn overtake<L: DeskName, R>(rt: &R, history: Record, blank: Blank, case: &Overtaken)
+where
+    R: Threads + Wait + Abort + AllocGlobal + Sync,
+    requires name { blank.name ≡ L.name }
+    requires parts { (blank.parts ≡ L.parts) × (2 ≡ L.parts) }
+    requires opened { history ≡ L.opened }
+{
+    let alloc = rt.alloc();
+    let track = shared_track(rt, &history);
+    let (desk, mut seats) = Desk::<L>::new(alloc, history, 2, blank).expect(rt, "seats");
+    let mut asks = seats.pop().expect(rt, "a seat");
+    let tells = Mutex::new(seats.pop().expect(rt, "a seat"));
+    let passes = AtomicU64::new(0);
+    let gate = Tells {
+        rt,
+        track: &track,
+        desk: &desk,
+        seat: &tells,
+        lines: case.lines,
+        passes: &passes,
+        first: 2,
+    };
+    let granted = desk.ask(rt, alloc, &mut asks, 1, &gate).ok();
+    is_grant_of(rt, &granted.expect(rt, "a grant"), case);
+    assert_eq!(rt; passes.load(Ordering::SeqCst), case.passes);
+    seats.push(asks).expect(rt, "room");
+    seats.push(tells.into_inner()).expect(rt, "room");
+    let _history = closed(rt, desk, seats);
+}
+
+#[test]
+fn stale_tries_are_made_again(rt: HostRuntime) {
+    for case in &OVERTAKEN {
+        let history = record_of(&rt, rt.alloc(), case.file, &ONE_TRAIN);
+        overtake::<Brand, _>(&rt, history, Blank::new(2), case);
+    }
+}

@@ -1,0 +1,77 @@
+//! Readers and writers that fail in the middle of a session. The record has the entries of the lines that were treated.
+
+use super::PLAIN;
+use super::sessions::{LINES, REPLIES, session_to};
+use rbc_server::SessionFault;
+use std::io;
+use std::io::{Error, ErrorKind, Read, Write};
+
+/// Gives nothing, and fails.
+#[derive(Drop)]
+struct Broken;
+
+impl Read for Broken {
+    fn read(&mut self, _buf: &mut [u8]) -> io::Result<usize> {
+        Err(Error::from(ErrorKind::Other))
+    }
+}
+
+/// Takes so many bytes, and then fails.
+#[derive(Drop)]
+struct Room {
+    taken: Vec<u8>,
+    room: usize,
+}
+
+impl Write for Room {
+    fn write(&mut self, buf: &[u8]) -> io::Result<usize> {
+        if self.room == 0 {
+            return Err(Error::from(ErrorKind::Other));
+        }
+        let count = self.room.min(buf.len());
+        self.taken.extend_from_slice(&buf[..count])?;
+        self.room -= count;
+        Ok(count)
+    }
+
+    fn flush(&mut self) -> io::Result<()> {
+        Ok(())
+    }
+}
+
+/// What was written after no line, one, two and all three.
+const WRITTEN: [&str; 4] = ["", "ok 1\n", "ok 1\nok 2\n", REPLIES];
+
+// Where the reader fails, each whole line before it was answered.
+#[test]
+fn lines_before_a_read_fault_are_treated(rt: HostRuntime) {
+    let lines = LINES.as_bytes();
+    for cut in 0..lines.len() {
+        let whole = lines[..cut].iter().filter(|byte| **byte == b'\n').count();
+        let replies = WRITTEN.get(whole).expect(&rt, "three lines");
+        let reader = lines[..cut].chain(Broken);
+        let (outcome, written, version) = session_to(&rt, PLAIN, reader, Vec::new(rt.alloc()));
+        assert_eq!(rt; outcome, Err(SessionFault::Read), "at {cut}");
+        assert_eq!(rt; version, whole as u64, "at {cut}");
+        assert_eq!(rt; written.as_slice(), replies.as_bytes(), "at {cut}");
+    }
+}
+
+// Where the writer fails, the line that was being answered was treated, and no later one.
+#[test]
+fn lines_before_a_write_fault_are_treated(rt: HostRuntime) {
+    let replies = REPLIES.as_bytes();
+    for room in 0..replies.len() {
+        let taken = Vec::new(rt.alloc());
+        let (outcome, writer, version) = session_to(
+            &rt,
+            PLAIN,
+            LINES.as_bytes(),
+            Room { taken, room },
+        );
+        let treated = WRITTEN.iter().filter(|text| text.len() <= room).count();
+        assert_eq!(rt; outcome, Err(SessionFault::Write), "at {room}");
+        assert_eq!(rt; version, treated as u64, "at {room}");
+        assert_eq!(rt; writer.taken.as_slice(), &replies[..room], "at {room}");
+    }
+}

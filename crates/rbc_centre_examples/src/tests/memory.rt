@@ -1,0 +1,87 @@
+//! Two trains at a desk, where an allocation is refused: nothing is lost, and the same call once more is answered.
+//!
+//! What is made before is made a second time where memory is refused. So one refused allocation, whichever it is, lets the
+//! example go on.
+
+ghost use Rattle.std.specs.Prelude.{◌≡◌};
+ghost use Rattle.rbc_sweep.specs.Steps.{IsOfTrack};
+
+use super::telling::{closed, record_of, shared_track, told_by};
+use super::{BRANCH, TWO_TRAINS};
+use rbc_model::{OrMemory, Told};
+use rbc_sweep::{Desk, DeskName, OpenGate, Record, Seat};
+use std::marker::Brand;
+use std::process::Abort;
+use std::sync::Wait;
+use std::sync::ledger::Blank;
+use std::thread::Threads;
+
+/// What is granted: the train, and the end of its authority.
+const GRANTED: [(u32, u32); 2] = [(1, 495), (2, 1_500)];
+
+/// Tells the desk, and once more where memory is refused.
+fn tell<L: DeskName, R>(rt: &R, desk: &Desk<L>, seat: &mut Seat<L>, told: Told)
+where
+    R: Threads + Wait + Abort + AllocGlobal + Sync,
+    requires { IsOfTrack L.opened.track told }
+{
+    if let Err(fault) = desk.event(rt, rt.alloc(), seat, told) {
+        assert!(rt; matches!(fault, OrMemory::Memory));
+        let _receipt = desk
+            .event(rt, rt.alloc(), seat, told)
+            .expect(rt, "an entry");
+    }
+}
+
+/// Asks for a train, and once more where memory is refused: where its authority ends.
+fn end_for<L: DeskName, R>(rt: &R, desk: &Desk<L>, seat: &mut Seat<L>, train: u32) -> u32
+where
+    R: Threads + Wait + Abort + AllocGlobal + Sync,
+{
+    match desk.ask(rt, rt.alloc(), seat, train, &OpenGate) {
+        Ok(granted) => return granted.candidate.authority().end(),
+        Err(fault) => assert!(rt; matches!(fault, OrMemory::Memory)),
+    }
+    let granted = desk.ask(rt, rt.alloc(), seat, train, &OpenGate);
+    granted
+        .ok()
+        .expect(rt, "a grant")
+        .candidate
+        .authority()
+        .end()
+}
+
+/// Two trains are granted theirs from two seats. False where there was no memory for the seats.
+fn are_granted<L: DeskName, R>(rt: &R, history: Record, blank: Blank) -> bool
+where
+    R: Threads + Wait + Abort + AllocGlobal + Sync,
+    requires name { blank.name ≡ L.name }
+    requires parts { (blank.parts ≡ L.parts) × (2 ≡ L.parts) }
+    requires opened { history ≡ L.opened }
+{
+    let track = shared_track(rt, &history);
+    let Ok((desk, mut seats)) = Desk::<L>::new(rt.alloc(), history, 2, blank) else {
+        return false;
+    };
+    let mut tells = seats.pop().expect(rt, "a seat");
+    let mut asks = seats.pop().expect(rt, "a seat");
+    for line in TWO_TRAINS {
+        tell(rt, &desk, &mut tells, told_by(rt, &track, line));
+    }
+    for (train, end) in GRANTED {
+        assert_eq!(rt; end_for(rt, &desk, &mut asks, train), end);
+    }
+    seats.push(tells).expect(rt, "the room is there");
+    seats.push(asks).expect(rt, "the room is there");
+    assert_eq!(rt; closed(rt, desk, seats).version(), 6);
+    true
+}
+
+#[test]
+fn refused_memory_loses_nothing(rt: HostRuntime) {
+    let history = record_of(&rt, rt.alloc(), BRANCH, &[]);
+    if !are_granted::<Brand, _>(&rt, history, Blank::new(2)) {
+        let again = record_of(&rt, rt.alloc(), BRANCH, &[]);
+        assert!(rt; are_granted::<Brand, _>(&rt, again, Blank::new(2)));
+    }
+}

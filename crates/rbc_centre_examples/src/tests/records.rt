@@ -1,0 +1,66 @@
+//! Records, and candidates that were made for them or for others.
+
+use super::telling::record_of;
+use super::{ONE_TRAIN, PLAIN};
+use rbc_model::{OrMemory, Told};
+use rbc_sweep::{Candidate, CommitFault, Record, candidate};
+use std::process::Abort;
+use std::thread::Threads;
+
+/// What the train may be granted now.
+fn offered(
+    rt: &(impl Abort + AllocGlobal + Threads + Sync),
+    history: &Record,
+    train: u32,
+) -> Candidate {
+    let view = history.view(rt.alloc(), train).expect(rt, "a view");
+    candidate(rt, rt.alloc(), view, history.version()).expect(rt, "room")
+}
+
+/// The candidate is granted, by an entry at this place.
+fn is_granted(
+    rt: &(impl Abort + AllocGlobal),
+    history: &mut Record,
+    candidate: &Candidate,
+    place: u64,
+) {
+    let receipt = history.commit(rt.alloc(), candidate).expect(rt, "a grant");
+    assert_eq!(rt; receipt.place(), place);
+    assert!(rt; history.entry(place) == Some(receipt.entry()));
+}
+
+/// The candidate is not granted, for this reason.
+fn is_refused(
+    rt: &(impl Abort + AllocGlobal),
+    history: &mut Record,
+    candidate: &Candidate,
+    fault: CommitFault,
+) {
+    let refused = history.commit(rt.alloc(), candidate).err();
+    assert!(rt; refused == Some(OrMemory::Refused(fault)));
+}
+
+// The other record has the same train a moment later.
+#[test]
+fn candidate_of_another_record_is_foreign(rt: HostRuntime) {
+    let later = ["lock R1", "report 1 5/17 nominal 300 5 5 200 1001"];
+    let mut other = record_of(&rt, rt.alloc(), PLAIN, &later);
+    let mut own = record_of(&rt, rt.alloc(), PLAIN, &ONE_TRAIN);
+    let candidate = offered(&rt, &own, 1);
+    is_refused(&rt, &mut other, &candidate, CommitFault::Foreign);
+    is_granted(&rt, &mut own, &candidate, 2);
+    is_refused(&rt, &mut own, &candidate, CommitFault::Stale(3));
+}
+
+// No line of a session gives metres back.
+#[test]
+fn metres_that_are_given_back_are_granted_again(rt: HostRuntime) {
+    let mut history = record_of(&rt, rt.alloc(), PLAIN, &ONE_TRAIN);
+    let candidate = offered(&rt, &history, 1);
+    is_granted(&rt, &mut history, &candidate, 2);
+    let told = history.apply(rt.alloc(), &Told::GiveBack(1, 600));
+    assert!(rt; told.is_ok());
+    let again = offered(&rt, &history, 1);
+    assert!(rt; again.view().to() == 600 && again.authority().end() == 1000);
+    is_granted(&rt, &mut history, &again, 4);
+}

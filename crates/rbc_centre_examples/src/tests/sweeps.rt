@@ -1,0 +1,113 @@
+//! Sweeps: each train of the scene is served once.
+
+ghost use Rattle.std.specs.Prelude.{◌≡◌};
+
+use super::gates::{Meets, Refuses, Tells};
+use super::telling::{closed, record_of, shared_track};
+use super::{BRANCH, TWO_TRAINS};
+use rbc_sweep::{Answer, Desk, DeskName, Gate, Outcome, Record, sweep};
+use std::marker::Brand;
+use std::process::Abort;
+use std::sync::atomic::AtomicU64;
+use std::sync::ledger::Blank;
+use std::sync::{Mutex, Wait};
+use std::thread::Threads;
+
+/// Where the train's authority ends, if it was granted one.
+fn end(outcome: &Outcome) -> Option<u32> {
+    match &outcome.answer {
+        Answer::Granted(granted) => Some(granted.candidate.authority().end()),
+        _ => None,
+    }
+}
+
+/// The outcomes of a sweep with two seats, and how many entries the record has then.
+fn swept<L: DeskName + Send + Sync, R, G>(
+    rt: &R,
+    history: Record,
+    blank: Blank,
+    gate: &G,
+) -> (Vec<Outcome>, u64)
+where
+    R: Threads + Wait + Abort + AllocGlobal + Sync,
+    G: Gate + Sync,
+    requires name { blank.name ≡ L.name }
+    requires parts { (blank.parts ≡ L.parts) × (2 ≡ L.parts) }
+    requires opened { history ≡ L.opened }
+{
+    let (desk, seats) = Desk::<L>::new(rt.alloc(), history, 2, blank).expect(rt, "seats");
+    let (seats, outcomes) = sweep(rt, rt.alloc(), &desk, seats, gate);
+    let history = closed(rt, desk, seats);
+    (outcomes.expect(rt, "outcomes"), history.version())
+}
+
+// The pass of each train waits until the other's has been called.
+#[test]
+fn trains_are_served_at_once(rt: HostRuntime) {
+    let first = AtomicU64::new(0);
+    let second = AtomicU64::new(0);
+    let gate = Meets {
+        rt: &rt,
+        first: &first,
+        second: &second,
+    };
+    let history = record_of(&rt, rt.alloc(), BRANCH, &TWO_TRAINS);
+    let (outcomes, version) = swept::<Brand, _, _>(&rt, history, Blank::new(2), &gate);
+    assert!(rt;
+        matches!(outcomes.as_slice(), [one, other]
+        if one.train == 1 && end(one) == Some(495)
+            && other.train == 2 && end(other) == Some(1_500))
+    );
+    assert_eq!(rt; version, 6);
+}
+
+#[test]
+fn each_train_is_told_of_refused_memory(rt: HostRuntime) {
+    let history = record_of(&rt, rt.alloc(), BRANCH, &TWO_TRAINS);
+    let (outcomes, version) = swept::<Brand, _, _>(&rt, history, Blank::new(2), &Refuses);
+    assert!(rt;
+        matches!(outcomes.as_slice(), [one, other]
+        if matches!(&one.answer, Answer::Memory) && matches!(&other.answer, Answer::Memory))
+    );
+    assert_eq!(rt; version, 4);
+}
+
+/// While the first train's authority is computed, the second train leaves.
+fn leaves_meanwhile<L: DeskName + Send + Sync, R>(rt: &R, history: Record, blank: Blank)
+where
+    R: Threads + Wait + Abort + AllocGlobal + Sync,
+    requires name { blank.name ≡ L.name }
+    requires parts { (blank.parts ≡ L.parts) × (2 ≡ L.parts) }
+    requires opened { history ≡ L.opened }
+{
+    let alloc = rt.alloc();
+    let track = shared_track(rt, &history);
+    let (desk, mut seats) = Desk::<L>::new(alloc, history, 2, blank).expect(rt, "seats");
+    let tells = Mutex::new(seats.pop().expect(rt, "a seat"));
+    let passes = AtomicU64::new(0);
+    let gate = Tells {
+        rt,
+        track: &track,
+        desk: &desk,
+        seat: &tells,
+        lines: &["leave 2"],
+        passes: &passes,
+        first: 4,
+    };
+    assert_eq!(rt; seats.len(), 1);
+    let (mut seats, outcomes) = sweep(rt, alloc, &desk, seats, &gate);
+    let outcomes = outcomes.expect(rt, "outcomes");
+    assert!(rt;
+        matches!(outcomes.as_slice(), [one, other]
+        if end(one) == Some(1_500)
+            && other.train == 2 && matches!(&other.answer, Answer::Gone))
+    );
+    seats.push(tells.into_inner()).expect(rt, "room");
+    assert_eq!(rt; closed(rt, desk, seats).version(), 6);
+}
+
+#[test]
+fn train_that_left_is_gone(rt: HostRuntime) {
+    let history = record_of(&rt, rt.alloc(), BRANCH, &TWO_TRAINS);
+    leaves_meanwhile::<Brand, _>(&rt, history, Blank::new(2));
+}

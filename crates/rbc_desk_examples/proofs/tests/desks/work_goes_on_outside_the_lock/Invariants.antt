@@ -1,7 +1,0 @@
-use Rattle.rbc_desk_examples.proofs.tests.desks.work_goes_on_outside_the_lock.Given as goal
-
-abbrev pub ghosts-work_goes_on-L-DeskName : goal.ghosts-work_goes_on-L-DeskName
-ghosts-work_goes_on-L-DeskName _ a = record { opened = a.history }
-
-abbrev pub ghosts-work_goes_on-L-Ledger : goal.ghosts-work_goes_on-L-Ledger
-ghosts-work_goes_on-L-Ledger _ a = record { name = a.blank.name; parts = a.blank.parts }

@@ -1,7 +1,0 @@
-use Rattle.rbc_desk_examples.proofs.tests.memory.refused_memory_loses_nothing.Given as goal
-
-abbrev pub ghosts-are_granted-L-DeskName : goal.ghosts-are_granted-L-DeskName
-ghosts-are_granted-L-DeskName _ a = record { opened = a.history }
-
-abbrev pub ghosts-are_granted-L-Ledger : goal.ghosts-are_granted-L-Ledger
-ghosts-are_granted-L-Ledger _ a = record { name = a.blank.name; parts = a.blank.parts }

@@ -1,7 +1,0 @@
-use Rattle.rbc_desk_examples.proofs.tests.servers.sessions_end_before_a_fault_is_told.Given as goal
-
-abbrev pub ghosts-served-L-DeskName : goal.ghosts-served-L-DeskName
-ghosts-served-L-DeskName _ a = record { opened = a.history }
-
-abbrev pub ghosts-served-L-Ledger : goal.ghosts-served-L-Ledger
-ghosts-served-L-Ledger _ a = record { name = a.blank.name; parts = a.blank.parts }

@@ -1,7 +1,0 @@
-use Rattle.rbc_desk_examples.proofs.tests.sweeps.nothing_to_sweep.Given as goal
-
-abbrev pub ghosts-swept-L-DeskName : goal.ghosts-swept-L-DeskName
-ghosts-swept-L-DeskName _ a = record { opened = a.history }
-
-abbrev pub ghosts-swept-L-Ledger : goal.ghosts-swept-L-Ledger
-ghosts-swept-L-Ledger _ a = record { name = a.blank.name; parts = a.blank.parts }
