@@ -1,4 +1,4 @@
-//! The tracks of the examples, and what lines tell of them.
+//! The tracks of the examples, and trains on them.
 
 mod crowds;
 mod desks;
@@ -7,17 +7,10 @@ mod gates;
 mod memory;
 mod records;
 mod replays;
-mod scenes;
 mod servers;
 mod sessions;
 mod sweeps;
 mod telling;
-
-use rbc_track::Track;
-use rbc_trackfile::read;
-use std::alloc::Global;
-use std::process::Abort;
-use std::sync::Arc;
 
 /// One section, which is locked by one route.
 const PLAIN: &str = r#"
@@ -58,14 +51,3 @@ const TWO_TRAINS: [&str; 4] = [
     "report 1 5/17 nominal 300 5 5 200 1000",
     "report 2 5/17 nominal 700 5 5 200 2000",
 ];
-
-/// The track of a file, which can be shared. It is made a second time where memory is refused.
-fn track_of(rt: &impl Abort, alloc: Global, file: &str) -> Arc<Track> {
-    if let Ok(track) = read(alloc, file.as_bytes())
-        && let Ok(shared) = Arc::new(alloc, track)
-    {
-        return shared;
-    }
-    let track = read(alloc, file.as_bytes()).expect(rt, "a track");
-    Arc::new(alloc, track).expect(rt, "room")
-}

@@ -1,13 +1,12 @@
 //! Desks with two seats, of which one is slow.
 
 ghost use Rattle.std.specs.Prelude.{◌≡◌};
-ghost use Rattle.rbc_sweep.specs.Steps.{IsOfTrack};
 
 use super::gates::{Tells, Waits};
-use super::telling::{closed, record_of, shared_track, told_by};
+use super::telling::{ask, closed, record_of, shared_track, tell};
 use super::{BRANCH, ONE_TRAIN, PLAIN, TWO_TRAINS};
-use rbc_model::Told;
 use rbc_sweep::{Desk, DeskName, Granted, Record};
+use rbc_track::Track;
 use std::marker::Brand;
 use std::process::Abort;
 use std::sync::atomic::{AtomicU64, Ordering};
@@ -17,15 +16,16 @@ use std::thread;
 use std::thread::Threads;
 
 /// While a train's authority is computed, another seat tells. The authority is computed again after that.
-fn work_goes_on<L: DeskName + Send + Sync, R>(rt: &R, history: Record, blank: Blank, lock: Told)
+fn work_goes_on<L: DeskName + Send + Sync, R>(rt: &R, history: Record, blank: Blank)
 where
     R: Threads + Wait + Abort + AllocGlobal + Sync,
     requires name { blank.name ≡ L.name }
     requires parts { (blank.parts ≡ L.parts) × (2 ≡ L.parts) }
     requires opened { history ≡ L.opened }
-    requires route { IsOfTrack L.opened.track lock }
 {
     let alloc = rt.alloc();
+    let shared = shared_track(rt, &history);
+    let track: &Track = &shared;
     let (desk, mut seats) = Desk::<L>::new(alloc, history, 2, blank).expect(rt, "seats");
     let mut asks = seats.pop().expect(rt, "a seat");
     let mut tells = seats.pop().expect(rt, "a seat");
@@ -36,17 +36,17 @@ where
     };
     let (granted, told) = thread::join(
         rt,
-        || match desk.ask(rt, alloc, &mut asks, 1, &gate) {
+        || match ask(rt, &desk, &mut asks, 1, &gate) {
             Ok(granted) => granted.receipt.place() == 5
                 && granted.candidate.authority().end() == 495,
             Err(_) => false,
         },
         || -> bool
-            requires { IsOfTrack L.opened.track lock }
+            requires { track.now ≡ L.opened.track }
         {
-            let told = desk.event(rt, alloc, &mut tells, lock).is_ok();
+            let told = tell(rt, alloc, &desk, track, &mut tells, "lock R4");
             answered.store(1, Ordering::SeqCst);
-            told
+            told.is_ok()
         },
     );
     assert!(rt; granted && told);
@@ -58,8 +58,7 @@ where
 #[test]
 fn work_goes_on_outside_the_lock(rt: HostRuntime) {
     let history = record_of(&rt, rt.alloc(), BRANCH, &TWO_TRAINS);
-    let lock = told_by(&rt, history.track(), "lock R4");
-    work_goes_on::<Brand, _>(&rt, history, Blank::new(2), lock);
+    work_goes_on::<Brand, _>(&rt, history, Blank::new(2));
 }
 
 /// A train that asks, lines that another seat tells meanwhile, and what is granted.
@@ -137,7 +136,7 @@ where
         passes: &passes,
         first: 2,
     };
-    let granted = desk.ask(rt, alloc, &mut asks, 1, &gate).ok();
+    let granted = ask(rt, &desk, &mut asks, 1, &gate).ok();
     is_grant_of(rt, &granted.expect(rt, "a grant"), case);
     assert_eq!(rt; passes.load(Ordering::SeqCst), case.passes);
     seats.push(asks).expect(rt, "room");

@@ -72,6 +72,7 @@ fn lines_before_a_write_fault_are_treated(rt: HostRuntime) {
         let treated = WRITTEN.iter().filter(|text| text.len() <= room).count();
         assert_eq!(rt; outcome, Err(SessionFault::Write), "at {room}");
         assert_eq!(rt; version, treated as u64, "at {room}");
-        assert_eq!(rt; writer.taken.as_slice(), &replies[..room], "at {room}");
+        assert_eq!(rt; writer.taken.len(), room);
+        assert!(rt; replies.starts_with(&writer.taken), "at {room}");
     }
 }

@@ -2,7 +2,7 @@
 
 ghost use Rattle.std.specs.Prelude.{◌≡◌};
 
-use super::telling::told_by;
+use super::telling::tell;
 use rbc_model::Memory;
 use rbc_sweep::{Candidate, Desk, DeskName, Gate, Seat, View, candidate};
 use rbc_track::Track;
@@ -64,10 +64,9 @@ pub(super) struct Tells<'a, L: DeskName, A> {
 impl<'a, L: DeskName, A: Abort + Wait> Tells<'a, L, A> {
     /// The other seat tells this line, and is not refused.
     fn tell(&self, alloc: Global, line: &str) {
-        let told = told_by(self.rt, self.track, line);
         let mut seat = self.seat.lock(self.rt);
-        let receipt = self.desk.event(self.rt, alloc, &mut *seat, told);
-        assert!(self.rt; receipt.is_ok());
+        let told = tell(self.rt, alloc, self.desk, self.track, &mut *seat, line);
+        assert!(self.rt; told.is_ok());
     }
 }
 

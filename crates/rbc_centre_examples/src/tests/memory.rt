@@ -4,12 +4,12 @@
 //! example go on.
 
 ghost use Rattle.std.specs.Prelude.{◌≡◌};
-ghost use Rattle.rbc_sweep.specs.Steps.{IsOfTrack};
 
-use super::telling::{closed, record_of, shared_track, told_by};
+use super::telling::{ask, closed, record_of, shared_track, tell};
 use super::{BRANCH, TWO_TRAINS};
-use rbc_model::{OrMemory, Told};
+use rbc_model::OrMemory;
 use rbc_sweep::{Desk, DeskName, OpenGate, Record, Seat};
+use rbc_track::Track;
 use std::marker::Brand;
 use std::process::Abort;
 use std::sync::Wait;
@@ -20,35 +20,29 @@ use std::thread::Threads;
 const GRANTED: [(u32, u32); 2] = [(1, 495), (2, 1_500)];
 
 /// Tells the desk, and once more where memory is refused.
-fn tell<L: DeskName, R>(rt: &R, desk: &Desk<L>, seat: &mut Seat<L>, told: Told)
+fn is_told<L: DeskName, R>(rt: &R, desk: &Desk<L>, track: &Track, seat: &mut Seat<L>, line: &str)
 where
     R: Threads + Wait + Abort + AllocGlobal + Sync,
-    requires { IsOfTrack L.opened.track told }
+    requires { track.now ≡ L.opened.track }
 {
-    if let Err(fault) = desk.event(rt, rt.alloc(), seat, told) {
-        assert!(rt; matches!(fault, OrMemory::Memory));
-        let _receipt = desk
-            .event(rt, rt.alloc(), seat, told)
-            .expect(rt, "an entry");
-    }
+    let told = match tell(rt, rt.alloc(), desk, track, seat, line) {
+        Err(OrMemory::Memory) => tell(rt, rt.alloc(), desk, track, seat, line),
+        answered => answered,
+    };
+    assert!(rt; told.is_ok());
 }
 
-/// Asks for a train, and once more where memory is refused: where its authority ends.
-fn end_for<L: DeskName, R>(rt: &R, desk: &Desk<L>, seat: &mut Seat<L>, train: u32) -> u32
+/// Asks for a train, and once more where memory is refused: its authority ends there.
+fn is_granted<L: DeskName, R>(rt: &R, desk: &Desk<L>, seat: &mut Seat<L>, train: u32, end: u32)
 where
     R: Threads + Wait + Abort + AllocGlobal + Sync,
 {
-    match desk.ask(rt, rt.alloc(), seat, train, &OpenGate) {
-        Ok(granted) => return granted.candidate.authority().end(),
-        Err(fault) => assert!(rt; matches!(fault, OrMemory::Memory)),
-    }
-    let granted = desk.ask(rt, rt.alloc(), seat, train, &OpenGate);
-    granted
-        .ok()
-        .expect(rt, "a grant")
-        .candidate
-        .authority()
-        .end()
+    let granted = match ask(rt, desk, seat, train, &OpenGate) {
+        Err(OrMemory::Memory) => ask(rt, desk, seat, train, &OpenGate),
+        answered => answered,
+    };
+    let granted = granted.ok().expect(rt, "a grant");
+    assert_eq!(rt; granted.candidate.authority().end(), end);
 }
 
 /// Two trains are granted theirs from two seats. False where there was no memory for the seats.
@@ -66,10 +60,10 @@ where
     let mut tells = seats.pop().expect(rt, "a seat");
     let mut asks = seats.pop().expect(rt, "a seat");
     for line in TWO_TRAINS {
-        tell(rt, &desk, &mut tells, told_by(rt, &track, line));
+        is_told(rt, &desk, &track, &mut tells, line);
     }
     for (train, end) in GRANTED {
-        assert_eq!(rt; end_for(rt, &desk, &mut asks, train), end);
+        is_granted(rt, &desk, &mut asks, train, end);
     }
     seats.push(tells).expect(rt, "the room is there");
     seats.push(asks).expect(rt, "the room is there");

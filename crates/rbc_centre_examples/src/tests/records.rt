@@ -1,21 +1,10 @@
 //! Records, and candidates that were made for them or for others.
 
-use super::telling::record_of;
+use super::telling::{offered, record_of};
 use super::{ONE_TRAIN, PLAIN};
 use rbc_model::{OrMemory, Told};
-use rbc_sweep::{Candidate, CommitFault, Record, candidate};
+use rbc_sweep::{Candidate, CommitFault, Record};
 use std::process::Abort;
-use std::thread::Threads;
-
-/// What the train may be granted now.
-fn offered(
-    rt: &(impl Abort + AllocGlobal + Threads + Sync),
-    history: &Record,
-    train: u32,
-) -> Candidate {
-    let view = history.view(rt.alloc(), train).expect(rt, "a view");
-    candidate(rt, rt.alloc(), view, history.version()).expect(rt, "room")
-}
 
 /// The candidate is granted, by an entry at this place.
 fn is_granted(
@@ -40,6 +29,18 @@ fn is_refused(
     assert!(rt; refused == Some(OrMemory::Refused(fault)));
 }
 
+/// The train gives back what lies beyond so many metres from its group.
+fn give_back(rt: &(impl Abort + AllocGlobal), history: &mut Record, train: u32, end: u32) {
+    let told = history.apply(rt.alloc(), &Told::GiveBack(train, end));
+    assert!(rt; told.is_ok());
+}
+
+/// The authority that the train has ends at the first place, and the one that it may be granted at the second.
+fn goes_on(rt: &impl Abort, candidate: &Candidate, from: u32, end: u32) {
+    assert_eq!(rt; candidate.view().to(), from);
+    assert_eq!(rt; candidate.authority().end(), end);
+}
+
 // The other record has the same train a moment later.
 #[test]
 fn candidate_of_another_record_is_foreign(rt: HostRuntime) {
@@ -58,9 +59,8 @@ fn metres_that_are_given_back_are_granted_again(rt: HostRuntime) {
     let mut history = record_of(&rt, rt.alloc(), PLAIN, &ONE_TRAIN);
     let candidate = offered(&rt, &history, 1);
     is_granted(&rt, &mut history, &candidate, 2);
-    let told = history.apply(rt.alloc(), &Told::GiveBack(1, 600));
-    assert!(rt; told.is_ok());
+    give_back(&rt, &mut history, 1, 600);
     let again = offered(&rt, &history, 1);
-    assert!(rt; again.view().to() == 600 && again.authority().end() == 1000);
+    goes_on(&rt, &again, 600, 1000);
     is_granted(&rt, &mut history, &again, 4);
 }

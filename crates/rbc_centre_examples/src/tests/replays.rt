@@ -3,9 +3,9 @@
 ghost use Rattle.std.specs.Prelude.{◌≡◌};
 ghost use Rattle.rbc_sweep.specs.Steps.{IsOfTrack};
 
-use super::telling::shared_track;
+use super::telling::{offered, shared_track};
 use rbc_model::Told;
-use rbc_sweep::{Entry, Receipt, Record, candidate};
+use rbc_sweep::{Entry, Receipt, Record};
 use rbc_track::Track;
 use std::process::Abort;
 use std::thread::Threads;
@@ -33,8 +33,7 @@ fn enter<R: Threads + Abort + AllocGlobal + Sync>(
             history.apply(rt.alloc(), &told).expect(rt, "an entry")
         }
         Entry::Granted(grant) => {
-            let view = history.view(rt.alloc(), grant.train()).expect(rt, "a view");
-            let candidate = candidate(rt, rt.alloc(), view, history.version()).expect(rt, "room");
+            let candidate = offered(rt, history, grant.train());
             history
                 .commit(rt.alloc(), &candidate)
                 .expect(rt, "an entry")
@@ -43,10 +42,10 @@ fn enter<R: Threads + Abort + AllocGlobal + Sync>(
 }
 
 /// Enters all of the record's entries in a new record: each is accepted, and says the same.
-pub(super) fn replayed<R: Threads + Abort + AllocGlobal + Sync>(
+pub(super) fn can_be_entered_again<R: Threads + Abort + AllocGlobal + Sync>(
     rt: &R,
     history: &Record,
-) -> Record {
+) {
     let mut again = Record::new(rt.alloc(), shared_track(rt, history)).expect(rt, "room");
     for place in 0..history.version() {
         let entry = history.entry(place).expect(rt, "an entry");
@@ -54,5 +53,4 @@ pub(super) fn replayed<R: Threads + Abort + AllocGlobal + Sync>(
         assert_eq!(rt; receipt.place(), place);
         assert!(rt; *receipt.entry() == *entry, "at {place}");
     }
-    again
 }

@@ -125,6 +125,24 @@ where
     (ended, writer.into_writer())
 }
 
+/// The record has four entries, and the server wrote what came of the sweep.
+fn has_swept(rt: &impl Abort, ended: Result<Record, ServeFault>, written: &[u8]) {
+    assert_eq!(rt; ended.ok().expect(rt, "the record").version(), 4);
+    assert!(rt; written.starts_with(b"granted 1 4 305 1000 NoLink S1+\n"));
+    assert!(rt; written.ends_with(b"done\nclosed 4\n"));
+}
+
+/// A connection could not be accepted, and the server wrote nothing.
+fn has_no_port(rt: &impl Abort, ended: &Result<Record, ServeFault>, written: &[u8]) {
+    assert!(rt; matches!(ended, Err(ServeFault::Port)));
+    assert!(rt; written.is_empty());
+}
+
+/// The talking peer was told all replies to its lines.
+fn is_answered(rt: &impl Abort, told: Mutex<Vec<u8>>) {
+    assert_eq!(rt; told.into_inner().as_slice(), REPLIES.as_bytes());
+}
+
 /// Silent peers, connections, and whether there is a peer for each connection.
 const CASES: [(u64, usize, bool); 4] = [(0, 1, true), (1, 2, true), (2, 3, true), (1, 3, false)];
 
@@ -145,13 +163,11 @@ fn talking_peer_is_answered_and_its_train_swept(rt: HostRuntime) {
             &told,
             &answered,
         );
-        assert_eq!(rt; told.into_inner().as_slice(), REPLIES.as_bytes());
+        is_answered(&rt, told);
         if is_served {
-            assert_eq!(rt; ended.ok().expect(&rt, "the record").version(), 4);
-            assert!(rt; written.starts_with(b"granted 1 4 305 1000 NoLink S1+\n"));
-            assert!(rt; written.ends_with(b"done\nclosed 4\n"));
+            has_swept(&rt, ended, &written);
         } else {
-            assert!(rt; matches!(&ended, Err(ServeFault::Port)) && written.is_empty());
+            has_no_port(&rt, &ended, &written);
         }
     }
 }

@@ -138,13 +138,18 @@ fn come_in_order(text: &[u8], among: &[u8]) -> bool {
     true
 }
 
+/// The case's replies are among these, and the record has as many entries as it should.
+fn is_reply_to(rt: &impl Abort, case: &Case, written: &[u8], version: u64) {
+    assert_eq!(rt; version, case.entries);
+    assert!(rt; come_in_order(case.replies.as_bytes(), written));
+}
+
 /// What is written in the session over a record.
 fn written_alone(rt: &(impl Threads + Abort + AllocGlobal + Sync), case: &Case) -> Vec<u8> {
     let lines = case.lines.as_bytes();
     let (outcome, written, version) = session_to(rt, case.file, lines, Vec::new(rt.alloc()));
     assert_eq!(rt; outcome, Ok(()));
-    assert_eq!(rt; version, case.entries);
-    assert!(rt; come_in_order(case.replies.as_bytes(), &written));
+    is_reply_to(rt, case, written.as_slice(), version);
     written
 }
 

@@ -5,7 +5,7 @@ ghost use Rattle.std.specs.Prelude.{◌≡◌};
 use super::gates::{Meets, Refuses, Tells};
 use super::telling::{closed, record_of, shared_track};
 use super::{BRANCH, TWO_TRAINS};
-use rbc_sweep::{Answer, Desk, DeskName, Gate, Outcome, Record, sweep};
+use rbc_sweep::{Answer, Desk, DeskName, Gate, Outcome, Record, Seat, sweep};
 use std::marker::Brand;
 use std::process::Abort;
 use std::sync::atomic::AtomicU64;
@@ -21,8 +21,24 @@ fn end(outcome: &Outcome) -> Option<u32> {
     }
 }
 
-/// The outcomes of a sweep with two seats, and how many entries the record has then.
+/// Sweeps with these seats: they come back, with what came of it.
 fn swept<L: DeskName + Send + Sync, R, G>(
+    rt: &R,
+    desk: &Desk<L>,
+    seats: Vec<Seat<L>>,
+    gate: &G,
+) -> (Vec<Seat<L>>, Vec<Outcome>)
+where
+    R: Threads + Wait + Abort + AllocGlobal + Sync,
+    G: Gate + Sync,
+{
+    assert!(rt; 1 <= seats.len() && seats.len() <= 16);
+    let (seats, outcomes) = sweep(rt, rt.alloc(), desk, seats, gate);
+    (seats, outcomes.expect(rt, "outcomes"))
+}
+
+/// The outcomes of a sweep with two seats, and how many entries the record has then.
+fn swept_by_two<L: DeskName + Send + Sync, R, G>(
     rt: &R,
     history: Record,
     blank: Blank,
@@ -36,9 +52,17 @@ where
     requires opened { history ≡ L.opened }
 {
     let (desk, seats) = Desk::<L>::new(rt.alloc(), history, 2, blank).expect(rt, "seats");
-    let (seats, outcomes) = sweep(rt, rt.alloc(), &desk, seats, gate);
-    let history = closed(rt, desk, seats);
-    (outcomes.expect(rt, "outcomes"), history.version())
+    let (seats, outcomes) = swept(rt, &desk, seats, gate);
+    (outcomes, closed(rt, desk, seats).version())
+}
+
+/// Both trains were granted theirs.
+fn are_granted(rt: &impl Abort, outcomes: &[Outcome]) {
+    assert!(rt;
+        matches!(outcomes, [one, other]
+        if one.train == 1 && end(one) == Some(495)
+            && other.train == 2 && end(other) == Some(1_500))
+    );
 }
 
 // The pass of each train waits until the other's has been called.
@@ -52,24 +76,34 @@ fn trains_are_served_at_once(rt: HostRuntime) {
         second: &second,
     };
     let history = record_of(&rt, rt.alloc(), BRANCH, &TWO_TRAINS);
-    let (outcomes, version) = swept::<Brand, _, _>(&rt, history, Blank::new(2), &gate);
-    assert!(rt;
-        matches!(outcomes.as_slice(), [one, other]
-        if one.train == 1 && end(one) == Some(495)
-            && other.train == 2 && end(other) == Some(1_500))
-    );
+    let (outcomes, version) = swept_by_two::<Brand, _, _>(&rt, history, Blank::new(2), &gate);
+    are_granted(&rt, &outcomes);
     assert_eq!(rt; version, 6);
+}
+
+/// Both trains were refused memory.
+fn are_refused(rt: &impl Abort, outcomes: &[Outcome]) {
+    assert!(rt;
+        matches!(outcomes, [one, other]
+        if matches!(&one.answer, Answer::Memory) && matches!(&other.answer, Answer::Memory))
+    );
 }
 
 #[test]
 fn each_train_is_told_of_refused_memory(rt: HostRuntime) {
     let history = record_of(&rt, rt.alloc(), BRANCH, &TWO_TRAINS);
-    let (outcomes, version) = swept::<Brand, _, _>(&rt, history, Blank::new(2), &Refuses);
-    assert!(rt;
-        matches!(outcomes.as_slice(), [one, other]
-        if matches!(&one.answer, Answer::Memory) && matches!(&other.answer, Answer::Memory))
-    );
+    let (outcomes, version) = swept_by_two::<Brand, _, _>(&rt, history, Blank::new(2), &Refuses);
+    are_refused(&rt, &outcomes);
     assert_eq!(rt; version, 4);
+}
+
+/// The first train was granted all of the way, as the second one was gone.
+fn is_alone(rt: &impl Abort, outcomes: &[Outcome]) {
+    assert!(rt;
+        matches!(outcomes, [one, other]
+        if one.train == 1 && end(one) == Some(1_500)
+            && other.train == 2 && matches!(&other.answer, Answer::Gone))
+    );
 }
 
 /// While the first train's authority is computed, the second train leaves.
@@ -80,9 +114,8 @@ where
     requires parts { (blank.parts ≡ L.parts) × (2 ≡ L.parts) }
     requires opened { history ≡ L.opened }
 {
-    let alloc = rt.alloc();
     let track = shared_track(rt, &history);
-    let (desk, mut seats) = Desk::<L>::new(alloc, history, 2, blank).expect(rt, "seats");
+    let (desk, mut seats) = Desk::<L>::new(rt.alloc(), history, 2, blank).expect(rt, "seats");
     let tells = Mutex::new(seats.pop().expect(rt, "a seat"));
     let passes = AtomicU64::new(0);
     let gate = Tells {
@@ -94,14 +127,8 @@ where
         passes: &passes,
         first: 4,
     };
-    assert_eq!(rt; seats.len(), 1);
-    let (mut seats, outcomes) = sweep(rt, alloc, &desk, seats, &gate);
-    let outcomes = outcomes.expect(rt, "outcomes");
-    assert!(rt;
-        matches!(outcomes.as_slice(), [one, other]
-        if end(one) == Some(1_500)
-            && other.train == 2 && matches!(&other.answer, Answer::Gone))
-    );
+    let (mut seats, outcomes) = swept(rt, &desk, seats, &gate);
+    is_alone(rt, &outcomes);
     seats.push(tells.into_inner()).expect(rt, "room");
     assert_eq!(rt; closed(rt, desk, seats).version(), 6);
 }

@@ -1,17 +1,21 @@
-//! What lines tell, and desks that are closed.
+//! What is told and asked in the examples: of records, and at desks.
 
 ghost use Rattle.std.specs.Prelude.{◌≡◌};
 ghost use Rattle.std.specs.Arc.{arc_value};
 ghost use Rattle.rbc_sweep.specs.Steps.{IsOfTrack};
 
-use super::track_of;
-use rbc_model::Told;
-use rbc_sweep::{Desk, DeskName, Record, Seat};
+use rbc_model::{OrMemory, Told};
+use rbc_sweep::{
+    ApplyFault, AskFault, Candidate, Desk, DeskName, Gate, Granted, Receipt, Record, Seat,
+    candidate,
+};
 use rbc_track::Track;
+use rbc_trackfile::read;
 use rbc_words::{Request, parse};
 use std::alloc::Global;
 use std::process::Abort;
-use std::sync::Arc;
+use std::sync::{Arc, Wait};
+use std::thread::Threads;
 
 /// What a line tells.
 pub(super) fn told_by(rt: &impl Abort, track: &Track, line: &str) -> Told
@@ -26,12 +30,19 @@ pub(super) fn told_by(rt: &impl Abort, track: &Track, line: &str) -> Told
     }
 }
 
-/// The record of a track file in which nothing was told yet. It is made a second time where memory is refused.
+/// The record of a track file in which nothing was told yet. None where memory is refused.
+fn made(alloc: Global, file: &str) -> Option<Record> {
+    let track = read(alloc, file.as_bytes()).ok()?;
+    let shared = Arc::new(alloc, track).ok()?;
+    Record::new(alloc, shared).ok()
+}
+
+/// The same. It is made a second time where memory is refused.
 fn empty_record(rt: &impl Abort, alloc: Global, file: &str) -> Record {
-    if let Ok(made) = Record::new(alloc, track_of(rt, alloc, file)) {
-        return made;
+    match made(alloc, file) {
+        Some(history) => history,
+        None => made(alloc, file).expect(rt, "a track"),
     }
-    Record::new(alloc, track_of(rt, alloc, file)).expect(rt, "room")
 }
 
 /// The record of a track file in which these lines are told.
@@ -49,6 +60,42 @@ pub(super) fn shared_track(rt: &impl Abort, history: &Record) -> Arc<Track>
     ensures { arc_value result ≡ history.now.track }
 {
     Arc::try_clone(history.track()).expect(rt, "fewer shares")
+}
+
+/// What the train may be granted now.
+pub(super) fn offered<R: Threads + Abort + AllocGlobal + Sync>(
+    rt: &R,
+    history: &Record,
+    train: u32,
+) -> Candidate {
+    let view = history.view(rt.alloc(), train).expect(rt, "a view");
+    candidate(rt, rt.alloc(), view, history.version()).expect(rt, "room")
+}
+
+/// Tells the desk what the line tells.
+pub(super) fn tell<L: DeskName, R: Wait + Abort>(
+    rt: &R,
+    alloc: Global,
+    desk: &Desk<L>,
+    track: &Track,
+    seat: &mut Seat<L>,
+    line: &str,
+) -> Result<Receipt, OrMemory<ApplyFault>>
+    requires { track.now ≡ L.opened.track }
+{
+    let told = told_by(rt, track, line);
+    desk.event(rt, alloc, seat, told)
+}
+
+/// The train asks at the desk.
+pub(super) fn ask<L: DeskName, R: Threads + Wait + AllocGlobal + Sync, G: Gate>(
+    rt: &R,
+    desk: &Desk<L>,
+    seat: &mut Seat<L>,
+    train: u32,
+    gate: &G,
+) -> Result<Granted, OrMemory<AskFault>> {
+    desk.ask(rt, rt.alloc(), seat, train, gate)
 }
 
 /// The record of a desk to which all seats are handed back.
