@@ -16,6 +16,7 @@ use Rattle.rbc_extent.specs.OnTracks.{LineOnTrack}
 use Rattle.rbc_extent.specs.TrainsOnTracks.{TrainOnTrack}
 use Rattle.rbc_scene_laws.specs.Good.{IsGoodTrain}
 use Rattle.rbc_scene_laws.proofs.BasicLemmas.{EachPair, recursion_from_AllPairs, the_some}
+use Rattle.rbc_scene_laws.proofs.GivingBackLemmas.{IsCut, AuthoritiesAreApart-cut_at}
 use Rattle.rbc_scene_laws.proofs.TrainListLemmas.{Differ, find-passes, swap}
 use Rattle.rbc_book.specs.Books.{Book, HoldsOfTrain, IsGoodBook, scene_of, book_with, book_without, number_in, train_in}
 use Rattle.rbc_book.specs.Entries.{on_track, entry_of, number_on, trains_of, book_of, AreEntries}
@@ -256,16 +257,16 @@ module _ (track : Track) (book : Book) (es : List (ℕ × TrainOnTrack)) (is : b
       (subst (λ t. AuthoritiesAreApart book.track (with_train (scene_of book.trains) t)) (sym e) (apart before.train f.there)) entries)
 
   -- a train that is there, with its authority cut, written in its place
-  pub cut : (fs : List (ℕ × TrainOnTrack)) (number : ℕ) (before after : TrainOnTrack) (to : ℕ) → IsFound book number before
+  pub cut : (fs : List (ℕ × TrainOnTrack)) (number : ℕ) (before after : TrainOnTrack) (to : ℕ) → IsFound book number before → IsCut before.train to
       → after.train ≡ cut_at before.track before.train to → IsGoodTrain after.track after.train → after.track ≡ before.track
-      → HoldsOfTrain book number (λ train. AuthoritiesAreApart book.track (with_train (scene_of book.trains) (cut_at book.track train to)))
       → fs ≡ set_value (nat_eq number) es after → AreThoseOf track (book_with book (cut_at book.track before.train to)) fs
-  cut fs number before after to f e fine of_track apart entries =
+  cut fs number before after to f c e fine of_track entries =
+      let good = subst IsGoodBook is are.good in
       let same : after.train ≡ cut_at book.track before.train to = e ∙ ap (λ t. cut_at t before.train to) f.of_track in
       let there : is_some (lookup (nat_eq number) es) ≡ true = got-some number ∙ ap is_some f.there in
       subst (λ t. AreThoseOf track (book_with book t) fs) same
       (placed fs number after
       (f.numbered ∙ sym (ap (λ (t : Train). t.report.train) e ∙ number_kept (nat_lt before.train.from to) before.train (through before.track before.train.report (max before.train.front to) before.train.line) to))
       (of_track ∙ f.of_track) fine
-      (subst (λ t. AuthoritiesAreApart book.track (with_train (scene_of book.trains) t)) (sym same) (apart before.train f.there))
+      (subst (λ t. AuthoritiesAreApart book.track (with_train (scene_of book.trains) t)) (sym same) (AuthoritiesAreApart-cut_at book.track (scene_of book.trains) number before.train to f.there c good.trains good.numbers_differ good.apart))
       (entries ∙ set_value-insert es number after there))

@@ -172,8 +172,6 @@ impl Book {
         requires front { HoldsOfTrain self.old number (λ train. train.front ≤ to) }
         requires from { HoldsOfTrain self.old number (λ train. train.from ≤ to) }
         requires to { HoldsOfTrain self.old number (λ train. to < train.to) }
-        requires apart { HoldsOfTrain self.old number (λ train. AuthoritiesAreApart self.old.track
-            (with_train (scene_of self.old.trains) (cut_at self.old.track train to))) }
         ensures { HoldsOfTrain self.old number
             (λ train. self.new ≡ book_with self.old (cut_at self.old.track train to)) }
     {

@@ -77,11 +77,11 @@ some_leg track scene train h = elim (leg_or_none train.line) [
       absurd (let c : ⊥ = omega arith in c)
 ]
 
-record IsPlacedWell (track : Track) (scene : Scene) (train : Train) : Type 0 where
-  begins : start_of train ≤ reach track scene train
-  stopped : IsStopped track scene train
+pub record IsPlacedWell (track : Track) (scene : Scene) (train : Train) : Type 0 where
+  pub begins : start_of train ≤ reach track scene train
+  pub stopped : IsStopped track scene train
 
-placed_well : (track : Track) (scene : Scene) (train : Train) (end : ℕ) → greatest_end track scene train ≡ Some end → IsPlacedWell track scene train
+pub placed_well : (track : Track) (scene : Scene) (train : Train) (end : ℕ) → greatest_end track scene train ≡ Some end → IsPlacedWell track scene train
 placed_well track scene train end h =
     from_last (filter-numbers (is_expressible_end track train) (max (train.front + 1) train.to) (reach track scene train + 1 - max (train.front + 1) train.to) end h)
   where
@@ -120,16 +120,16 @@ abbrev pub seen : Track → Scene → Train → Option ℕ → Result View ViewF
 seen track scene train None = Err (Blocked (stop track scene train) (from_group train (reach track scene train)))
 seen track scene train (Some end) = Ok (view_to track scene train end)
 
-record IsSeen (track : Track) (scene : Scene) (train : Train) (v : View) : Type 0 where
-  end : ℕ
-  greatest : greatest_end track scene train ≡ Some end
-  is : view_to track scene train end ≡ v
+pub record IsSeen (track : Track) (scene : Scene) (train : Train) (v : View) : Type 0 where
+  pub end : ℕ
+  pub greatest : greatest_end track scene train ≡ Some end
+  pub is : view_to track scene train end ≡ v
 
 seen_by : (track : Track) (scene : Scene) (train : Train) (v : View) (o : Option ℕ) → greatest_end track scene train ≡ o → seen track scene train o ≡ Ok v → IsSeen track scene train v
 seen_by track scene train v None e h = cc
 seen_by track scene train v (Some end) e h = record { end = end; greatest = e; is = cc }
 
-is_seen : (track : Track) (scene : Scene) (train : Train) (v : View) → view_of track scene train ≡ Ok v → IsSeen track scene train v
+pub is_seen : (track : Track) (scene : Scene) (train : Train) (v : View) → view_of track scene train ≡ Ok v → IsSeen track scene train v
 is_seen track scene train v h = seen_by track scene train v (greatest_end track scene train) refl h
 
 view_of-greatest : (track : Track) (scene : Scene) (train : Train) (end : ℕ) → greatest_end track scene train ≡ Some end → view_of track scene train ≡ Ok (view_to track scene train end)
@@ -277,16 +277,16 @@ candidate-IsBestFor track scene train grant form number best =
 number_there : (scene : Scene) (number : ℕ) (train : Train) → train_numbered scene number ≡ Some train → train.report.train ≡ number
 number_there scene number train h = eqb-true train.report.train number (find-passes (λ (t : Train). t.report.train == number) scene.trains train h)
 
-record IsThere (track : Track) (scene : Scene) (number : ℕ) (v : View) : Type 0 where
-  train : Train
-  there : train_numbered scene number ≡ Some train
-  view : view_of track scene train ≡ Ok v
+pub record IsThere (track : Track) (scene : Scene) (number : ℕ) (v : View) : Type 0 where
+  pub train : Train
+  pub there : train_numbered scene number ≡ Some train
+  pub view : view_of track scene train ≡ Ok v
 
 there_by : (track : Track) (scene : Scene) (number : ℕ) (v : View) (o : Option Train) → train_numbered scene number ≡ o → option_map_or (view_of track scene) o (Err NoTrain) ≡ Ok v → IsThere track scene number v
 there_by track scene number v None e h = cc
 there_by track scene number v (Some train) e h = record { train = train; there = e; view = h }
 
-is_there : (track : Track) (scene : Scene) (number : ℕ) (v : View) → view track scene number ≡ Ok v → IsThere track scene number v
+pub is_there : (track : Track) (scene : Scene) (number : ℕ) (v : View) → view track scene number ≡ Ok v → IsThere track scene number v
 is_there track scene number v h = there_by track scene number v (train_numbered scene number) refl h
 
 -- the view of a number is that of the train of this number
@@ -331,7 +331,7 @@ no_best-refused track scene grant fault form h best =
     let e = s.1 in
     cc
 
-the_ok : (a b : View) → (let r : Result View ViewFault = Ok a in r) ≡ Ok b → a ≡ b
+pub the_ok : (a b : View) → (let r : Result View ViewFault = Ok a in r) ≡ Ok b → a ≡ b
 the_ok a b h = cc
 
 -- views that tell the same allow the same

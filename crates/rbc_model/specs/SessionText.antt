@@ -1,12 +1,12 @@
 -- A session of the centre: the grammar of a line that it reads.
-use Rattle.std.specs.Prelude.{ℕ, Bool, true, false, List, [], ◌∷◌, Result, Ok, Err, ◌==◌, if◌then◌else◌, codes, bytes_eq}
-use Rattle.std.specs.List.{before_first, after_first}
-use Rattle.rbc_model.specs.declared.limits.TheConstants.{LAST_COUNTRY, LAST_GROUP, LAST_TRAIN, FARTHEST_REPORT, MOST_DOUBT, LONGEST_TRAIN, LAST_TIME}
+use Rattle.std.specs.Prelude.{ℕ, ◌≤◌, Bool, true, false, IsTrue, List, [], ◌∷◌, ◌++◌, Result, Ok, Err, ◌==◌, if◌then◌else◌, codes, decimal, bytes_eq}
+use Rattle.std.specs.List.{before_first, after_first, join_with_byte}
+use Rattle.rbc_model.specs.declared.limits.TheConstants.{LAST_COUNTRY, LAST_GROUP, LAST_TRAIN, FARTHEST_REPORT, FARTHEST_KEPT, MOST_DOUBT, LONGEST_TRAIN, LAST_TIME}
 use Rattle.rbc_model.specs.declared.refusals.LineFault.{LineFault}
 use Rattle.rbc_model.specs.declared.refusals.LineFault.TheVariants.{Command, Words, Name}
 use Rattle.rbc_model.specs.Results.{is_from_to, allowed_value, ◌>>=◌}
 use Rattle.rbc_model.specs.GroupNames.{GroupName}
-use Rattle.rbc_model.specs.Reports.{Report as TrainReport}
+use Rattle.rbc_model.specs.Reports.{IsReport, Report as TrainReport}
 use Rattle.rbc_model.specs.Names.{is_name}
 use Rattle.rbc_model.specs.Words.{number_in}
 use Rattle.rbc_model.specs.RequestText.{number_at, line_in, parse_line}
@@ -20,6 +20,7 @@ pub data SessionLine : Type 0 where
   Lock : List ℕ → SessionLine
   Free : List ℕ → SessionLine
   Leave : ℕ → SessionLine
+  GiveBack : ℕ → ℕ → SessionLine
   Ask : ℕ → SessionLine
 
 -- ---- single words
@@ -63,6 +64,14 @@ report_in (train ∷ group ∷ direction ∷ distance ∷ over ∷ under ∷ len
   Ok (record { train = train; group = group; nominal = nominal; distance = distance; over = over; under = under; length = length; time = time })
 report_in _ = Err Words
 
+-- the words behind `yield`, just two: the train, and how many metres from its group the authority ends that it keeps
+abbrev pub give_back_in : List (List ℕ) → Result SessionLine LineFault
+give_back_in (train ∷ end ∷ []) = do
+  train ← train_at 2 train
+  end ← number_at 3 0 FARTHEST_KEPT end
+  Ok (GiveBack train end)
+give_back_in _ = Err Words
+
 -- the word behind another command, if it is the only one
 abbrev pub only_word : List (List ℕ) → Result (List ℕ) LineFault
 only_word (word ∷ []) = Ok word
@@ -84,9 +93,59 @@ words_line (command ∷ words) =
     else if bytes_eq command (codes "lock") then line_in Lock (name_in words)
     else if bytes_eq command (codes "free") then line_in Free (name_in words)
     else if bytes_eq command (codes "leave") then line_in Leave (train_in words)
+    else if bytes_eq command (codes "yield") then give_back_in words
     else if bytes_eq command (codes "ask") then line_in Ask (train_in words)
     else Err Command
 
 -- what the bytes of a line say, without its line feed
 abbrev pub parse_session : List ℕ → Result SessionLine LineFault
 parse_session line = parse_line Blank words_line line
+
+-- ---- requests, written
+
+-- a balise group as a word
+abbrev pub group_word : GroupName → List ℕ
+group_word group = decimal group.country ++ 47 ∷ decimal group.number
+
+-- a direction as a word
+abbrev pub nominal_word : Bool → List ℕ
+nominal_word true = codes "nominal"
+nominal_word false = codes "reverse"
+
+-- the words of a request; a line without a reply has none
+abbrev pub said_words : SessionLine → List (List ℕ)
+said_words Blank = []
+said_words (Report report) =
+    codes "report"
+    ∷ decimal report.train
+    ∷ group_word report.group
+    ∷ nominal_word report.nominal
+    ∷ decimal report.distance
+    ∷ decimal report.over
+    ∷ decimal report.under
+    ∷ decimal report.length
+    ∷ decimal report.time
+    ∷ []
+said_words (Lock name) = codes "lock" ∷ name ∷ []
+said_words (Free name) = codes "free" ∷ name ∷ []
+said_words (Leave train) = codes "leave" ∷ decimal train ∷ []
+said_words (GiveBack train end) = codes "yield" ∷ decimal train ∷ decimal end ∷ []
+said_words (Ask train) = codes "ask" ∷ decimal train ∷ []
+
+-- a request as a line, without its line feed
+abbrev pub said_line : SessionLine → List ℕ
+said_line said = join_with_byte 32 (said_words said)
+
+-- a train has this number
+abbrev pub IsTrainNumber : ℕ → Type 0
+IsTrainNumber train = (1 ≤ train) × (train ≤ LAST_TRAIN)
+
+-- a line can say it: its numbers are in their ranges, and its name is in its form
+abbrev pub IsSayable : SessionLine → Type 0
+IsSayable Blank = Unit {0}
+IsSayable (Report report) = IsReport report
+IsSayable (Lock name) = IsTrue (is_name name)
+IsSayable (Free name) = IsTrue (is_name name)
+IsSayable (Leave train) = IsTrainNumber train
+IsSayable (GiveBack train end) = IsTrainNumber train × (end ≤ FARTHEST_KEPT)
+IsSayable (Ask train) = IsTrainNumber train

@@ -33,6 +33,9 @@ pub const LAST_TRAIN: u32 = 9_999_999;
 /// How many metres past its balise group a train may report its front.
 pub const FARTHEST_REPORT: u32 = 100_000;
 
+/// How many metres past its balise group the authority may end that a train keeps when it gives metres back.
+pub const FARTHEST_KEPT: u32 = 100_000;
+
 /// By how many metres a report may tell this distance too great or too small (L_DOUBTOVER, L_DOUBTUNDER).
 pub const MOST_DOUBT: u16 = 10_000;
 
@@ -62,6 +65,9 @@ pub const MOST_LEGS: usize = 64;
 
 /// How many trains a scene may have.
 pub const MOST_TRAINS: usize = 1_024;
+
+/// How many entries a history may have.
+pub const MOST_ENTRIES: usize = 100_000;
 
 /// How many lines a session treats.
 pub const MOST_LINES: u32 = 1_000_000;

@@ -211,14 +211,6 @@ module _ (locks : Locks) (book : Book) (now : SceneOnTrack) (is : scene_on locks
       let k = subst IsKept is kept in
       good_after_give_back now.track now.scene (with_train now.scene (cut_at now.track g.train to)) number distance g.steps k.good
 
-  pub apart_cut : HoldsOfTrain book number (λ train. AuthoritiesAreApart book.track (with_train (scene_of book.trains) (cut_at book.track train to)))
-  apart_cut =
-      subst (λ (s : SceneOnTrack). (train : Train) → train_numbered s.scene number ≡ Some train → AuthoritiesAreApart s.track (with_train s.scene (cut_at s.track train to))) (sym is)
-      (λ train e.
-      let g = given in
-      let good = good_cut in
-      subst (λ t. AuthoritiesAreApart now.track (with_train now.scene (cut_at now.track t to))) (the_some g.train train (sym g.there ∙ e)) good.apart)
-
   module _ (new : Book) (placed : HoldsOfTrain book number (λ train. new ≡ book_with book (cut_at book.track train to))) where
     as_cut : new ≡ book_with book (cut_at book.track (the_train given) to)
     as_cut = let g = given in placed g.train (ap (λ (s : SceneOnTrack). train_numbered s.scene number) is ∙ g.there)

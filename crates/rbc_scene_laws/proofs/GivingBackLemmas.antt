@@ -1,9 +1,9 @@
--- The end of an authority that is given back: the scene stays good.
+-- The end of an authority that is given back: the scene stays good, and authorities apart.
 use Rattle.std.proofs.Common.{◌≡◌, ℕ, ◌+◌, ◌<◌, ◌≤◌, max, Bool, true, false, cond, ◌&&◌, Option, Some, None, Ok, Err, refl, ap, sym, ◌∙◌, subst, arith, nat_lt, nat_le}
-use Rattle.std.specs.Prelude.{◌==◌}
+use Rattle.std.specs.Prelude.{All, ◌==◌}
 use Rattle.std.specs.Option.{option_map_or}
 use Rattle.std.proofs.lemmas.Bool.{leb-true, ltb-true, eqb-true}
-use Rattle.std.proofs.lemmas.List.Elements.{recursion_from_All}
+use Rattle.std.proofs.lemmas.List.Elements.{All-from_recursion, recursion_from_All}
 use Rattle.rbc_model.specs.declared.refusals.Refusal.TheVariants.{UnknownTrain, YieldRange}
 use Rattle.rbc_model.specs.Tracks.{Track}
 use Rattle.rbc_model.specs.Lines.{Line, line_length}
@@ -11,13 +11,16 @@ use Rattle.rbc_model.specs.Trains.{Train}
 use Rattle.rbc_model.specs.Placing.{through}
 use Rattle.rbc_model.specs.Scenes.{Scene, train_numbered}
 use Rattle.rbc_model.specs.Events.{after_give_back, with_train, with_authority, cut_at}
+use Rattle.rbc_model.specs.Histories.{AuthoritiesAreApart}
 use Rattle.rbc_scene_laws.specs.Good.{IsGoodScene, IsGoodTrain, IsWithin, spot}
 use Rattle.rbc_scene_laws.proofs.BasicLemmas.{and_left, and_right}
 use Rattle.rbc_scene_laws.proofs.SpotLemmas.{at_place-append_left}
 use Rattle.rbc_scene_laws.proofs.TrainListLemmas.{find-holds, find-passes}
 use Rattle.rbc_scene_laws.proofs.OnLineLemmas.{OnLine, OnLine-IsLine, IsLine-OnLine, OnLine-left}
 use Rattle.rbc_scene_laws.proofs.ThroughLemmas.{IsThrough, is_through}
-use Rattle.rbc_scene_laws.proofs.WithinLemmas.{good_within}
+use Rattle.rbc_scene_laws.proofs.WithinLemmas.{apart_within, good_within}
+use Rattle.rbc_scene_laws.proofs.AuthorityLemmas.{Apart}
+use Rattle.rbc_scene_laws.proofs.BookLemmas.{AuthoritiesAreApart-with_train, NumbersDiffer}
 
 -- what may be given back: up to here
 pub record IsCut (train : Train) (to : ℕ) : Type 0 where
@@ -59,6 +62,13 @@ module _ (track : Track) (train : Train) (to : ℕ) (good : IsGoodTrain track tr
     within = λ i low high. absurd (omega arith);
   }
 
+-- a good train of the scene before and after
+record IsCutOf (track : Track) (scene : Scene) (train after : Train) : Type 0 where
+  pub was : IsGoodTrain track train
+  pub there : train_numbered scene after.report.train ≡ Some train
+  pub good : IsGoodTrain track after
+  pub within : IsWithin track train after
+
 pub record IsGivenBack (track : Track) (scene : Scene) (number distance : ℕ) (after : Scene) : Type 0 where
   pub train : Train
   pub there : train_numbered scene number ≡ Some train
@@ -90,13 +100,27 @@ given_back track scene after number distance (Some train) e h =
       is = p.1;
     }
 
+-- the train of a number, found among good trains, with its authority cut
+cut_of : (track : Track) (scene : Scene) (number : ℕ) (train : Train) (to : ℕ) → train_numbered scene number ≡ Some train → IsCut train to → All (IsGoodTrain track) scene.trains → IsCutOf track scene train (cut_at track train to)
+cut_of track scene number train to there c trains =
+    let is_it = λ (t : Train). t.report.train == number in
+    let was = find-holds (IsGoodTrain track) is_it scene.trains train there (recursion_from_All (IsGoodTrain track) scene.trains trains) in
+    let same : train.report.train ≡ number = eqb-true train.report.train number (find-passes is_it scene.trains train there) in
+    let cut = cut_train track train to was c (nat_lt train.from to) in
+    record { was = was; there = ap (train_numbered scene) (cut.number ∙ same) ∙ there; good = cut.good; within = cut.within }
+
+-- the others' authorities are apart from it
+pub AuthoritiesAreApart-cut_at : (track : Track) (scene : Scene) (number : ℕ) (train : Train) (to : ℕ) → train_numbered scene number ≡ Some train → IsCut train to → All (IsGoodTrain track) scene.trains → NumbersDiffer scene
+    → AuthoritiesAreApart track scene → AuthoritiesAreApart track (with_train scene (cut_at track train to))
+AuthoritiesAreApart-cut_at track scene number train to there c trains differ apart =
+    let after = cut_at track train to in
+    let cut = cut_of track scene number train to there c trains in
+    AuthoritiesAreApart-with_train track scene after differ apart
+    (All-from_recursion (λ (other : Train). (other.report.train == after.report.train) ≡ false → Apart track after other) scene.trains (apart_within track scene train after cut.there cut.was apart cut.within))
+
 pub good_after_give_back : (track : Track) (scene after : Scene) (number distance : ℕ) → after_give_back track scene number distance ≡ Ok after → IsGoodScene track scene → IsGoodScene track after
 good_after_give_back track scene after number distance h good =
     let g = given_back track scene after number distance (train_numbered scene number) refl h in
-    let train = g.train in
-    let is_it = λ (t : Train). t.report.train == number in
-    let fine = find-holds (IsGoodTrain track) is_it scene.trains train g.there (recursion_from_All (IsGoodTrain track) scene.trains good.trains) in
-    let same : train.report.train ≡ number = eqb-true train.report.train number (find-passes is_it scene.trains train g.there) in
-    let cut = cut_train track train (train.origin + distance) fine g.cut (nat_lt train.from (train.origin + distance)) in
-    subst (IsGoodScene track) g.is
-    (good_within track scene train (cut_at track train (train.origin + distance)) (ap (train_numbered scene) (cut.number ∙ same) ∙ g.there) good cut.good cut.within)
+    let to = g.train.origin + distance in
+    let cut = cut_of track scene number g.train to g.there g.cut good.trains in
+    subst (IsGoodScene track) g.is (good_within track scene g.train (cut_at track g.train to) cut.there good cut.good cut.within)

@@ -6,4 +6,5 @@ pub mod NegatedLemmas
 pub mod OrderLemmas
 pub mod PlaceLemmas
 pub mod StretchLemmas
+pub mod TrackRunLemmas
 pub mod TurnedLemmas

@@ -1,16 +1,13 @@
 -- The table of least prices: it is sound, and some way costs each of its prices. So each price of the greatest sound table is reached.
-use Rattle.std.proofs.Common.{◌≡◌, refl, ap, sym, ◌∙◌, arith, ℕ, zero, suc, ◌+◌, ◌<◌, ◌≤◌, ◌⊎◌, inl, inr, min, Bool, true, false, ◌&&◌, List, [], ◌∷◌, length, get_or, ◌==◌}
+use Rattle.std.proofs.Common.{◌≡◌, refl, ap, sym, ◌∙◌, arith, ℕ, zero, suc, ◌+◌, ◌<◌, ◌≤◌, ◌⊎◌, inl, inr, min, Bool, true, false, ◌&&◌, List, [], length, get_or, ◌==◌}
 use Rattle.std.specs.List.{list_all}
 use Rattle.std.proofs.lemmas.Bool.{eq-eqb}
 use Rattle.rbc_model.specs.Levels.{Levels}
 use Rattle.rbc_model.specs.PriceTables.{table_at, step_cost, stretch_count, row_count, IsSoundTable, IsGreatestSoundTable}
+use Rattle.rbc_table_laws.specs.LeastTables.{least_to, made, least_price, filled}
 use Rattle.rbc_table_laws.proofs.WayLemmas.{Reach, way_dearer, reach_on}
 
 -- ---- the least of the numbers at 0 to `last`
-
-least_to : ℕ → (ℕ → ℕ) → ℕ
-least_to zero f = f 0
-least_to (suc last) f = min (least_to last f) (f (suc last))
 
 last_or_before : (i last : ℕ) → i ≤ suc last → (i ≡ suc last) ⊎ (i ≤ last)
 last_or_before i last h = grind arith
@@ -26,7 +23,7 @@ least_at_most (suc last) f i h = elim (last_or_before i last h) [
 lower_one : (a b : ℕ) → (min a b ≡ a) ⊎ (min a b ≡ b)
 lower_one a b = grind arith
 
-least_found : (last : ℕ) (f : ℕ → ℕ) → (i : ℕ) × (i ≤ last) × (least_to last f ≡ f i)
+pub least_found : (last : ℕ) (f : ℕ → ℕ) → (i : ℕ) × (i ≤ last) × (least_to last f ≡ f i)
 unfolding least_to
 least_found zero f = (0, omega arith, refl)
 least_found (suc last) f = elim (lower_one (least_to last f) (f (suc last))) [
@@ -35,10 +32,6 @@ least_found (suc last) f = elim (lower_one (least_to last f) (f (suc last))) [
 ]
 
 -- ---- lists made by index
-
-made : {X : Type 0} → ℕ → (ℕ → X) → List X
-made zero f = []
-made (suc n) f = f 0 ∷ made n (λ i. f (suc i))
 
 length_made : {X : Type 0} (n : ℕ) (f : ℕ → X) → length (made n f) ≡ n
 unfolding made
@@ -63,67 +56,57 @@ all_made test (suc n) f h = both (test (f 0)) (list_all test (made n (λ i. f (s
 -- ---- the least prices
 
 module _ (cost : ℕ → ℕ → ℕ) where
-  -- that of j + 1 steps or fewer up to break i
-  least_price : ℕ → ℕ → ℕ
-  least_price zero zero = 0
-  least_price zero (suc i) = cost 0 (suc i)
-  least_price (suc j) zero = 0
-  least_price (suc j) (suc i) = least_to i (λ from. least_price j from + cost from (suc i))
-
-  free_start : (j : ℕ) → least_price j 0 ≡ 0
+  free_start : (j : ℕ) → least_price cost j 0 ≡ 0
   unfolding least_price
   free_start zero = refl
   free_start (suc j) = refl
 
-  price_one : (i : ℕ) → least_price 0 (suc i) ≡ cost 0 (suc i)
+  price_one : (i : ℕ) → least_price cost 0 (suc i) ≡ cost 0 (suc i)
   unfolding least_price
   price_one i = refl
 
-  price_more : (j from i : ℕ) → from ≤ i → least_price (suc j) (suc i) ≤ least_price j from + cost from (suc i)
+  price_more : (j from i : ℕ) → from ≤ i → least_price cost (suc j) (suc i) ≤ least_price cost j from + cost from (suc i)
   unfolding least_price
-  price_more j from i h = least_at_most i (λ from. least_price j from + cost from (suc i)) from h
+  price_more j from i h = least_at_most i (λ from. least_price cost j from + cost from (suc i)) from h
 
-  reach_price : (j i : ℕ) → Reach cost (suc j) i (least_price j i)
+  reach_price : (j i : ℕ) → Reach cost (suc j) i (least_price cost j i)
   unfolding least_price
   reach_price zero zero = (0, omega arith, refl)
   reach_price zero (suc i) = (1, omega arith, (0, 0, omega arith, refl, omega arith))
   reach_price (suc j) zero = (0, omega arith, refl)
   reach_price (suc j) (suc i) =
-      let found = least_found i (λ from. least_price j from + cost from (suc i)) in
+      let found = least_found i (λ from. least_price cost j from + cost from (suc i)) in
       let low = found.1 in
       let price = found.2 in
-      reach_on cost (suc j) found.0 (suc i) (least_price j found.0) (least_to i (λ from. least_price j from + cost from (suc i))) (omega arith) (omega arith) (reach_price j found.0)
+      reach_on cost (suc j) found.0 (suc i) (least_price cost j found.0) (least_to i (λ from. least_price cost j from + cost from (suc i))) (omega arith) (omega arith) (reach_price j found.0)
 
-  filled : ℕ → ℕ → List (List ℕ)
-  filled r m = made r (λ j. made m (λ i. least_price j (suc i)))
-
-  filled_at : (r m j i : ℕ) → j < r → i ≤ m → table_at (filled r m) (suc j) i ≡ least_price j i
+  pub filled_at : (r m j i : ℕ) → j < r → i ≤ m → table_at (filled cost r m) (suc j) i ≡ least_price cost j i
   unfolding filled
   filled_at r m j zero row column = sym (free_start j)
   filled_at r m j (suc i) row column =
-      ap (λ xs. get_or xs i 0) (made_at r (λ j. made m (λ i. least_price j (suc i))) j [] row) ∙ made_at m (λ i. least_price j (suc i)) i 0 (omega arith)
+      ap (λ xs. get_or xs i 0) (made_at r (λ j. made m (λ i. least_price cost j (suc i))) j [] row) ∙ made_at m (λ i. least_price cost j (suc i)) i 0 (omega arith)
 
-  filled_length : (r m : ℕ) → length (filled r m) ≡ r
+  filled_length : (r m : ℕ) → length (filled cost r m) ≡ r
   unfolding filled
-  filled_length r m = length_made r (λ j. made m (λ i. least_price j (suc i)))
+  filled_length r m = length_made r (λ j. made m (λ i. least_price cost j (suc i)))
 
-  filled_widths : (r m : ℕ) → list_all (λ row. length row == m) (filled r m) ≡ true
+  filled_widths : (r m : ℕ) → list_all (λ row. length row == m) (filled cost r m) ≡ true
   unfolding filled
   filled_widths r m =
-      all_made (λ row. length row == m) r (λ j. made m (λ i. least_price j (suc i)))
-      (λ j. eq-eqb (length (made m (λ i. least_price j (suc i)))) m (length_made m (λ i. least_price j (suc i))))
+      all_made (λ row. length row == m) r (λ j. made m (λ i. least_price cost j (suc i)))
+      (λ j. eq-eqb (length (made m (λ i. least_price cost j (suc i)))) m (length_made m (λ i. least_price cost j (suc i))))
 
-  filled_none : (m i : ℕ) → table_at (filled 0 m) 1 i ≡ 0
+  filled_none : (m i : ℕ) → table_at (filled cost 0 m) 1 i ≡ 0
   unfolding filled made
   filled_none m zero = refl
   filled_none m (suc i) = refl
 
-  filled_first : (r m i : ℕ) → i ≤ m → table_at (filled r m) 1 i ≤ cost 0 i
+  filled_first : (r m i : ℕ) → i ≤ m → table_at (filled cost r m) 1 i ≤ cost 0 i
   filled_first zero m i h = let none = filled_none m i in omega arith
   filled_first (suc r) m zero h = let at = filled_at (suc r) m 0 0 (omega arith) h in let free = free_start 0 in omega arith
   filled_first (suc r) m (suc i) h = let at = filled_at (suc r) m 0 (suc i) (omega arith) h in let one = price_one i in omega arith
 
-  filled_more : (r m j i i' : ℕ) → 1 ≤ j → j < r → i < i' → i' ≤ m → table_at (filled r m) (suc j) i' ≤ table_at (filled r m) j i + cost i i'
+  filled_more : (r m j i i' : ℕ) → 1 ≤ j → j < r → i < i' → i' ≤ m → table_at (filled cost r m) (suc j) i' ≤ table_at (filled cost r m) j i + cost i i'
   filled_more r m zero i i' low high rises column = absurd (omega arith)
   filled_more r m (suc j) i zero low high rises column = absurd (omega arith)
   filled_more r m (suc j) i (suc i') low high rises column =
@@ -133,7 +116,7 @@ module _ (cost : ℕ → ℕ → ℕ) where
       omega arith
 
 module _ {V : Type 0} (levels : Levels V) (unit limit n : ℕ) (runs : List (ℕ × V)) where
-  filled_sound : IsSoundTable levels unit limit n runs (filled (step_cost levels unit limit n runs) (row_count levels unit limit n runs) (stretch_count levels unit limit n runs))
+  pub filled_sound : IsSoundTable levels unit limit n runs (filled (step_cost levels unit limit n runs) (row_count levels unit limit n runs) (stretch_count levels unit limit n runs))
   filled_sound = record {
     shape = filled_length (step_cost levels unit limit n runs) (row_count levels unit limit n runs) (stretch_count levels unit limit n runs);
     widths = filled_widths (step_cost levels unit limit n runs) (row_count levels unit limit n runs) (stretch_count levels unit limit n runs);

@@ -21,3 +21,4 @@ pub mod TableLawLemmas
 pub mod TrackBreakLemmas
 pub mod LowestValueLemmas
 pub mod PriceRowLemmas
+pub mod LeastTableLemmas

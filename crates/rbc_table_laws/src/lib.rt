@@ -7,6 +7,7 @@ ghost use Rattle.rbc_model.specs.Levels.{speed_levels, grade_levels};
 ghost use Rattle.rbc_table_laws.specs.TableLaws.{SoundTablesBound, GreatestTablesAreReached};
 ghost use Rattle.rbc_table_laws.specs.Tracebacks.{ShortestAreAtBreaks, BestHaveFloors, ChosenAreOne};
 ghost use Rattle.rbc_table_laws.specs.Tracebacks.{SearchesAreFound, TablesAreReadable, ReadOffAreChosen};
+ghost use Rattle.rbc_table_laws.specs.LeastTables.{GreatestTablesAreOne, LeastPricesAreGreatest, StepsReadAreChosen};
 
 /// The laws of price tables, at speeds and at gradients.
 pub fn price_tables_show()
@@ -35,4 +36,14 @@ pub fn chosen_profiles_are_read_off()
     ensures grades_readable { TablesAreReadable grade_levels }
     ensures speeds_chosen { ReadOffAreChosen speed_levels }
     ensures grades_chosen { ReadOffAreChosen grade_levels }
+{}
+
+/// The greatest sound table is one alone, that of the least prices; and what is read off it is the chosen profile.
+pub fn tables_are_computed()
+    ensures speeds_one { GreatestTablesAreOne speed_levels }
+    ensures grades_one { GreatestTablesAreOne grade_levels }
+    ensures speeds_greatest { LeastPricesAreGreatest speed_levels }
+    ensures grades_greatest { LeastPricesAreGreatest grade_levels }
+    ensures speeds_chosen { StepsReadAreChosen speed_levels }
+    ensures grades_chosen { StepsReadAreChosen grade_levels }
 {}

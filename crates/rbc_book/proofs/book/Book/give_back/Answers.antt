@@ -5,6 +5,7 @@ use Rattle.std.specs.Option.{option_copied_mut}
 use Rattle.std.specs.Arc.{arc_value}
 use Rattle.rbc_model.specs.Events.{cut_at}
 use Rattle.rbc_scene_laws.proofs.BasicLemmas.{the_some}
+use Rattle.rbc_scene_laws.proofs.GivingBackLemmas.{IsCut}
 use Rattle.rbc_book.specs.Books.{book_with}
 use Rattle.rbc_book.proofs.EntryLemmas.{AreThoseOf, IsFound, cut, found, got-some}
 use Rattle.rbc_book.proofs.book.Book.give_back.Goals as goal
@@ -39,11 +40,17 @@ was c =
     found (arc_value c.self.inside.track) c.args.self.now c.self.inside.trains.entries c.self.view_is c.self.invariant c.args.number c.unwrap-train.result.now
     (sym (ap option_copied_mut c.unwrap-train.ensures) ∙ c.get_mut.ensures.value)
 
+shortens : (c : After-self-1) → IsCut c.unwrap-train.result.now.train c.args.to
+shortens c =
+    let f = was c in
+    let train = c.unwrap-train.result.now.train in
+    record { short = c.requires.to train f.there; front = c.requires.front train f.there; from = c.requires.from train f.there }
+
 put : (c : After-self-1)
     → AreThoseOf (arc_value c.self.inside.track) (book_with c.args.self.now (cut_at c.args.self.now.track c.unwrap-train.result.now.train c.args.to)) (c.get_mut.follows.lender c.cut_at.new.self).entries
 put c =
     cut (arc_value c.self.inside.track) c.args.self.now c.self.inside.trains.entries c.self.view_is c.self.invariant (c.get_mut.follows.lender c.cut_at.new.self).entries c.args.number
-    c.unwrap-train.result.now c.cut_at.new.self c.args.to (was c) c.cut_at.ensures.train c.line-line.ensures.good c.cut_at.ensures.track c.requires.apart (c.get_mut.follows.holds c.cut_at.new.self).0
+    c.unwrap-train.result.now c.cut_at.new.self c.args.to (was c) (shortens c) c.cut_at.ensures.train c.line-line.ensures.good c.cut_at.ensures.track (c.get_mut.follows.holds c.cut_at.new.self).0
 
 pub invariant_of-self : goal.invariant_of-self
 invariant_of-self c = let p = put c in p.are

@@ -1,11 +1,7 @@
--- The train's authority is cut, so it is apart from the others still, and the scene stays good.
+-- The train's authority is cut, and the scene stays good.
 use Rattle.std.proofs.Common.{sym}
-use Rattle.rbc_scene.proofs.KeepingLemmas.{apart_cut, kept_cut, steps_cut}
+use Rattle.rbc_scene.proofs.KeepingLemmas.{kept_cut, steps_cut}
 use Rattle.rbc_scene.proofs.scene.Scene.give_back.Goals as goal
-
-pub give_back-requires-clause-apart : goal.give_back-requires-clause-apart
-give_back-requires-clause-apart c =
-    apart_cut c.self.inside.locks c.self.inside.book c.args.self.now c.self.view_is c.self.invariant c.args.train c.args.distance c.in_ok-to.to (sym c.in_ok-to.ensures)
 
 pub invariant_of-self : goal.invariant_of-self
 invariant_of-self c =
