@@ -20,3 +20,4 @@ pub mod SessionExamples
 pub mod RequestExamples
 pub mod ReplyExamples
 pub mod StepFunctionExamples
+mod AnswerExamples

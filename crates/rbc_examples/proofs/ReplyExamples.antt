@@ -3,7 +3,7 @@ use Rattle.std.proofs.Common.{◌≡◌, ℕ, List, [], ◌∷◌, ◌++◌, ref
 use Rattle.std.specs.Fmt.{digits}
 use Rattle.rbc_model.specs.declared.refusals.LineFault.TheVariants.{Command, Name}
 use Rattle.rbc_model.specs.declared.refusals.Obstacle.TheVariants.{NoLink, NotLocked as NotLockedAhead, Own, Occupied, Held, Limit}
-use Rattle.rbc_model.specs.declared.refusals.Refusal.TheVariants.{UnknownGroup, LinkTaken, NotLocked, Busy, UnknownTrain}
+use Rattle.rbc_model.specs.declared.refusals.Refusal.TheVariants.{UnknownGroup, LinkTaken, NotLocked, Busy, UnknownTrain, YieldRange}
 use Rattle.rbc_model.specs.Views.{View, view}
 use Rattle.rbc_model.specs.Histories.{Grants}
 use Rattle.rbc_model.specs.SessionReply.{BadLine, UnknownName, BadEvent, Full, Memory, accepted_reply, grant_reply, blocked_reply, refused_reply}
@@ -129,6 +129,10 @@ refused_group = refl
 refused_train : refused_reply double (BadEvent (UnknownTrain 7)) ≡ codes "refused UnknownTrain 7" ++ feed
 unfolding digits
 refused_train = refl
+
+refused_yield : refused_reply double (BadEvent (YieldRange 1)) ≡ codes "refused YieldRange 1" ++ feed
+unfolding digits
+refused_yield = refl
 
 refused_busy : refused_reply double (BadEvent (Busy 1 12)) ≡ codes "refused Busy S2 12" ++ feed
 unfolding digits

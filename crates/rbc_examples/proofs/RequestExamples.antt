@@ -1,7 +1,7 @@
 -- Lines of a session, and the requests that they are read as.
 use Rattle.std.proofs.Common.{◌≡◌, [], ◌∷◌, ◌++◌, refl, replicate, codes, Ok, Err, true, false}
 use Rattle.rbc_model.specs.declared.refusals.LineFault.TheVariants.{Overlong, NotText, Command, Words, Number, Name}
-use Rattle.rbc_model.specs.SessionText.{Blank, Report, Lock, Free, Leave, Ask, parse_session}
+use Rattle.rbc_model.specs.SessionText.{Blank, Report, Lock, Free, Leave, GiveBack, Ask, parse_session}
 
 -- ---- lines that are read
 
@@ -56,6 +56,16 @@ reads_longest_name = refl
 -- ten digits, and the number that they write
 pub reads_leading_zeros : parse_session (codes "leave 0000000017") ≡ Ok (Leave 17)
 reads_leading_zeros = refl
+
+-- metres given back: the train, and where the authority ends that it keeps
+pub reads_yield : parse_session (codes "yield 1 600") ≡ Ok (GiveBack 1 600)
+reads_yield = refl
+
+pub reads_least_kept : parse_session (codes "yield 9999999 0") ≡ Ok (GiveBack 9999999 0)
+reads_least_kept = refl
+
+pub reads_most_kept : parse_session (codes "yield 1 100000") ≡ Ok (GiveBack 1 100000)
+reads_most_kept = refl
 
 pub reads_spaces : parse_session (codes "  ask   7  " ++ 13 ∷ []) ≡ Ok (Ask 7)
 reads_spaces = refl
@@ -132,3 +142,23 @@ refuses_long_name = refl
 -- a leg is no section
 pub refuses_leg : parse_session (codes "free S1+") ≡ Err (Name 2)
 refuses_leg = refl
+
+-- metres given back want a train and a distance, and nothing else
+pub refuses_no_distance : parse_session (codes "yield 1") ≡ Err Words
+refuses_no_distance = refl
+
+pub refuses_two_distances : parse_session (codes "yield 0 600 700") ≡ Err Words
+refuses_two_distances = refl
+
+pub refuses_no_train : parse_session (codes "yield x 5") ≡ Err (Number 2)
+refuses_no_train = refl
+
+pub refuses_train_first : parse_session (codes "yield 0 100001") ≡ Err (Number 2)
+refuses_train_first = refl
+
+pub refuses_far_end : parse_session (codes "yield 1 100001") ≡ Err (Number 3)
+refuses_far_end = refl
+
+-- no end lies before the group
+pub refuses_end_behind : parse_session (codes "yield 1 -5") ≡ Err (Number 3)
+refuses_end_behind = refl

@@ -1,0 +1,9 @@
+pub mod ViewLemmas
+pub mod GrantLemmas
+pub mod LineLemmas
+pub mod TextLemmas
+pub mod SessionLemmas
+pub mod RequestLemmas
+pub mod StepsLemmas
+pub mod RetellingLemmas
+pub mod LegalRetellingLemmas

@@ -1,0 +1,86 @@
+-- A session of the centre: what a line is answered after the entries of a history, and which entry it adds.
+use Rattle.std.specs.Prelude.{◌≡◌, ℕ, ◌+◌, List, [], length, Option, Some, None, Result, Ok, Err, ◌⊎◌, MatchBool, MatchResult}
+use Rattle.rbc_model.specs.declared.refusals.ViewFault.{ViewFault}
+use Rattle.rbc_model.specs.declared.refusals.ViewFault.TheVariants.{UnknownTrain, Blocked}
+use Rattle.rbc_model.specs.declared.refusals.Refusal.TheVariants.{UnknownTrain as NoSuchTrain}
+use Rattle.rbc_model.specs.declared.reports.Told.{Told}
+use Rattle.rbc_model.specs.declared.reports.Event.TheVariants.{Tell}
+use Rattle.rbc_model.specs.Levels.{speed_levels, grade_levels}
+use Rattle.rbc_model.specs.Profiles.{IsChosenProfile, value_at}
+use Rattle.rbc_model.specs.PriceTables.{IsGreatestSoundTable}
+use Rattle.rbc_model.specs.Scales.{unit_of}
+use Rattle.rbc_model.specs.Messages.{message_bytes}
+use Rattle.rbc_model.specs.Reading.{read_message}
+use Rattle.rbc_model.specs.Tracks.{Track}
+use Rattle.rbc_model.specs.Scenes.{Scene}
+use Rattle.rbc_model.specs.Events.{step}
+use Rattle.rbc_model.specs.Views.{View, view}
+use Rattle.rbc_model.specs.Histories.{Entry, Heard, Granted, Grants, IsBest, is_full, replay}
+use Rattle.rbc_model.specs.SessionReply.{SessionRefusal, BadEvent, Full, Memory, accepted_reply, grant_reply, blocked_reply, refused_reply}
+use Rattle.rbc_session_laws.specs.declared.demand.Demand.{Demand}
+use Rattle.rbc_session_laws.specs.declared.demand.Demand.TheVariants.{Nothing, Event, Authority}
+use Rattle.rbc_session_laws.specs.Demands.{demand_in}
+
+-- ---- what a train is granted
+
+-- What this train is granted in this scene, where it is shown this view: the best authority; of several best profiles those that the rules choose;
+-- each with the greatest sound table of prices. The message that is printed tells the authority.
+pub record IsGrantFor (track : Track) (scene : Scene) (number : ℕ) (view : View) (grant : Grants) (speed_rows grade_rows : List (List ℕ)) : Type 0 where
+  pub train : grant.train ≡ number
+  pub best : IsBest track scene grant
+  pub speeds : IsChosenProfile speed_levels (unit_of grant.authority.end) view.speed_steps grant.authority.end (value_at view.speeds) grant.authority.speeds
+  pub grades : IsChosenProfile grade_levels (unit_of grant.authority.end) view.grade_steps grant.authority.end (value_at view.grades) grant.authority.grades
+  pub speed_prices : IsGreatestSoundTable speed_levels (unit_of grant.authority.end) view.speed_steps grant.authority.end view.speeds speed_rows
+  pub grade_prices : IsGreatestSoundTable grade_levels (unit_of grant.authority.end) view.grade_steps grant.authority.end view.grades grade_rows
+  pub message : read_message track.format (message_bytes grant.authority) ≡ Ok grant.authority
+
+-- ---- what a line comes to
+
+-- After these entries a line is answered by this reply, and adds this entry, or none.
+module _ (track : Track) (before : List Entry) (reply : List ℕ) (added : Option Entry) where
+  -- it is refused
+  abbrev pub IsRefused : SessionRefusal → Type 0
+  IsRefused refusal = (reply ≡ refused_reply track refusal) × (added ≡ None)
+
+  -- memory was refused in its treatment
+  abbrev pub IsGivenUp : Type 0
+  IsGivenUp = IsRefused Memory
+
+  -- what is told is added, and the reply tells the version after it
+  abbrev pub IsAccepted : Told → Type 0
+  IsAccepted told = (reply ≡ accepted_reply (length before + 1)) × (added ≡ Some (Heard told))
+
+  -- what is told is refused where the history is full, or where the scene refuses it
+  abbrev pub AnswersEvent : Told → Type 0
+  AnswersEvent told =
+      MatchBool (is_full before)
+      (IsRefused Full)
+      (MatchResult (step track (replay track before) (Tell told)) (λ after. IsAccepted told) (λ refusal. IsRefused (BadEvent refusal)) ⊎ IsGivenUp)
+
+  -- what the train is granted is added, and the reply tells it with the version after it
+  abbrev pub IsGranted : ℕ → View → Type 0
+  IsGranted train shown = (grant : Grants) × (speed_rows : List (List ℕ)) × (grade_rows : List (List ℕ))
+      × IsGrantFor track (replay track before) train shown grant speed_rows grade_rows
+      × (reply ≡ grant_reply track (length before + 1) shown grant speed_rows grade_rows)
+      × (added ≡ Some (Granted grant))
+
+  -- a train that asks is not there, or is shown what stands in its way, or is granted an authority, unless the history is full
+  abbrev pub AnswersAsker : ℕ → Result View ViewFault → Type 0
+  AnswersAsker train (Ok shown) = MatchBool (is_full before) (IsRefused Full) (IsGranted train shown) ⊎ IsGivenUp
+  AnswersAsker train (Err (Blocked obstacle at)) = ((reply ≡ blocked_reply track train (length before) at obstacle) × (added ≡ None)) ⊎ IsGivenUp
+  AnswersAsker train (Err UnknownTrain) = IsRefused (BadEvent (NoSuchTrain train))
+
+  -- a train that asks, by what it is shown after the entries
+  abbrev pub AnswersAuthority : ℕ → Type 0
+  AnswersAuthority train = AnswersAsker train (view track (replay track before) train)
+
+  -- what is asked for
+  abbrev pub AnswersDemand : Result Demand SessionRefusal → Type 0
+  AnswersDemand (Ok Nothing) = (reply ≡ []) × (added ≡ None)
+  AnswersDemand (Ok (Event told)) = AnswersEvent told
+  AnswersDemand (Ok (Authority train)) = AnswersAuthority train
+  AnswersDemand (Err refusal) = IsRefused refusal
+
+-- After these entries the line is answered by this reply, and adds this entry, or none.
+abbrev pub AnswersLine : Track → List Entry → List ℕ → List ℕ → Option Entry → Type 0
+AnswersLine track before line reply added = AnswersDemand track before reply added (demand_in track line)

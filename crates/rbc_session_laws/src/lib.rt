@@ -1,0 +1,39 @@
+//! What a line of a session is answered, and that all answers of a session are one function of the track, of the record at its start and of what
+//! was read. Nothing here runs.
+#![tactic(auto)]
+
+mod demand;
+
+ghost use Rattle.rbc_session_laws.specs.Laws.{GrantsAreOne, LinesAreAnswered, SessionsAreAnswered, SessionsAreOne, WrittenIsAnswered};
+ghost use Rattle.rbc_session_laws.specs.Retelling.{EntriesAreToldAgain, HistoriesAreSessions, ReadsAreSayable};
+ghost use Rattle.rbc_session_laws.specs.Retelling.{LegalHistoriesAreRetold, RequestsAreReadBack};
+ghost use Rattle.rbc_session_laws.specs.Retelling.{RetoldHistoriesAreSessions, SessionsAreRetold};
+ghost use Rattle.rbc_session_laws.specs.StepsAnswers.{StepsLinesAreAnswered, StepsWrittenIsAnswered};
+
+pub use demand::Demand;
+
+/// What a session answers, line by line and as a whole, where memory is not refused.
+pub fn sessions_are_answered()
+    ensures grants { GrantsAreOne }
+    ensures lines { LinesAreAnswered }
+    ensures sessions { SessionsAreAnswered }
+    ensures one { SessionsAreOne }
+    ensures written { WrittenIsAnswered }
+{}
+
+/// What a session of `rbc steps` answers, line by line and as a whole, where memory is not refused.
+pub fn steps_are_answered()
+    ensures lines { StepsLinesAreAnswered }
+    ensures written { StepsWrittenIsAnswered }
+{}
+
+/// A history is a session: the lines of its entries are read back, and lead to the same entries again.
+pub fn histories_are_sessions()
+    ensures read { RequestsAreReadBack }
+    ensures sayable { ReadsAreSayable }
+    ensures lines { EntriesAreToldAgain }
+    ensures retold { RetoldHistoriesAreSessions }
+    ensures sessions { SessionsAreRetold }
+    ensures histories { HistoriesAreSessions }
+    ensures legal { LegalHistoriesAreRetold }
+{}
