@@ -1,64 +1,52 @@
 -- Lemmas on tries to grant.
-use Rattle.std.proofs.Common.{◌≡◌, ℕ, Bool, true, false, not, ◌==◌, length, Option, Result, Ok, Err, refl, ap, sym, ◌∙◌, arith}
-use Rattle.std.specs.Prelude.{if◌then◌else◌, IsTrue, is_err, IfErr}
+use Rattle.std.proofs.Common.{◌≡◌, ℕ, zero, suc, map, replicate, Bool, true, false, length, List, [], ◌∷◌, ◌++◌, Option, Some, Result, Ok, Err, refl, ap, sym, subst, ◌∙◌}
+use Rattle.std.specs.Prelude.{if◌then◌else◌, IfErr, IfOk, IfSome, slice_get}
 use Rattle.std.specs.Result.{result_map_both}
-use Rattle.std.proofs.lemmas.Bool.Decides.{nat_tests}
 use Rattle.rbc_model.specs.declared.memory.OrMemory.{OrMemory}
 use Rattle.rbc_model.specs.declared.memory.OrMemory.TheVariants.{Refused, Memory}
 use Rattle.rbc_model.specs.declared.refusals.ViewFault.{ViewFault}
+use Rattle.rbc_model.specs.declared.refusals.ViewFault.TheVariants.{UnknownTrain, Blocked as BlockedAt}
+use Rattle.rbc_model.specs.declared.reports.Told.{Told}
 use Rattle.rbc_model.specs.Histories.{Entry, Granted, Receipt}
 use Rattle.rbc_model.specs.Views.{View, view}
-use Rattle.rbc_record.specs.SameViews.{is_same_view-decides}
-use Rattle.rbc_record.specs.Candidates.{Candidate}
-use Rattle.rbc_record.specs.declared.faults.CommitFault.{CommitFault}
-use Rattle.rbc_record.specs.declared.faults.CommitFault.TheVariants.{Full as FullToGrants, Stale, Foreign}
-use Rattle.rbc_record.specs.Records.{HistoryOnTrack, scene_now, is_full, with_entry}
-use Rattle.rbc_record.specs.Entering.{EntersOrMemory, entry_granted, is_just, is_shown}
+use Rattle.rbc_snap.specs.SameViews.{is_same_view-decides}
+use Rattle.rbc_grant_laws.specs.Candidates.{IsCandidateOf}
+use Rattle.rbc_snap.specs.Candidates.{Candidate, HasChosenProfiles}
+use Rattle.rbc_snap.specs.CommitFault.{CommitFault}
+use Rattle.rbc_snap.specs.CommitFault.TheVariants.{Full as FullToGrants, Stale}
+use Rattle.rbc_snap.specs.Records.{HistoryOnTrack, scene_now, is_full, with_entry}
+use Rattle.rbc_snap.specs.Entering.{EntersOrMemory, entry_granted, is_just, is_shown}
+use Rattle.rbc_grant_laws.proofs.CandidateLemmas.{view-train}
+use Rattle.rbc_snap.specs.ApplyFault.{ApplyFault}
+use Rattle.rbc_snap.specs.Later.{IsLater}
+use Rattle.rbc_snap.specs.Looks.{IsSeenIn}
+use Rattle.rbc_snap.specs.declared.faults.EyeFault.{EyeFault}
+use Rattle.rbc_snap.specs.declared.faults.EyeFault.TheVariants.{Behind, Unshown}
+use Rattle.rbc_snap.proofs.LaterLemmas.{later_still}
 use Rattle.rbc_desk.specs.declared.faults.AskFault.{AskFault}
+use Rattle.rbc_desk.specs.declared.faults.AskFault.TheVariants.{Blocked}
 use Rattle.rbc_desk.specs.declared.granted.Granted.{Granted as GrantedAtDesk}
-use Rattle.rbc_desk.specs.Asking.{fault_at, tried, Tries, IsRefused, IsAnsweredAt}
-use Rattle.rbc_desk.specs.Desks.{IsOfDesk}
+use Rattle.rbc_desk.specs.Asking.{fault_at, seen_by, tried, Tries, IsRefused, IsAnsweredThen}
+use Rattle.rbc_desk.specs.Telling.{IsToldThen}
 
--- what is entered, by what is asked in turn: whether the history is full, whether the candidate is old, whether its view is shown
-abbrev entry_by : Bool → Bool → Bool → ℕ → Entry → Result Entry CommitFault
-entry_by full old just version entry = if full then Err FullToGrants else (if old then Err (Stale version) else (if just then Ok entry else Err Foreign))
+-- what is entered, by what is asked in turn: whether the history is full, whether the candidate's view is shown
+abbrev entry_by : Bool → Bool → ℕ → Entry → Result Entry CommitFault
+entry_by full just version entry = if full then Err FullToGrants else (if just then Ok entry else Err (Stale version))
 
-only_grant : (full old just : Bool) (version : ℕ) (grant entry : Entry) → entry_by full old just version grant ≡ Ok entry → entry ≡ grant
-only_grant true old just version grant entry e = cc
-only_grant false true just version grant entry e = cc
-only_grant false false true version grant entry e = cc
-only_grant false false false version grant entry e = cc
+only_grant : (full just : Bool) (version : ℕ) (grant entry : Entry) → entry_by full just version grant ≡ Ok entry → (entry ≡ grant) × (full ≡ false) × (just ≡ true)
+only_grant true just version grant entry e = cc
+only_grant false true version grant entry e = (cc, refl, refl)
+only_grant false false version grant entry e = cc
 
-only_full : (full old just : Bool) (version : ℕ) (grant : Entry) → entry_by full old just version grant ≡ Err FullToGrants → full ≡ true
-only_full true old just version grant e = refl
-only_full false true just version grant e = cc
-only_full false false true version grant e = cc
-only_full false false false version grant e = cc
+only_full : (full just : Bool) (version : ℕ) (grant : Entry) → entry_by full just version grant ≡ Err FullToGrants → full ≡ true
+only_full true just version grant e = refl
+only_full false true version grant e = cc
+only_full false false version grant e = cc
 
-only_old : (full old just : Bool) (version at : ℕ) (grant : Entry) → entry_by full old just version grant ≡ Err (Stale at) → old ≡ true
-only_old true old just version at grant e = cc
-only_old false true just version at grant e = refl
-only_old false false true version at grant e = cc
-only_old false false false version at grant e = cc
-
-only_foreign : (full old just : Bool) (version : ℕ) (grant : Entry) → entry_by full old just version grant ≡ Err Foreign → just ≡ false
-only_foreign true old just version grant e = cc
-only_foreign false true just version grant e = cc
-only_foreign false false true version grant e = cc
-only_foreign false false false version grant e = refl
-
-only_current : (full old just : Bool) (version : ℕ) (grant entry : Entry) → entry_by full old just version grant ≡ Ok entry → (full ≡ false) × (old ≡ false) × (just ≡ true)
-only_current true old just version grant entry e = cc
-only_current false true just version grant entry e = cc
-only_current false false true version grant entry e = (refl, refl, refl)
-only_current false false false version grant entry e = cc
-
-same_version : (a b : ℕ) → not (a == b) ≡ false → a ≡ b
-same_version a b e = let same = unchanged (a == b) e in grind (arith, nat_tests)
-  where
-    unchanged : (b : Bool) → not b ≡ false → b ≡ true
-    unchanged true e = refl
-    unchanged false e = cc
+only_stale : (full just : Bool) (version at : ℕ) (grant : Entry) → entry_by full just version grant ≡ Err (Stale at) → just ≡ false
+only_stale true just version at grant e = cc
+only_stale false true version at grant e = cc
+only_stale false false version at grant e = refl
 
 shown_just : (r : Result View ViewFault) (version : ℕ) (v : View) → is_just v r ≡ true → result_map_both (λ seen. seen) (fault_at version) r ≡ Ok v
 shown_just (Ok s) version v e = ap Ok (sym ((is_same_view-decides v s).0 e))
@@ -67,6 +55,10 @@ shown_just (Err fault) version v e = cc
 the_view : (s v : View) → ◌≡◌ {A = Result View AskFault} (Ok s) (Ok v) → v ≡ s
 the_view s v e = cc
 
+viewed : (r : Result View ViewFault) (version : ℕ) (v : View) → result_map_both (λ seen. seen) (fault_at version) r ≡ Ok v → r ≡ Ok v
+viewed (Ok s) version v e = ap Ok (sym (the_view s v e))
+viewed (Err fault) version v e = cc
+
 just_shown : (r : Result View ViewFault) (version : ℕ) (v : View) → result_map_both (λ seen. seen) (fault_at version) r ≡ Ok v → is_just v r ≡ true
 just_shown (Ok s) version v e = (is_same_view-decides v s).1 (the_view s v e)
 just_shown (Err fault) version v e = cc
@@ -74,47 +66,119 @@ just_shown (Err fault) version v e = cc
 -- what a call that enters a candidate's grant answers, as a try
 pub tries : (answer : Result Receipt (OrMemory CommitFault)) (old new : HistoryOnTrack) (candidate : Candidate) → EntersOrMemory answer old new (entry_granted old candidate) → Tries (tried answer) old new candidate
 tries (Ok receipt) old new candidate e =
-    let grant : receipt.entry ≡ Granted candidate.grant =
-    only_grant (is_full old) (not (candidate.version == length old.entries)) (is_shown old candidate.view) (length old.entries) (Granted candidate.grant) receipt.entry e.0 in
-    let current = only_current (is_full old) (not (candidate.version == length old.entries)) (is_shown old candidate.view) (length old.entries) (Granted candidate.grant) receipt.entry e.0 in (
-      grant,
+    let grant = only_grant (is_full old) (is_shown old candidate.view) (length old.entries) (Granted candidate.grant) receipt.entry e.0 in (
+      grant.0,
       e.1,
-      e.2 ∙ ap (λ entry. with_entry old entry) grant,
-      record {
-        version = same_version candidate.version (length old.entries) current.1;
-        view = shown_just (view old.track (scene_now old) candidate.view.train) (length old.entries) candidate.view current.2;
-      },
-      current.0,
+      e.2 ∙ ap (λ entry. with_entry old entry) grant.0,
+      shown_just (view old.track (scene_now old) candidate.view.train) (length old.entries) candidate.view grant.2,
+      grant.1,
     )
 tries (Err (Refused FullToGrants)) old new candidate e =
-    (only_full (is_full old) (not (candidate.version == length old.entries)) (is_shown old candidate.view) (length old.entries) (Granted candidate.grant) e.0, e.1)
+    (only_full (is_full old) (is_shown old candidate.view) (length old.entries) (Granted candidate.grant) e.0, e.1)
 tries (Err (Refused (Stale at))) old new candidate e =
-    let is_old = only_old (is_full old) (not (candidate.version == length old.entries)) (is_shown old candidate.view) (length old.entries) at (Granted candidate.grant) e.0 in
-    ((λ current. let same : (candidate.version == length old.entries) ≡ true = equal candidate.version (length old.entries) current.version in clash (candidate.version == length old.entries) same is_old), e.1)
-  where
-    equal : (a b : ℕ) → a ≡ b → (a == b) ≡ true
-    equal a b e = grind (arith, nat_tests)
-
-    clash : (b : Bool) → b ≡ true → not b ≡ true → ⊥
-    clash true p q = cc
-    clash false p q = cc
-tries (Err (Refused Foreign)) old new candidate e =
-    let other = only_foreign (is_full old) (not (candidate.version == length old.entries)) (is_shown old candidate.view) (length old.entries) (Granted candidate.grant) e.0 in
-    ((λ current. clash (is_shown old candidate.view) (just_shown (view old.track (scene_now old) candidate.view.train) (length old.entries) candidate.view current.view) other), e.1)
+    let other = only_stale (is_full old) (is_shown old candidate.view) (length old.entries) at (Granted candidate.grant) e.0 in
+    ((λ current. clash (is_shown old candidate.view) (just_shown (view old.track (scene_now old) candidate.view.train) (length old.entries) candidate.view current) other), e.1)
   where
     clash : (b : Bool) → b ≡ true → b ≡ false → ⊥
     clash true p q = cc
     clash false p q = cc
 tries (Err Memory) old new candidate e = (tt, e.1)
 
--- ---- answers after some history of the desk
+-- ---- what an eye shows
 
-pub denied_at : (opened history : HistoryOnTrack) (train : ℕ) (answer : Result (Option GrantedAtDesk) (OrMemory AskFault)) → IsOfDesk opened history → IfErr answer (IsRefused history train)
-    → IfErr answer (λ fault. IsAnsweredAt opened train (Err fault))
-denied_at opened history train (Ok tried) of_desk refused = tt
-denied_at opened history train (Err fault) of_desk refused = (history, of_desk, refused)
+seen_train : (old new : HistoryOnTrack) (train : ℕ) (answer : Result (View × ℕ) (OrMemory EyeFault)) → IsSeenIn old new train answer → IfOk (seen_by answer) (λ seen. IfSome seen (λ s. s.0.train ≡ train))
+seen_train old new train (Ok seen) h = view-train new.track (scene_now new) train seen.0 h.0
+seen_train old new train (Err (Refused (Behind version))) h = tt
+seen_train old new train (Err (Refused (Unshown fault version))) h = tt
+seen_train old new train (Err Memory) h = tt
 
-pub refused_at : (opened history : HistoryOnTrack) (train : ℕ) (answer : Result GrantedAtDesk (OrMemory AskFault)) → IsOfDesk opened history → IsTrue (is_err answer) → IfErr answer (IsRefused history train)
-    → IsAnsweredAt opened train answer
-refused_at opened history train (Ok granted) of_desk failed refused = absurd (let none : ⊥ = cc in none)
-refused_at opened history train (Err fault) of_desk failed refused = (history, of_desk, refused)
+unshown : (new : HistoryOnTrack) (train version : ℕ) (fault : ViewFault) → view new.track (scene_now new) train ≡ Err fault → version ≡ length new.entries → IsRefused new train (Refused (fault_at version fault))
+unshown new train version UnknownTrain e is = ap (result_map_both (λ seen. seen) (fault_at (length new.entries))) e
+unshown new train version (BlockedAt obstacle at) e is =
+    ap (result_map_both (λ seen. seen) (fault_at (length new.entries))) e ∙ ap (λ n. Err (Blocked obstacle at n)) (sym is)
+
+seen_denied : (old new : HistoryOnTrack) (train : ℕ) (answer : Result (View × ℕ) (OrMemory EyeFault)) → IsLater old new → IsSeenIn old new train answer
+    → IfErr (seen_by answer) (λ fault. IsAnsweredThen old new train (Err fault))
+seen_denied old new train (Ok seen) later h = tt
+seen_denied old new train (Err (Refused (Behind version))) later h = tt
+seen_denied old new train (Err (Refused (Unshown fault version))) later h =
+    record { before = new; later = later; answered = unshown new train version fault h.0 h.1; told = refl }
+seen_denied old new train (Err Memory) later h = record { before = new; later = later; answered = tt; told = refl }
+
+-- the same for an answer that is known to be what an eye shows
+pub look_train : (old new : HistoryOnTrack) (train : ℕ) (seen : Result (View × ℕ) (OrMemory EyeFault)) (answer : Result (Option (View × ℕ)) (OrMemory AskFault)) → answer ≡ seen_by seen → IsSeenIn old new train seen
+    → IfOk answer (λ seen. IfSome seen (λ s. s.0.train ≡ train))
+look_train old new train seen answer e h = subst (λ a. IfOk a (λ seen. IfSome seen (λ s. s.0.train ≡ train))) (sym e) (seen_train old new train seen h)
+
+pub look_denied : (old new : HistoryOnTrack) (train : ℕ) (seen : Result (View × ℕ) (OrMemory EyeFault)) (answer : Result (Option (View × ℕ)) (OrMemory AskFault)) → answer ≡ seen_by seen → IsLater old new → IsSeenIn old new train seen
+    → IfErr answer (λ fault. IsAnsweredThen old new train (Err fault))
+look_denied old new train seen answer e later h = subst (λ a. IfErr a (λ fault. IsAnsweredThen old new train (Err fault))) (sym e) (seen_denied old new train seen later h)
+
+-- ---- what there is after an answer
+
+-- what goes on from a history goes on from what that goes on from
+pub since_before : (first begun new : HistoryOnTrack) (train : ℕ) (answer : Result GrantedAtDesk (OrMemory AskFault)) → IsLater first begun → IsAnsweredThen begun new train answer → IsAnsweredThen first new train answer
+since_before first begun new train answer later since = record {
+  before = since.before;
+  later = later_still first begun since.before later since.later;
+  answered = since.answered;
+  told = since.told;
+}
+
+-- the same, for the train that asked
+pub since_asked : (first begun new : HistoryOnTrack) (train asked : ℕ) (answer : Result GrantedAtDesk (OrMemory AskFault)) → IsLater first begun → train ≡ asked → IsAnsweredThen begun new train answer → IsAnsweredThen first new asked answer
+since_asked first begun new train asked answer later same since =
+    subst (λ n. IsAnsweredThen first new n answer) same (since_before first begun new train answer later since)
+
+got_last : {X : Type 0} (xs : List X) (x : X) → slice_get (xs ++ x ∷ []) (length xs) ≡ Some x
+got_last [] x = refl
+got_last (y ∷ xs) x = got_last xs x
+
+entered_place : (before after : HistoryOnTrack) (place : ℕ) (entry : Entry) → place ≡ length before.entries → after ≡ with_entry before entry → slice_get after.entries place ≡ Some entry
+entered_place before after place entry at is =
+    (λ i. slice_get ((is i).entries) (at i)) ∙ got_last before.entries entry
+
+-- what a train that asks is granted
+module _ (begun new : HistoryOnTrack) (train : ℕ) where
+  pub since_place : (answer : Result GrantedAtDesk (OrMemory AskFault)) → IsAnsweredThen begun new train answer
+      → IfOk answer (λ granted. slice_get new.entries granted.receipt.place ≡ Some granted.receipt.entry)
+  since_place (Ok granted) since = let a = since.answered in entered_place since.before new granted.receipt.place granted.receipt.entry a.2 since.told
+  since_place (Err fault) since = tt
+
+  pub since_entry : (answer : Result GrantedAtDesk (OrMemory AskFault)) → IsAnsweredThen begun new train answer → IfOk answer (λ granted. granted.receipt.entry ≡ Granted granted.candidate.grant)
+  since_entry (Ok granted) since = let a = since.answered in a.3
+  since_entry (Err fault) since = tt
+
+  pub since_train : (answer : Result GrantedAtDesk (OrMemory AskFault)) → IsAnsweredThen begun new train answer → IfOk answer (λ granted. granted.candidate.view.train ≡ train)
+  since_train (Ok granted) since =
+      let a = since.answered in
+      let h = since.before in
+      view-train h.track (scene_now h) train granted.candidate.view (viewed (view h.track (scene_now h) train) (length h.entries) granted.candidate.view a.1)
+  since_train (Err fault) since = tt
+
+  pub since_best : (answer : Result GrantedAtDesk (OrMemory AskFault)) → IsAnsweredThen begun new train answer → IfOk answer (λ granted. IsCandidateOf granted.candidate.view granted.candidate.grant)
+  since_best (Ok granted) since = let a = since.answered in a.4
+  since_best (Err fault) since = tt
+
+  pub since_chosen : (answer : Result GrantedAtDesk (OrMemory AskFault)) → IsAnsweredThen begun new train answer → IfOk answer (λ granted. HasChosenProfiles granted.candidate.view granted.candidate.grant)
+  since_chosen (Ok granted) since = let a = since.answered in a.5
+  since_chosen (Err fault) since = tt
+
+-- ---- what is told
+
+pub told_place : (begun after : HistoryOnTrack) (told : Told) (answer : Result Receipt (OrMemory ApplyFault)) → IsToldThen begun after told answer
+    → IfOk answer (λ receipt. slice_get after.entries receipt.place ≡ Some receipt.entry)
+told_place begun after told (Ok receipt) since = let e = since.entered in entered_place since.before after receipt.place receipt.entry e.1 e.2
+told_place begun after told (Err fault) since = tt
+
+-- ---- what a seat is told in a hold
+
+-- brought to what there was, and then to what there is
+pub later_twice : (a b c d e : HistoryOnTrack) → IsLater a b → c ≡ b → IsLater c d → e ≡ d → IsLater a e
+later_twice a b c d e ab cb cd ed = subst (IsLater a) (sym ed) (later_still a c d (subst (IsLater a) (sym cb) ab) cd)
+
+-- ---- the seats of a new desk
+
+pub map_replicate : {X Y : Type 0} (f : X → Y) (n : ℕ) (x : X) → map f (replicate n x) ≡ replicate n (f x)
+map_replicate f zero x = refl
+map_replicate f (suc n) x = ap (λ ys. f x ∷ ys) (map_replicate f n x)

@@ -8,7 +8,8 @@ use Rattle.std.proofs.lemmas.List.Folds.{list_any-append, list_any_none, list_an
 use Rattle.std.proofs.lemmas.List.Concat.{flat_map-append}
 use Rattle.std.proofs.lemmas.Bool.Decides.{nat_tests}
 use Rattle.rbc_model.specs.Histories.{Entry, Receipt, IsAtPlace, IsLegal, Matches}
-use Rattle.rbc_record.specs.Records.{HistoryOnTrack}
+use Rattle.rbc_snap.specs.Records.{HistoryOnTrack}
+use Rattle.rbc_desk.specs.Seats.{Seated}
 use Rattle.rbc_desk.specs.Closing.{all_receipts, AreAtPlaces, IsFirstMisplaced, AreMarked, Finds, FindsAll, GoesOn}
 
 module _ (entries : List Entry) (start : ℕ) where
@@ -120,33 +121,37 @@ module _ (entries : List Entry) (start : ℕ) (earlier rs : List Receipt) (i : �
       subst (λ xs. IsFirstMisplaced entries start earlier xs r) split
       (misplaced_behind entries start earlier (take i rs) (r ∷ drop (suc i) rs) r before (inl (refl, here)))
 
--- ---- the receipts of all seats, up to seat i, which has the receipts s
+-- the receipts of one seat more
+pub receipts_behind : (seats : List Seated) (seat : Seated) → all_receipts (seats ++ seat ∷ []) ≡ all_receipts seats ++ seat.receipts
+receipts_behind seats seat = flat_map-append (λ (s : Seated). s.receipts) seats (seat ∷ []) ∙ ap (λ x. all_receipts seats ++ x) (append-nil seat.receipts)
 
-module _ (entries : List Entry) (start : ℕ) (seats : List (List Receipt)) (i : ℕ) (s : List Receipt) (inside : i < length seats) (is : s ≡ get_or seats i s) where
-  receipts_more : all_receipts (take i seats) ++ s ≡ all_receipts (take (i + 1) seats)
+-- ---- the receipts of all seats, up to seat i, which is s
+
+module _ (entries : List Entry) (start : ℕ) (seats : List Seated) (i : ℕ) (s : Seated) (inside : i < length seats) (is : s ≡ get_or seats i s) where
+  receipts_more : all_receipts (take i seats) ++ s.receipts ≡ all_receipts (take (i + 1) seats)
   receipts_more =
-      ap (λ x. all_receipts (take i seats) ++ x) (sym (append-nil s)) ∙ sym (flat_map-append (λ receipts. receipts) (take i seats) (s ∷ []))
+      ap (λ x. all_receipts (take i seats) ++ x) (sym (append-nil s.receipts)) ∙ sym (flat_map-append (λ (seat : Seated). seat.receipts) (take i seats) (s ∷ []))
       ∙ ap (λ x. all_receipts (take i seats ++ x ∷ [])) is ∙ ap all_receipts (sym (take_more seats i s inside))
 
   -- with one more whose receipts are all at their places
-  pub seats_more : (marks : List Bool) → AreAtPlaces entries start [] (all_receipts (take i seats)) → FindsAll entries start (all_receipts (take i seats)) s marks None
+  pub seats_more : (marks : List Bool) → AreAtPlaces entries start [] (all_receipts (take i seats)) → FindsAll entries start (all_receipts (take i seats)) s.receipts marks None
       → AreAtPlaces entries start [] (all_receipts (take (i + 1) seats)) × AreMarked start (all_receipts (take (i + 1) seats)) marks
   seats_more marks before here =
       let P : List Receipt → Type 0 = λ xs. AreAtPlaces entries start [] xs × AreMarked start xs marks in
-      subst P receipts_more (AreAtPlaces-append entries start [] (all_receipts (take i seats)) s before here.0, here.1)
+      subst P receipts_more (AreAtPlaces-append entries start [] (all_receipts (take i seats)) s.receipts before here.0, here.1)
 
   -- with one that has the first receipt that is not at its place
-  pub seat_misplaced : (r : Receipt) → AreAtPlaces entries start [] (all_receipts (take i seats)) → IsFirstMisplaced entries start (all_receipts (take i seats)) s r
+  pub seat_misplaced : (r : Receipt) → AreAtPlaces entries start [] (all_receipts (take i seats)) → IsFirstMisplaced entries start (all_receipts (take i seats)) s.receipts r
       → IsFirstMisplaced entries start [] (all_receipts seats) r
   seat_misplaced r before here =
       let rest = all_receipts (drop (suc i) seats) in
-      let split : (all_receipts (take i seats) ++ s) ++ rest ≡ all_receipts seats =
-      append_assoc (all_receipts (take i seats)) s rest ∙ sym (flat_map-append (λ receipts. receipts) (take i seats) (s ∷ drop (suc i) seats))
+      let split : (all_receipts (take i seats) ++ s.receipts) ++ rest ≡ all_receipts seats =
+      append_assoc (all_receipts (take i seats)) s.receipts rest ∙ sym (flat_map-append (λ (seat : Seated). seat.receipts) (take i seats) (s ∷ drop (suc i) seats))
       ∙ ap (λ x. all_receipts (take i seats ++ x ∷ drop (suc i) seats)) is ∙ ap (λ xs. all_receipts (take i seats ++ xs)) (sym (drop-cons seats i s inside))
       ∙ ap all_receipts (take-append-drop i seats) in
       subst (λ xs. IsFirstMisplaced entries start [] xs r) split
-      (misplaced_before entries start [] (all_receipts (take i seats) ++ s) rest r
-      (misplaced_behind entries start [] (all_receipts (take i seats)) s r before here))
+      (misplaced_before entries start [] (all_receipts (take i seats) ++ s.receipts) rest r
+      (misplaced_behind entries start [] (all_receipts (take i seats)) s.receipts r before here))
 
 -- ---- all receipts
 
@@ -157,10 +162,9 @@ matches entries start begun receipts is places many =
 
 -- the history at the end goes on from that at the beginning
 pub goes_on : (history opened : HistoryOnTrack) (start : ℕ) (receipts : List Receipt) → history.track ≡ opened.track → take start history.entries ≡ opened.entries → start ≡ length opened.entries → IsLegal history.track history.entries
-    → length receipts + start ≡ length history.entries → GoesOn opened.track opened.entries receipts history.entries
+    → length receipts + start ≡ length history.entries → GoesOn opened receipts history
 goes_on history opened start receipts track base begun legal many =
     record {
-      legal = subst (λ t. IsLegal t history.entries) track legal;
-      opening = ap (λ n. take n history.entries) (sym begun) ∙ base;
+      later = record { track = track; legal = legal; opening = ap (λ n. take n history.entries) (sym begun) ∙ base };
       as_many = omega arith;
     }

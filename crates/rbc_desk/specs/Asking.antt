@@ -7,14 +7,17 @@ use Rattle.rbc_model.specs.declared.refusals.ViewFault.{ViewFault}
 use Rattle.rbc_model.specs.declared.refusals.ViewFault.TheVariants.{UnknownTrain as NoSuchTrain, Blocked as BlockedAt}
 use Rattle.rbc_model.specs.Views.{View, view}
 use Rattle.rbc_model.specs.Histories.{Granted, Receipt}
-use Rattle.rbc_record.specs.Candidates.{Candidate}
-use Rattle.rbc_record.specs.declared.faults.CommitFault.{CommitFault}
-use Rattle.rbc_record.specs.declared.faults.CommitFault.TheVariants.{Full as FullToGrants, Stale, Foreign}
-use Rattle.rbc_record.specs.Records.{HistoryOnTrack, scene_now, is_full, with_entry}
+use Rattle.rbc_grant_laws.specs.Candidates.{IsCandidateOf}
+use Rattle.rbc_snap.specs.Candidates.{Candidate, HasChosenProfiles}
+use Rattle.rbc_snap.specs.CommitFault.{CommitFault}
+use Rattle.rbc_snap.specs.CommitFault.TheVariants.{Full as FullToGrants, Stale}
+use Rattle.rbc_snap.specs.Records.{HistoryOnTrack, scene_now, is_full, with_entry}
 use Rattle.rbc_desk.specs.declared.faults.AskFault.{AskFault}
 use Rattle.rbc_desk.specs.declared.faults.AskFault.TheVariants.{UnknownTrain, Blocked, Full}
 use Rattle.rbc_desk.specs.declared.granted.Granted.{Granted as GrantedAtDesk}
-use Rattle.rbc_desk.specs.Desks.{IsOfDesk}
+use Rattle.rbc_snap.specs.Later.{IsLater}
+use Rattle.rbc_snap.specs.declared.faults.EyeFault.{EyeFault}
+use Rattle.rbc_snap.specs.declared.faults.EyeFault.TheVariants.{Behind, Unshown}
 
 -- why the train is shown no end, told with the version of the history
 abbrev pub fault_at : ℕ → ViewFault → AskFault
@@ -33,34 +36,45 @@ IsRefused history train (Refused UnknownTrain) = shown history train ≡ Err Unk
 IsRefused history train (Refused (Blocked obstacle at version)) = shown history train ≡ Err (Blocked obstacle at version)
 IsRefused history train Memory = Unit {0}
 
--- What a train that asks after this history is answered: it is granted what is best for what it is shown, as the next entry; or nothing.
+-- What a train that asks after this history is answered: it is granted what is best for what it is shown, with the profiles that the rules
+-- choose, as the next entry; or nothing.
 abbrev pub IsAnswered : HistoryOnTrack → ℕ → Result GrantedAtDesk (OrMemory AskFault) → Type 0
 IsAnswered history train (Ok granted) =
     (is_full history ≡ false) × (shown history train ≡ Ok granted.candidate.view)
     × (granted.receipt.place ≡ length history.entries) × (granted.receipt.entry ≡ Granted granted.candidate.grant)
+    × IsCandidateOf granted.candidate.view granted.candidate.grant × HasChosenProfiles granted.candidate.view granted.candidate.grant
 IsAnswered history train (Err fault) = IsRefused history train fault
 
--- the same, after some history that the desk had
-abbrev pub IsAnsweredAt : HistoryOnTrack → ℕ → Result GrantedAtDesk (OrMemory AskFault) → Type 0
-IsAnsweredAt opened train answer = (history : HistoryOnTrack) × IsOfDesk opened history × IsAnswered history train answer
+-- what there is once it is answered: the history, with the entry that was granted
+abbrev pub after_answer : HistoryOnTrack → Result GrantedAtDesk (OrMemory AskFault) → HistoryOnTrack
+after_answer history (Ok granted) = with_entry history granted.receipt.entry
+after_answer history (Err fault) = history
 
--- The candidate was made of what the history shows its train, at its version.
-pub record IsCurrent (history : HistoryOnTrack) (candidate : Candidate) : Type 0 where
-  pub version : candidate.version ≡ length history.entries
-  pub view : shown history candidate.view.train ≡ Ok candidate.view
+-- It is answered after some legal history that goes on from all that had been told. What is told then is that history, with what was granted.
+pub record IsAnsweredThen (begun after : HistoryOnTrack) (train : ℕ) (answer : Result GrantedAtDesk (OrMemory AskFault)) : Type 0 where
+  pub before : HistoryOnTrack
+  pub later : IsLater begun before
+  pub answered : IsAnswered before train answer
+  pub told : after ≡ after_answer before answer
 
--- what a try is answered: a receipt, or nothing where the candidate is not current
+-- what an eye shows, as a try; nothing where it is behind
+abbrev pub seen_by : Result (View × ℕ) (OrMemory EyeFault) → Result (Option (View × ℕ)) (OrMemory AskFault)
+seen_by (Ok seen) = Ok (Some seen)
+seen_by (Err (Refused (Behind version))) = Ok None
+seen_by (Err (Refused (Unshown fault version))) = Err (Refused (fault_at version fault))
+seen_by (Err Memory) = Err Memory
+
+-- what a try is answered: a receipt, or nothing where the history shows the train another view
 abbrev pub tried : Result Receipt (OrMemory CommitFault) → Result (Option Receipt) (OrMemory AskFault)
 tried (Ok receipt) = Ok (Some receipt)
 tried (Err (Refused FullToGrants)) = Err (Refused Full)
 tried (Err (Refused (Stale version))) = Ok None
-tried (Err (Refused Foreign)) = Ok None
 tried (Err Memory) = Err Memory
 
--- The try entered what the candidate would grant; or it entered nothing, since the candidate is not current; or it was refused.
+-- The try entered what the candidate would grant; or it entered nothing, since its train is shown another view; or it was refused.
 abbrev pub Tries : Result (Option Receipt) (OrMemory AskFault) → HistoryOnTrack → HistoryOnTrack → Candidate → Type 0
 Tries (Ok (Some receipt)) old new candidate =
     (receipt.entry ≡ Granted candidate.grant) × (receipt.place ≡ length old.entries) × (new ≡ with_entry old (Granted candidate.grant))
-    × IsCurrent old candidate × (is_full old ≡ false)
-Tries (Ok None) old new candidate = (IsCurrent old candidate → ⊥) × (new ≡ old)
+    × (shown old candidate.view.train ≡ Ok candidate.view) × (is_full old ≡ false)
+Tries (Ok None) old new candidate = (shown old candidate.view.train ≡ Ok candidate.view → ⊥) × (new ≡ old)
 Tries (Err fault) old new candidate = IsRefused old candidate.view.train fault × (new ≡ old)

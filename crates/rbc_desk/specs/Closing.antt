@@ -1,15 +1,16 @@
 -- Whether the receipts of all seats are the history.
-use Rattle.std.specs.Prelude.{◌≡◌, ℕ, ◌+◌, ◌<◌, ◌==◌, ◌⊎◌, Bool, true, false, List, [], ◌∷◌, ◌++◌, length, slice_index_or, Option, Some, None, take}
+use Rattle.std.specs.Prelude.{◌≡◌, ℕ, ◌+◌, ◌<◌, ◌==◌, ◌⊎◌, Bool, true, false, List, [], ◌∷◌, ◌++◌, length, slice_index_or, Option, Some, None}
 use Rattle.std.specs.List.{list_any, flat_map}
-use Rattle.rbc_model.specs.Tracks.{Track}
-use Rattle.rbc_model.specs.Histories.{Entry, Receipt, IsAtPlace, IsLegal}
-use Rattle.rbc_record.specs.Records.{HistoryOnTrack}
+use Rattle.rbc_model.specs.Histories.{Entry, Receipt, IsAtPlace}
+use Rattle.rbc_snap.specs.Records.{HistoryOnTrack}
+use Rattle.rbc_snap.specs.Later.{IsLater}
+use Rattle.rbc_desk.specs.Seats.{Seated}
 use Rattle.rbc_desk.specs.declared.faults.CloseFault.{CloseFault}
 use Rattle.rbc_desk.specs.declared.faults.CloseFault.TheVariants.{Missing, Unmatched}
 
 -- the receipts of all seats, seat by seat
-abbrev pub all_receipts : List (List Receipt) → List Receipt
-all_receipts seats = flat_map (λ receipts. receipts) seats
+abbrev pub all_receipts : List Seated → List Receipt
+all_receipts seats = flat_map (λ (seat : Seated). seat.receipts) seats
 
 -- each of the receipts is at its place, where these came before
 abbrev pub AreAtPlaces : List Entry → ℕ → List Receipt → List Receipt → Type 0
@@ -39,21 +40,19 @@ abbrev pub FindsAll : List Entry → ℕ → List Receipt → List Receipt → L
 FindsAll entries start earlier receipts marks None = AreAtPlaces entries start earlier receipts × AreMarked start (earlier ++ receipts) marks
 FindsAll entries start earlier receipts marks (Some misplaced) = IsFirstMisplaced entries start earlier receipts misplaced
 
--- A legal history on the track, which goes on from the one that the desk was opened with. It has as many entries more as
--- the seats have receipts.
-pub record GoesOn (track : Track) (opened : List Entry) (receipts : List Receipt) (entries : List Entry) : Type 0 where
-  pub legal : IsLegal track entries
-  pub opening : take (length opened) entries ≡ opened
-  pub as_many : length entries ≡ length opened + length receipts
+-- A legal history that goes on from the one that the desk was opened with. It has as many entries more as the seats have receipts.
+pub record GoesOn (opened : HistoryOnTrack) (receipts : List Receipt) (history : HistoryOnTrack) : Type 0 where
+  pub later : IsLater opened history
+  pub as_many : length history.entries ≡ length opened.entries + length receipts
 
 -- the fault tells the first receipt that is not at its place in this history, which goes on from the one that the desk was opened with
 abbrev pub IsUnmatchedIn : HistoryOnTrack → HistoryOnTrack → List Receipt → CloseFault → Type 0
 IsUnmatchedIn history opened receipts (Missing count) = ⊥
 IsUnmatchedIn history opened receipts (Unmatched receipt) =
-    GoesOn opened.track opened.entries receipts history.entries × IsFirstMisplaced history.entries (length opened.entries) [] receipts receipt
+    GoesOn opened receipts history × IsFirstMisplaced history.entries (length opened.entries) [] receipts receipt
 
 -- The fault tells how many seats are missing; or, where none is, the first receipt that is not at its place in some such history.
-abbrev pub IsUnmatched : HistoryOnTrack → ℕ → List (List Receipt) → CloseFault → Type 0
+abbrev pub IsUnmatched : HistoryOnTrack → ℕ → List Seated → CloseFault → Type 0
 IsUnmatched opened parts seats (Missing count) = (count + length seats ≡ parts) × (length seats < parts)
 IsUnmatched opened parts seats (Unmatched receipt) =
     (history : HistoryOnTrack) × IsUnmatchedIn history opened (all_receipts seats) (Unmatched receipt)

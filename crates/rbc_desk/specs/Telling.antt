@@ -4,13 +4,15 @@ use Rattle.rbc_model.specs.declared.memory.OrMemory.{OrMemory}
 use Rattle.rbc_model.specs.declared.memory.OrMemory.TheVariants.{Memory}
 use Rattle.rbc_model.specs.declared.reports.Told.{Told}
 use Rattle.rbc_model.specs.Histories.{Receipt}
-use Rattle.rbc_record.specs.declared.faults.ApplyFault.{ApplyFault}
-use Rattle.rbc_record.specs.Entering.{EntersOrMemory, entry_told}
-use Rattle.rbc_record.specs.Records.{HistoryOnTrack, is_full}
-use Rattle.rbc_desk.specs.Desks.{IsOfDesk}
+use Rattle.rbc_snap.specs.ApplyFault.{ApplyFault}
+use Rattle.rbc_snap.specs.Entering.{EntersOrMemory, entry_told}
+use Rattle.rbc_snap.specs.Records.{HistoryOnTrack, is_full}
+use Rattle.rbc_snap.specs.Later.{IsLater}
 
--- It is entered behind some history that the desk had, or refused after it as the definitions say, or memory is, where the history is not full.
-abbrev pub IsToldAt : HistoryOnTrack → Told → Result Receipt (OrMemory ApplyFault) → Type 0
-IsToldAt opened told answer =
-    (before : HistoryOnTrack) × (after : HistoryOnTrack) × IsOfDesk opened before × EntersOrMemory answer before after (entry_told before told)
-    × (answer ≡ Err Memory → is_full before ≡ false)
+-- It is entered behind some legal history that goes on from all that had been told, or refused after that history as the definitions say; or
+-- memory was refused, where that history is not full. What is told then is that history, with what was entered.
+pub record IsToldThen (begun after : HistoryOnTrack) (told : Told) (answer : Result Receipt (OrMemory ApplyFault)) : Type 0 where
+  pub before : HistoryOnTrack
+  pub later : IsLater begun before
+  pub entered : EntersOrMemory answer before after (entry_told before told)
+  pub room : answer ≡ Err Memory → is_full before ≡ false

@@ -1,12 +1,14 @@
 //! Whether the receipts of all seats are the history.
 
-ghost use Rattle.std.specs.Prelude.{◌≡◌, ◌↔◌, IsTrue, ◌+◌, ◌≤◌, ◌<◌, ◌++◌, ◌∷◌, [], List, length, vec_len};
+ghost use Rattle.std.specs.Prelude.{◌≡◌, ◌↔◌, IsTrue, ◌+◌, ◌≤◌, ◌<◌, [], All, List, length, vec_len};
 ghost use Rattle.rbc_model.specs.Histories.{Receipt};
-ghost use Rattle.rbc_record.specs.Entries.{entry_of};
+ghost use Rattle.rbc_snap.specs.Entries.{entry_of};
+ghost use Rattle.rbc_snap.specs.Later.{IsLater};
 ghost use Rattle.rbc_desk.specs.Closing.{all_receipts, AreMarked, FindsAll, Finds};
 
 use crate::{DeskName, Seat};
-use rbc_record::{Entry, Receipt, Record};
+use rbc_snap::{Entry, Press, Receipt, Record};
+use std::sync::Wait;
 use std::sync::ledger::Share;
 
 /// Whether both entries say the same.
@@ -75,17 +77,33 @@ pub(crate) fn find_seats<L: DeskName>(
     None
 }
 
-/// Puts the shares of all seats into one.
-pub(crate) fn merge_all<L: DeskName>(all: &mut Share<L>, seats: Vec<Seat<L>>)
+/// Puts the share of a seat to the others. What the press publishes goes on from all that the seat was told.
+fn take_in<L: DeskName, R: Wait>(rt: &R, press: &Press<L>, all: &mut Share<L>, seat: Seat<L>)
+    ensures parts { all.new.parts ≡ all.old.parts + 1 }
+    ensures amount { all.new.amount ≡ all.old.amount + length seat.receipts }
+    ensures told { IsLater seat.told press.now }
+{
+    let Seat { share, mut eye, .. } = seat;
+    press.bring(rt, &mut eye);
+    all.merge(share);
+}
+
+/// Puts the shares of all seats into one. What the press publishes goes on from all that each seat was told.
+pub(crate) fn merge_all<L: DeskName, R: Wait>(
+    rt: &R,
+    press: &Press<L>,
+    all: &mut Share<L>,
+    seats: Vec<Seat<L>>,
+)
     requires none { all.old.parts ≡ 0 }
     requires empty { all.old.amount ≡ 0 }
     ensures parts { all.new.parts ≡ length seats.items }
     ensures amount { all.new.amount ≡ length (all_receipts seats.items) }
     ensures most { all.new.parts ≤ L.parts }
+    ensures told { All (λ seat. IsLater seat.told press.now) seats.items }
 {
     for seat in seats {
-        let Seat { share, .. } = seat;
-        all.merge(share);
+        take_in(rt, press, all, seat);
     }
     // There are no more parts than the ledger has.
     let none = all.empty();

@@ -1,24 +1,27 @@
 //! The desk.
 
-ghost use Rattle.std.specs.Prelude.{◌≡◌, ◌≢◌, ◌+◌, ◌-◌, ◌≤◌, ◌<◌, ◌++◌, ◌∷◌, [], ℕ, List, length, take, vec_len};
-ghost use Rattle.std.specs.Prelude.{replicate, Ok, Err, IfOk, IfErr, IfSome, IfNone, OnErr};
+ghost use Rattle.std.specs.Prelude.{◌≡◌, ◌+◌, ◌-◌, ◌≤◌, ◌<◌, ◌++◌, ◌∷◌, [], length, take, vec_len};
+ghost use Rattle.std.specs.Prelude.{map, replicate, slice_get, All, Some, Ok, Err, IfOk, IfErr, IfSome, IfNone, OnErr};
 ghost use Rattle.rbc_grant_laws.specs.Candidates.{IsCandidateOf};
 ghost use Rattle.rbc_model.specs.Histories.{Granted as GrantedEntry, Heard, IsLegal, Matches};
-ghost use Rattle.rbc_record.specs.Steps.{IsOfTrack};
-ghost use Rattle.rbc_desk.specs.Asking.{IsAnsweredAt};
+ghost use Rattle.rbc_snap.specs.Candidates.{HasChosenProfiles};
+ghost use Rattle.rbc_snap.specs.Steps.{IsOfTrack};
+ghost use Rattle.rbc_snap.specs.Later.{IsLater};
+ghost use Rattle.rbc_desk.specs.Asking.{seen_by, IsAnsweredThen};
 ghost use Rattle.rbc_desk.specs.Closing.{all_receipts, IsUnmatched};
-ghost use Rattle.rbc_desk.specs.Telling.{IsToldAt};
-ghost use Rattle.rbc_desk.specs.Trains.{AreTrainsOf};
+ghost use Rattle.rbc_desk.specs.Seats.{seated};
+ghost use Rattle.rbc_desk.specs.Telling.{IsToldThen};
+ghost use Rattle.rbc_desk.specs.Trains.{numbers_of};
 ghost use Rattle.rbc_desk.specs.declared.faults.CloseFault.TheVariants.{Missing};
 
-use crate::shared::Shared;
-use crate::{AskFault, CloseFault, DeskName, Gate, Granted, Seat};
+use crate::shared::{Shared, fault_at};
+use crate::{AskFault, Blank, CloseFault, DeskName, Gate, Granted, Seat};
 use rbc_model::{Memory, OrMemory, Told};
-use rbc_record::{ApplyFault, Receipt, Record};
+use rbc_snap::{ApplyFault, Candidate, Eye, EyeFault, Press, Receipt, Record, View};
 use std::alloc::Global;
 use std::marker::PhantomData;
-use std::sync::ledger::{Blank, Ledger, Share};
-use std::sync::{Mutex, Wait};
+use std::sync::ledger::{Ledger, Share};
+use std::sync::{Mutex, MutexGuard, Wait};
 use std::thread::Threads;
 
 /// How often a train's candidate is computed outside the lock before it is computed under it.
@@ -32,56 +35,100 @@ struct SeatCount<L: Ledger> {
     ghost all: { seats ≡ L.parts },
 }
 
-/// One record that many workers share, each from a seat of its own.
-#[derive(Drop)]
+/// One record that many workers share, each from a seat of its own. It is no `Drop`: end it by [`Desk::close`] or by
+/// [`Desk::end`].
 pub struct Desk<L: DeskName> {
     shared: Mutex<Shared<L>>,
     count: SeatCount<L>,
 }
 
-/// So many seats, with one part of the ledger each.
+/// A seat for each eye, with one part of the ledger.
 fn seats_with<L: DeskName>(
     alloc: Global,
     all: &mut Share<L>,
-    count: usize,
+    eyes: Vec<Eye<L>>,
 ) -> Result<Vec<Seat<L>>, Memory>
-    requires parts { count ≤ all.old.parts }
+    requires parts { vec_len eyes ≡ all.old.parts }
     requires amount { all.old.amount ≡ 0 }
-    ensures seats { IfOk result (λ seats. seats.items ≡ replicate count []) }
-    ensures parts { IfOk result (λ seats. all.new.parts + count ≡ all.old.parts) }
+    requires told { All (λ eye. IsLater L.opened eye) eyes.items }
+    ensures seats { IfOk result (λ seats. seats.items ≡ map (λ eye. seated [] eye) eyes.items) }
+    ensures parts { IfOk result (λ seats. all.new.parts ≡ 0) }
     ensures amount { all.new.amount ≡ 0 }
 {
     let mut seats = Vec::new(alloc);
-    for _seat in 0..count {
-        seats.push(Seat::new(alloc, all.split_off(1, 0)))?;
+    for eye in eyes {
+        seats.push(Seat::new(alloc, all.split_off(1, 0), eye))?;
     }
     Ok(seats)
 }
 
+/// What an eye shows, as a try.
+fn seen_by(
+    answer: Result<(View, u64), OrMemory<EyeFault>>,
+) -> Result<Option<(View, u64)>, OrMemory<AskFault>>
+    ensures { result ≡ seen_by answer }
+{
+    match answer {
+        Ok(seen) => Ok(Some(seen)),
+        Err(OrMemory::Refused(EyeFault::Behind(_))) => Ok(None),
+        Err(OrMemory::Refused(EyeFault::Unshown(fault, version))) => {
+            Err(OrMemory::Refused(fault_at(version, fault)))
+        }
+        Err(OrMemory::Memory) => Err(OrMemory::Memory),
+    }
+}
+
+/// What the seat's eye shows the train, and the version. None where the eye is behind what the seat was told.
+fn look<L: DeskName, R: Wait>(
+    rt: &R,
+    alloc: Global,
+    seat: &mut Seat<L>,
+    train: u32,
+) -> Result<Option<(View, u64)>, OrMemory<AskFault>>
+    ensures later { IsLater seat.old.told seat.new.told }
+    ensures receipts { seat.new.receipts ≡ seat.old.receipts }
+    ensures train { IfOk result (λ seen. IfSome seen (λ shown. shown.0.train ≡ train)) }
+    ensures denied { IfErr result (λ fault. IsAnsweredThen seat.old.told seat.new.told train (Err fault)) }
+{
+    seen_by(seat.eye.view(rt, alloc, train))
+}
+
 impl<L: DeskName> Desk<L> {
-    /// A desk over the record, with so many seats. The blank is that of the desk's ledger, with a part for each seat.
+    /// A desk over the record, with so many seats. The blank is that of the desk's ledger, with a part for each seat, and
+    /// of its history. Each seat is told all that the record has.
     ///
     /// # Errors
     ///
-    /// [`Memory`], where the allocator refuses room for the seats.
-    pub fn new(
+    /// [`Memory`], where the allocator refuses room for the seats, for the scene that is published, or for its readers.
+    pub fn new<R: Wait>(
+        rt: &R,
         alloc: Global,
         log: Record,
         seats: usize,
         blank: Blank,
     ) -> Result<(Desk<L>, Vec<Seat<L>>), Memory>
-        requires name { blank.name ≡ L.name }
-        requires parts { blank.parts ≡ L.parts }
+        requires name { blank.ledger.name ≡ L.name }
+        requires parts { blank.ledger.parts ≡ L.parts }
+        requires book { blank.journal ≡ L.book }
         requires one_each { seats ≡ L.parts }
         requires some { (1 ≤ seats) × (seats ≤ 16) }
         requires opened { log ≡ L.opened }
-        ensures { IfOk result (λ made. made.1.items ≡ replicate seats []) }
+        ensures { IfOk result (λ made. made.1.items ≡ replicate seats (seated [] L.opened)) }
     {
-        let (entries, mut rest) = blank.open::<L>();
-        let made = seats_with(alloc, &mut rest, seats)?;
+        let Blank { ledger, journal } = blank;
+        let (entries, mut rest) = ledger.open::<L>();
         let start = log.version();
+        let (press, eyes) = Press::<L>::new(rt, alloc, journal, &log, seats)?;
+        let made = match seats_with(alloc, &mut rest, eyes) {
+            Ok(made) => made,
+            Err(fault) => {
+                press.end(rt);
+                return Err(fault);
+            }
+        };
         let shared = Shared {
             log,
+            press,
             start,
             found: Vec::new(alloc),
             entries,
@@ -98,11 +145,13 @@ impl<L: DeskName> Desk<L> {
         Ok((desk, made))
     }
 
-    /// Enters what a train or the interlocking tells, and gives the seat the receipt.
+    /// Enters what a train or the interlocking tells, and gives the seat the receipt. The seat is told all that there is
+    /// then.
     ///
     /// # Errors
     ///
-    /// Those of [`Record::apply`]; `Memory` may come in place of `Refused`. The seat has no new receipt.
+    /// Those of [`Record::apply`], for a legal history that goes on from all that the seat was told, and that it is told
+    /// then; `Memory` may come in place of `Refused`, but not of `Full`. The seat has no new receipt.
     pub fn event<R: Wait>(
         &self,
         rt: &R,
@@ -111,21 +160,29 @@ impl<L: DeskName> Desk<L> {
         told: Told,
     ) -> Result<Receipt, OrMemory<ApplyFault>>
         requires { IsOfTrack L.opened.track told }
-        ensures told { IsToldAt L.opened told result }
-        ensures receipt { IfOk result (λ receipt. seat.new ≡ seat.old ++ receipt ∷ []) }
+        ensures since { IsToldThen seat.old.told seat.new.told told result }
+        ensures later { IsLater seat.old.told seat.new.told }
+        ensures receipt { IfOk result (λ receipt. seat.new.receipts ≡ seat.old.receipts ++ receipt ∷ []) }
         ensures entry { IfOk result (λ receipt. receipt.entry ≡ Heard told) }
-        ensures refused { OnErr result (seat.new ≡ seat.old) }
+        ensures place { IfOk result (λ receipt. slice_get seat.new.told.entries receipt.place ≡ Some receipt.entry) }
+        ensures refused { OnErr result (seat.new.receipts ≡ seat.old.receipts) }
     {
-        self.shared.lock(rt).event(alloc, seat, &told)
+        let mut shared = self.shared.lock(rt);
+        let answer = (*shared).event(rt, alloc, seat, &told);
+        // A guard that is dropped would need that the press may be.
+        MutexGuard::unlock(shared);
+        answer
     }
 
-    /// Grants a train that asks the authority that is best for what it is shown, and gives the seat the receipt. The
-    /// gate computes it without the lock; where the history has grown meanwhile, it is computed again, and the fourth
-    /// time under the lock.
+    /// Grants a train that asks the authority that is best for what it is shown, and gives the seat the receipt. It is
+    /// shown by the seat's eye, and the gate computes, both without the lock. Where the train is shown another view
+    /// meanwhile, it is done again, and the fourth time under the lock; so is it where the eye is behind. The seat is told
+    /// all that the answer speaks of.
     ///
     /// # Errors
     ///
-    /// `Refused` with the first of these:
+    /// `Refused` with the first of these, for a legal history that goes on from all that the seat was told, and that it
+    /// is told then:
     /// - `UnknownTrain`: there is no train of this number,
     /// - `Blocked` with what stands at the reach, the reach in metres from the train's group, and the version of the
     ///   history, where no safe end can be given by a message,
@@ -141,12 +198,16 @@ impl<L: DeskName> Desk<L> {
         train: u32,
         gate: &G,
     ) -> Result<Granted, OrMemory<AskFault>>
-        ensures answered { IsAnsweredAt L.opened train result }
-        ensures receipt { IfOk result (λ granted. seat.new ≡ seat.old ++ granted.receipt ∷ []) }
+        ensures since { IsAnsweredThen seat.old.told seat.new.told train result }
+        ensures later { IsLater seat.old.told seat.new.told }
+        ensures receipt { IfOk result (λ granted. seat.new.receipts ≡ seat.old.receipts ++ granted.receipt ∷ []) }
         ensures entry { IfOk result (λ granted. granted.receipt.entry ≡ GrantedEntry granted.candidate.grant) }
+        ensures place { IfOk result (λ granted.
+            slice_get seat.new.told.entries granted.receipt.place ≡ Some granted.receipt.entry) }
         ensures train { IfOk result (λ granted. granted.candidate.view.train ≡ train) }
         ensures best { IfOk result (λ granted. IsCandidateOf granted.candidate.view granted.candidate.grant) }
-        ensures refused { OnErr result (seat.new ≡ seat.old) }
+        ensures chosen { IfOk result (λ granted. HasChosenProfiles granted.candidate.view granted.candidate.grant) }
+        ensures refused { OnErr result (seat.new.receipts ≡ seat.old.receipts) }
     {
         self.ask_by(rt, rt, alloc, seat, train, gate)
     }
@@ -165,34 +226,45 @@ impl<L: DeskName> Desk<L> {
         train: u32,
         gate: &G,
     ) -> Result<Granted, OrMemory<AskFault>>
-        ensures answered { IsAnsweredAt L.opened train result }
-        ensures receipt { IfOk result (λ granted. seat.new ≡ seat.old ++ granted.receipt ∷ []) }
+        ensures since { IsAnsweredThen seat.old.told seat.new.told train result }
+        ensures later { IsLater seat.old.told seat.new.told }
+        ensures receipt { IfOk result (λ granted. seat.new.receipts ≡ seat.old.receipts ++ granted.receipt ∷ []) }
         ensures entry { IfOk result (λ granted. granted.receipt.entry ≡ GrantedEntry granted.candidate.grant) }
+        ensures place { IfOk result (λ granted.
+            slice_get seat.new.told.entries granted.receipt.place ≡ Some granted.receipt.entry) }
         ensures train { IfOk result (λ granted. granted.candidate.view.train ≡ train) }
         ensures best { IfOk result (λ granted. IsCandidateOf granted.candidate.view granted.candidate.grant) }
-        ensures refused { OnErr result (seat.new ≡ seat.old) }
+        ensures chosen { IfOk result (λ granted. HasChosenProfiles granted.candidate.view granted.candidate.grant) }
+        ensures refused { OnErr result (seat.new.receipts ≡ seat.old.receipts) }
     {
-        for _try in 0..TRIES {
-            if let Some(granted) = self.try_to_grant(rt, waiting, alloc, seat, train, gate)? {
-                return Ok(granted);
-            }
+        self.grant_or_refuse(rt, waiting, alloc, seat, train, gate)
+    }
+
+    /// The tries, one after the other.
+    fn grant_or_refuse<T: Threads + Sync, R: Wait, G: Gate>(
+        &self,
+        rt: &T,
+        waiting: &R,
+        alloc: Global,
+        seat: &mut Seat<L>,
+        train: u32,
+        gate: &G,
+    ) -> Result<Granted, OrMemory<AskFault>>
+        ensures since { IsAnsweredThen seat.old.told seat.new.told train result }
+        ensures later { IsLater seat.old.told seat.new.told }
+        ensures receipt { IfOk result (λ granted. seat.new.receipts ≡ seat.old.receipts ++ granted.receipt ∷ []) }
+        ensures refused { OnErr result (seat.new.receipts ≡ seat.old.receipts) }
+    {
+        match self.try_outside(rt, waiting, alloc, seat, train, gate) {
+            Ok(Some(granted)) => Ok(granted),
+            Ok(None) => self.grant(rt, waiting, alloc, seat, train),
+            Err(fault) => Err(fault),
         }
-        self.shared.lock(waiting).grant(rt, alloc, seat, train)
     }
 
-    /// The numbers of all trains that have reported and not left, in order of arrival. Nothing changes.
-    ///
-    /// # Errors
-    ///
-    /// [`Memory`], where the allocator refuses room for them.
-    pub fn trains<R: Wait>(&self, rt: &R, alloc: Global) -> Result<Vec<u32>, Memory>
-        ensures { IfOk result (λ numbers. AreTrainsOf L.opened numbers.items) }
-    {
-        self.shared.lock(rt).trains(alloc)
-    }
-
-    /// One try outside the lock. None where the history has grown meanwhile.
-    fn try_to_grant<T: Threads + Sync, R: Wait, G: Gate>(
+    /// The tries outside the lock. None where each was overtaken, or where the seat's eye is behind.
+    #[tactic(auto, using(rbc_snap::proofs::LaterLemmas::later_still, crate::proofs::AskingLemmas::since_before))]
+    fn try_outside<T: Threads + Sync, R: Wait, G: Gate>(
         &self,
         rt: &T,
         waiting: &R,
@@ -201,21 +273,94 @@ impl<L: DeskName> Desk<L> {
         train: u32,
         gate: &G,
     ) -> Result<Option<Granted>, OrMemory<AskFault>>
+        ensures later { IsLater seat.old.told seat.new.told }
         ensures receipt { IfOk result (λ tried. IfSome tried (λ granted.
-            seat.new ≡ seat.old ++ granted.receipt ∷ [])) }
-        ensures entry { IfOk result (λ tried. IfSome tried (λ granted.
-            granted.receipt.entry ≡ GrantedEntry granted.candidate.grant)) }
-        ensures train { IfOk result (λ tried. IfSome tried (λ granted. granted.candidate.view.train ≡ train)) }
-        ensures best { IfOk result (λ tried. IfSome tried (λ granted.
-            IsCandidateOf granted.candidate.view granted.candidate.grant)) }
-        ensures stale { IfOk result (λ tried. IfNone tried (seat.new ≡ seat.old)) }
-        ensures refused { OnErr result (seat.new ≡ seat.old) }
-        ensures answered { IfOk result (λ tried. IfSome tried (λ granted. IsAnsweredAt L.opened train (Ok granted))) }
-        ensures denied { IfErr result (λ fault. IsAnsweredAt L.opened train (Err fault)) }
+            seat.new.receipts ≡ seat.old.receipts ++ granted.receipt ∷ [])) }
+        ensures stale { IfOk result (λ tried. IfNone tried (seat.new.receipts ≡ seat.old.receipts)) }
+        ensures refused { OnErr result (seat.new.receipts ≡ seat.old.receipts) }
+        ensures answered { IfOk result (λ tried. IfSome tried (λ granted.
+            IsAnsweredThen seat.old.told seat.new.told train (Ok granted))) }
+        ensures denied { IfErr result (λ fault. IsAnsweredThen seat.old.told seat.new.told train (Err fault)) }
     {
-        let (view, version) = self.shared.lock(waiting).look(alloc, train)?;
-        let candidate = gate.pass(rt, alloc, view, version)?;
-        self.shared.lock(waiting).commit(alloc, seat, candidate)
+        let _version = seat.version();
+        for _try in 0..TRIES {
+            let Some((view, version)) = look(waiting, alloc, seat, train)? else {
+                return Ok(None);
+            };
+            let candidate = gate.pass(rt, alloc, view, version)?;
+            match self.commit(waiting, alloc, seat, candidate) {
+                Ok(Some(granted)) => return Ok(Some(granted)),
+                Ok(None) => {}
+                Err(fault) => return Err(fault),
+            }
+        }
+        Ok(None)
+    }
+
+    /// Enters what the candidate would grant, if its train is still shown its view.
+    fn commit<R: Wait>(
+        &self,
+        rt: &R,
+        alloc: Global,
+        seat: &mut Seat<L>,
+        candidate: Candidate,
+    ) -> Result<Option<Granted>, OrMemory<AskFault>>
+        ensures receipt { IfOk result (λ tried. IfSome tried (λ granted.
+            seat.new.receipts ≡ seat.old.receipts ++ granted.receipt ∷ [])) }
+        ensures stale { IfOk result (λ tried. IfNone tried (seat.new.receipts ≡ seat.old.receipts)) }
+        ensures refused { OnErr result (seat.new.receipts ≡ seat.old.receipts) }
+        ensures later { IsLater seat.old.told seat.new.told }
+        ensures answered { IfOk result (λ tried. IfSome tried (λ granted.
+            IsAnsweredThen seat.old.told seat.new.told candidate.view.train (Ok granted))) }
+        ensures denied { IfErr result (λ fault.
+            IsAnsweredThen seat.old.told seat.new.told candidate.view.train (Err fault)) }
+    {
+        let mut shared = self.shared.lock(rt);
+        let answer = (*shared).commit(rt, alloc, seat, candidate);
+        MutexGuard::unlock(shared);
+        answer
+    }
+
+    /// The fourth try, in one hold of the lock.
+    fn grant<T: Threads + Sync, R: Wait>(
+        &self,
+        rt: &T,
+        waiting: &R,
+        alloc: Global,
+        seat: &mut Seat<L>,
+        train: u32,
+    ) -> Result<Granted, OrMemory<AskFault>>
+        ensures receipt { IfOk result (λ granted. seat.new.receipts ≡ seat.old.receipts ++ granted.receipt ∷ []) }
+        ensures refused { OnErr result (seat.new.receipts ≡ seat.old.receipts) }
+        ensures later { IsLater seat.old.told seat.new.told }
+        ensures answered { IsAnsweredThen seat.old.told seat.new.told train result }
+    {
+        let mut shared = self.shared.lock(waiting);
+        let answer = (*shared).grant(rt, waiting, alloc, seat, train);
+        MutexGuard::unlock(shared);
+        answer
+    }
+
+    /// The numbers of all trains that have reported and not left, in order of arrival. The seat is told the history that
+    /// they are of.
+    ///
+    /// # Errors
+    ///
+    /// [`Memory`], where the allocator refuses room for them.
+    pub fn trains<R: Wait>(
+        &self,
+        rt: &R,
+        alloc: Global,
+        seat: &mut Seat<L>,
+    ) -> Result<Vec<u32>, Memory>
+        ensures trains { IfOk result (λ numbers. numbers.items ≡ numbers_of seat.new.told) }
+        ensures later { IsLater seat.old.told seat.new.told }
+        ensures receipts { seat.new.receipts ≡ seat.old.receipts }
+    {
+        let shared = self.shared.lock(rt);
+        let answer = (*shared).trains(rt, alloc, seat);
+        MutexGuard::unlock(shared);
+        answer
     }
 
     /// Ends the desk, and gives the record back if the receipts of all seats are exactly its entries since the desk
@@ -226,20 +371,29 @@ impl<L: DeskName> Desk<L> {
     /// The first of these; record and seats are gone then:
     /// - `Missing` with the number of seats that are not handed in,
     /// - `Unmatched` with the first receipt, seat by seat, that is not at its place.
-    pub fn close(self, seats: Vec<Seat<L>>) -> Result<Record, CloseFault>
+    pub fn close<R: Wait>(self, rt: &R, seats: Vec<Seat<L>>) -> Result<Record, CloseFault>
         ensures matches { IfOk result (λ log.
             Matches (all_receipts seats.items) log.entries (length L.opened.entries)) }
         ensures grown { IfOk result (λ log. take (length L.opened.entries) log.entries ≡ L.opened.entries) }
         ensures track { IfOk result (λ log. log.track ≡ L.opened.track) }
         ensures legal { IfOk result (λ log. IsLegal log.track log.entries) }
+        ensures told { IfOk result (λ log. All (λ seat. IsLater seat.told log) seats.items) }
         ensures missing { vec_len seats < L.parts → result ≡ Err (Missing (L.parts - vec_len seats)) }
         ensures unmatched { IfErr result (IsUnmatched L.opened L.parts seats.items) }
     {
         let Desk { shared, count } = self;
         let SeatCount { seats: parts, .. } = count;
+        let shared = shared.into_inner();
         if seats.len() < parts {
+            shared.end(rt);
             return Err(CloseFault::Missing(parts - seats.len()));
         }
-        shared.into_inner().close(seats)
+        shared.close(rt, seats)
+    }
+
+    /// Ends a desk that its caller can't close. The record is gone then, and so is what the seats' receipts stand for.
+    pub fn end<R: Wait>(self, rt: &R) {
+        let Desk { shared, count: _ } = self;
+        shared.into_inner().end(rt);
     }
 }

@@ -1,7 +1,7 @@
 //! Why a desk refuses.
 
-use rbc_model::{Obstacle, Refusal};
-use rbc_record::Receipt;
+use rbc_model::Obstacle;
+use rbc_snap::Receipt;
 use std::fmt;
 use thiserror::Error;
 

@@ -4,7 +4,7 @@ ghost use Rattle.std.specs.Prelude.{◌≡◌, IfOk};
 ghost use Rattle.std.specs.Thread.{IsSync};
 
 use rbc_model::Memory;
-use rbc_record::{Candidate, View, candidate};
+use rbc_snap::{Candidate, View, candidate};
 use std::alloc::Global;
 use std::thread::Threads;
 

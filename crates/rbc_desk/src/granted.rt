@@ -1,6 +1,6 @@
 //! What a train that asks is answered.
 
-use rbc_record::{Candidate, Receipt};
+use rbc_snap::{Candidate, Receipt};
 
 /// What was granted to a train that asked: the receipt for the entry, and the candidate that was entered, with its
 /// message.

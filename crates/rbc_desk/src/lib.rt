@@ -1,7 +1,9 @@
 //! The desk: one record that many workers share. Each worker has a seat with the receipts of what it entered, and when
-//! the desk is closed the receipts of all seats are exactly the history.
+//! the desk is closed the receipts of all seats are exactly the history. What a seat is answered goes on from all that
+//! it was told before.
 #![tactic(auto)]
 
+mod blank;
 mod closing;
 mod desk;
 mod faults;
@@ -11,13 +13,15 @@ mod name;
 mod seat;
 mod shared;
 
+pub use blank::Blank;
 pub use desk::Desk;
 pub use faults::{AskFault, CloseFault};
 pub use gate::{Gate, OpenGate};
 pub use granted::Granted;
 pub use name::DeskName;
 pub use rbc_model::{Memory, OrMemory, Told};
-pub use rbc_record::{
-    ApplyFault, Candidate, CommitFault, Entry, Receipt, Record, Scene, Train, View, candidate,
+pub use rbc_snap::{
+    ApplyFault, Candidate, CommitFault, Entry, HistoryName, Receipt, Record, Scene, Train, View,
+    candidate,
 };
 pub use seat::Seat;

@@ -1,48 +1,64 @@
 //! A worker's seat.
 
 ghost use Rattle.std.specs.Prelude.{◌≡◌, [], length};
+ghost use Rattle.rbc_snap.specs.Later.{IsLater};
+ghost use Rattle.rbc_desk.specs.Seats.{seated};
 
 use crate::DeskName;
-use rbc_record::Receipt;
+use rbc_snap::{Eye, Receipt};
 use std::alloc::Global;
 use std::marker::Model;
 use std::sync::ledger::Share;
 
-/// A worker's seat at a desk: the receipts of what was entered from it, in order. Contracts see it as these.
+/// A worker's seat at a desk. Contracts see it as the receipts of what was entered from it, in order, and what it was
+/// told of the history: all that its answers speak of.
 #[derive(Drop)]
 pub struct Seat<L: DeskName> {
     pub(crate) receipts: Vec<Receipt>,
     pub(crate) share: Share<L>,
+    pub(crate) eye: Eye<L>,
 }
 
 impl<L: DeskName> Model for Seat<L> {
-    ghost use Rattle.std.specs.Prelude.{◌≡◌, List, length};
-    ghost use Rattle.rbc_model.specs.Histories.{Receipt};
+    ghost use Rattle.std.specs.Prelude.{◌≡◌, length};
+    ghost use Rattle.rbc_snap.specs.Later.{IsLater};
+    ghost use Rattle.rbc_desk.specs.Seats.{Seated, seated};
 
-    ghost Value = { List Receipt };
+    ghost Value = { Seated };
 
-    ghost view = { λ s. s.receipts.items };
+    ghost view = { λ s. seated s.receipts.items s.eye };
 
-    ghost invariant = { λ s. (s.share.parts ≡ 1) × (s.share.amount ≡ length s.receipts.items) };
+    ghost invariant = { λ s. (s.share.parts ≡ 1) × (s.share.amount ≡ length s.receipts.items) × IsLater L.opened s.eye };
 }
 
 impl<L: DeskName> Seat<L> {
-    /// The seat with one part of the ledger, from which nothing was entered yet.
-    pub(crate) fn new(alloc: Global, share: Share<L>) -> Seat<L>
+    /// The seat with one part of the ledger, from which nothing was entered yet, and with an eye.
+    pub(crate) fn new(alloc: Global, share: Share<L>, eye: Eye<L>) -> Seat<L>
         requires part { share.parts ≡ 1 }
         requires amount { share.amount ≡ 0 }
-        ensures { result ≡ [] }
+        requires told { IsLater L.opened eye }
+        ensures { result ≡ seated [] eye }
     {
         Seat {
             receipts: Vec::new(alloc),
             share,
+            eye,
         }
     }
 
     /// The receipts of what was entered from this seat, in order.
     pub fn receipts(&self) -> &[Receipt]
-        ensures { result.now ≡ self.now }
+        ensures { result.now ≡ self.now.receipts }
     {
         self.receipts.as_slice()
+    }
+
+    /// How many entries the seat was told of. They are a legal history, which goes on from the one that the desk was opened
+    /// with.
+    pub fn version(&self) -> u64
+        ensures count { result ≡ length self.now.told.entries }
+        ensures later { IsLater L.opened self.now.told }
+    {
+        self.eye.version()
     }
 }

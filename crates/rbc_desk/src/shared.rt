@@ -1,35 +1,38 @@
 //! What lies under the desk's lock.
 
-ghost use Rattle.std.specs.Prelude.{◌≡◌, ◌≢◌, ◌+◌, ◌≤◌, ◌<◌, ◌++◌, ◌∷◌, [], length, take, vec_len, false, true};
-ghost use Rattle.std.specs.Prelude.{Ok, Err, IfOk, IfErr, IfSome, IfNone, OnErr};
+ghost use Rattle.std.specs.Prelude.{◌≡◌, ◌≢◌, ◌+◌, ◌≤◌, ◌<◌, ◌++◌, ◌∷◌, [], length, take, vec_len, false};
+ghost use Rattle.std.specs.Prelude.{All, None, Ok, Err, IfOk, IfErr, IfSome, IfNone, OnErr};
 ghost use Rattle.std.specs.List.{list_any};
 ghost use Rattle.rbc_model.specs.Answers.{AnswersAs};
-ghost use Rattle.rbc_model.specs.Histories.{Granted as GrantedEntry, IsLegal, Matches};
+ghost use Rattle.rbc_model.specs.Histories.{IsLegal, Matches};
 ghost use Rattle.rbc_grant_laws.specs.Candidates.{IsCandidateOf};
-ghost use Rattle.rbc_record.specs.Entering.{EntersOrMemory, entry_granted, entry_told};
-ghost use Rattle.rbc_record.specs.Records.{is_full, with_entry};
-ghost use Rattle.rbc_record.specs.Steps.{IsOfTrack};
+ghost use Rattle.rbc_snap.specs.Candidates.{HasChosenProfiles};
+ghost use Rattle.rbc_snap.specs.Entering.{EntersOrMemory, entry_granted};
+ghost use Rattle.rbc_snap.specs.Records.{is_full};
+ghost use Rattle.rbc_snap.specs.Steps.{IsOfTrack};
 ghost use Rattle.rbc_desk.specs.Closing.{all_receipts, IsUnmatchedIn};
-ghost use Rattle.rbc_desk.specs.Trains.{AreTrainsOf, numbers_of};
-ghost use Rattle.rbc_desk.specs.Asking.{fault_at, shown, tried, IsRefused, IsAnsweredAt, Tries};
-ghost use Rattle.rbc_desk.specs.Desks.{IsOfDesk};
-ghost use Rattle.rbc_desk.specs.Telling.{IsToldAt};
-ghost use Rattle.rbc_model.specs.declared.memory.OrMemory.TheVariants.{Memory as NoMemory};
+ghost use Rattle.rbc_desk.specs.Trains.{numbers_of};
+ghost use Rattle.rbc_snap.specs.Later.{IsLater};
+ghost use Rattle.rbc_desk.specs.Asking.{fault_at, shown, tried, IsRefused, IsAnsweredThen, Tries};
+ghost use Rattle.rbc_desk.specs.Telling.{IsToldThen};
 
 use crate::closing::{find_seats, merge_all};
 use crate::{AskFault, CloseFault, DeskName, Granted, Seat};
+use rbc_model::limits::MOST_ENTRIES;
 use rbc_model::{Memory, OrMemory, Told, ViewFault};
-use rbc_record::limits::MOST_ENTRIES;
-use rbc_record::{ApplyFault, Candidate, CommitFault, Receipt, Record, View, candidate};
+use rbc_snap::{ApplyFault, Candidate, CommitFault, Eye, Press, Receipt, Record, View, candidate};
 use std::alloc::Global;
+use std::sync::Wait;
 use std::sync::ledger::{Book, Share};
 use std::thread::Threads;
 
-/// What lies under the lock: the record, and the book that counts its entries from the desk's start on.
-#[derive(Drop)]
+/// What lies under the lock: the record, the press that publishes it, and the book that counts its entries from the desk's
+/// start on. It is no `Drop`, since the press is none.
 pub(crate) struct Shared<L: DeskName> {
     /// The record.
     pub(crate) log: Record,
+    /// The press, which publishes each entry in the hold that entered it.
+    pub(crate) press: Press<L>,
     /// How many entries the record had when the desk was made.
     pub(crate) start: u64,
     /// For each entry from the start on, whether a receipt for it was found. All this is for closing.
@@ -38,6 +41,7 @@ pub(crate) struct Shared<L: DeskName> {
     pub(crate) entries: Book<L>,
     /// A share with no part, into which the seats' shares are put when the desk is closed.
     pub(crate) rest: Share<L>,
+    pub(crate) ghost published: { press ≡ log },
     pub(crate) ghost track: { log.track ≡ L.opened.track },
     pub(crate) ghost base: { take start log.entries ≡ L.opened.entries },
     pub(crate) ghost starts: { start ≡ length L.opened.entries },
@@ -48,13 +52,6 @@ pub(crate) struct Shared<L: DeskName> {
     pub(crate) ghost no_amount: { rest.amount ≡ 0 },
 }
 
-/// How many entries the record has.
-fn version_of(log: &Record) -> u64
-    ensures { result ≡ length log.now.entries }
-{
-    log.version()
-}
-
 /// Whether the record takes no more entries.
 fn is_full(log: &Record) -> bool
     ensures { result ≡ is_full log.now }
@@ -62,9 +59,10 @@ fn is_full(log: &Record) -> bool
     log.version() >= MOST_ENTRIES as u64
 }
 
-/// Each candidate is best for its view.
+/// Each candidate is best for its view, with the profiles that the rules choose.
 fn is_best(candidate: &Candidate)
-    ensures { IsCandidateOf candidate.now.view candidate.now.grant }
+    ensures best { IsCandidateOf candidate.now.view candidate.now.grant }
+    ensures chosen { HasChosenProfiles candidate.now.view candidate.now.grant }
 {
     let _view = candidate.view();
 }
@@ -89,12 +87,12 @@ fn tried(
     match answer {
         Ok(receipt) => Ok(Some(receipt)),
         Err(OrMemory::Refused(CommitFault::Full)) => Err(OrMemory::Refused(AskFault::Full)),
-        Err(OrMemory::Refused(CommitFault::Stale(_) | CommitFault::Foreign)) => Ok(None),
+        Err(OrMemory::Refused(CommitFault::Stale(_))) => Ok(None),
         Err(OrMemory::Memory) => Err(OrMemory::Memory),
     }
 }
 
-/// Enters what the candidate would grant, if it is current.
+/// Enters what the candidate would grant, if its train is still shown its view.
 fn enter(
     log: &mut Record,
     alloc: Global,
@@ -106,7 +104,7 @@ fn enter(
 }
 
 /// Why the train is shown no end, told with the version of the history.
-fn fault_at(version: u64, fault: ViewFault) -> AskFault
+pub(crate) fn fault_at(version: u64, fault: ViewFault) -> AskFault
     ensures { result ≡ fault_at version fault }
 {
     match fault {
@@ -127,41 +125,77 @@ fn trains_of(alloc: Global, log: &Record) -> Result<Vec<u32>, Memory>
     Ok(numbers)
 }
 
+/// Publishes the record, which goes on from what was published, and tells the eye all of it.
+fn publish<L: DeskName, R: Wait>(
+    rt: &R,
+    alloc: Global,
+    log: &Record,
+    press: &mut Press<L>,
+    eye: &mut Eye<L>,
+)
+    requires track { log.now.track ≡ press.old.track }
+    requires opening { take (length press.old.entries) log.now.entries ≡ press.old.entries }
+    ensures press { press.new ≡ log.now }
+    ensures told { eye.new ≡ log.now }
+    ensures later { IsLater eye.old log.now }
+{
+    press.publish(rt, alloc, log);
+    press.bring(rt, eye);
+}
+
 impl<L: DeskName> Shared<L> {
-    /// What lies under the lock is a history of the desk.
-    fn is_of_desk(&self)
-        ensures { IsOfDesk L.opened self.now.log }
+    /// What lies under the lock is a legal history, which goes on from the one that the desk was opened with.
+    fn goes_on(&self)
+        ensures { IsLater L.opened self.now.log }
     {
         let _version = self.log.version();
     }
 
-    /// Enters what is told, and gives the seat the receipt.
-    pub(crate) fn event(
+    /// Tells the seat all that the record has.
+    fn bring<R: Wait>(&self, rt: &R, seat: &mut Seat<L>)
+        ensures told { seat.new.told ≡ self.now.log }
+        ensures later { IsLater seat.old.told self.now.log }
+        ensures receipts { seat.new.receipts ≡ seat.old.receipts }
+    {
+        self.goes_on();
+        self.press.bring(rt, &mut seat.eye);
+    }
+
+    /// Enters what is told, and gives the seat the receipt. The seat is told all that the record then has.
+    pub(crate) fn event<R: Wait>(
         &mut self,
+        rt: &R,
         alloc: Global,
         seat: &mut Seat<L>,
         told: &Told,
     ) -> Result<Receipt, OrMemory<ApplyFault>>
         requires { IsOfTrack L.opened.track told.now }
-        ensures entered { EntersOrMemory result self.old.log self.new.log (entry_told self.old.log told.now) }
-        ensures told { IsToldAt L.opened told.now result }
-        ensures receipt { IfOk result (λ receipt. seat.new ≡ seat.old ++ receipt ∷ []) }
-        ensures refused { OnErr result (seat.new ≡ seat.old) }
+        ensures told { IsToldThen seat.old.told seat.new.told told.now result }
+        ensures later { IsLater seat.old.told seat.new.told }
+        ensures receipt { IfOk result (λ receipt. seat.new.receipts ≡ seat.old.receipts ++ receipt ∷ []) }
+        ensures refused { OnErr result (seat.new.receipts ≡ seat.old.receipts) }
     {
-        self.is_of_desk();
+        self.goes_on();
         let Shared {
             log,
+            press,
             found,
             entries,
             ..
         } = self;
-        let Seat { receipts, share } = seat;
+        let Seat {
+            receipts,
+            share,
+            eye,
+        } = seat;
+        press.bring(rt, eye);
         if is_full(log) {
             return Err(OrMemory::Refused(ApplyFault::Full));
         }
         found.reserve(1)?;
         receipts.reserve(1)?;
         let receipt = log.apply(alloc, told)?;
+        publish(rt, alloc, log, press, eye);
         found.push_reserved(false);
         receipts.push_reserved(receipt.copy());
         entries.add(share, 1);
@@ -169,14 +203,11 @@ impl<L: DeskName> Shared<L> {
     }
 
     /// What the train is shown, and the version of the history.
-    pub(crate) fn look(&self, alloc: Global, train: u32) -> Result<(View, u64), OrMemory<AskFault>>
+    fn look(&self, alloc: Global, train: u32) -> Result<(View, u64), OrMemory<AskFault>>
         ensures shown { AnswersAs (λ seen. seen.0) result (shown self.now.log train) }
         ensures train { IfOk result (λ seen. seen.0.train ≡ train) }
-        ensures version { IfOk result (λ seen. seen.1 ≡ length self.now.log.entries) }
-        ensures refused { IfErr result (λ fault. IsAnsweredAt L.opened train (Err fault)) }
-        ensures memory { IsAnsweredAt L.opened train (Err NoMemory) }
+        ensures refused { IfErr result (IsRefused self.now.log train) }
     {
-        self.is_of_desk();
         let version = self.log.version();
         match self.log.view(alloc, train) {
             Ok(view) => Ok((view, version)),
@@ -185,71 +216,73 @@ impl<L: DeskName> Shared<L> {
         }
     }
 
-    /// Enters what the candidate would grant, and gives the seat the receipt. None where the record has another
-    /// version than the candidate, or shows its train another view.
-    pub(crate) fn commit(
+    /// Enters what the candidate would grant, and gives the seat the receipt. None where the record shows its train
+    /// another view. The seat is told all that the record then has.
+    pub(crate) fn commit<R: Wait>(
         &mut self,
+        rt: &R,
         alloc: Global,
         seat: &mut Seat<L>,
         candidate: Candidate,
     ) -> Result<Option<Granted>, OrMemory<AskFault>>
-        ensures granted { IfOk result (λ tried. IfSome tried (λ granted. granted.candidate ≡ candidate)) }
-        ensures best { IfOk result (λ tried. IfSome tried (λ granted. IsCandidateOf candidate.view candidate.grant)) }
-        ensures entry { IfOk result (λ tried. IfSome tried (λ granted.
-            granted.receipt.entry ≡ GrantedEntry candidate.grant)) }
-        ensures place { IfOk result (λ tried. IfSome tried (λ granted.
-            granted.receipt.place ≡ length self.old.log.entries)) }
-        ensures entered { IfOk result (λ tried. IfSome tried (λ granted.
-            self.new.log ≡ with_entry self.old.log (GrantedEntry candidate.grant))) }
         ensures receipt { IfOk result (λ tried. IfSome tried (λ granted.
-            seat.new ≡ seat.old ++ granted.receipt ∷ [])) }
-        ensures stale { IfOk result (λ tried. IfNone tried ((self.new.log ≡ self.old.log) × (seat.new ≡ seat.old))) }
-        ensures current { candidate.version ≡ length self.old.log.entries
-            → shown self.old.log candidate.view.train ≡ Ok candidate.view → result ≢ Ok None }
-        ensures refused { OnErr result ((self.new.log ≡ self.old.log) × (seat.new ≡ seat.old)) }
-        ensures full { IfErr result (IsRefused self.old.log candidate.view.train) }
+            seat.new.receipts ≡ seat.old.receipts ++ granted.receipt ∷ [])) }
+        ensures stale { IfOk result (λ tried. IfNone tried (seat.new.receipts ≡ seat.old.receipts)) }
+        ensures refused { OnErr result (seat.new.receipts ≡ seat.old.receipts) }
+        ensures later { IsLater seat.old.told seat.new.told }
         ensures answered { IfOk result (λ tried. IfSome tried (λ granted.
-            IsAnsweredAt L.opened candidate.view.train (Ok granted))) }
-        ensures of_desk { IsOfDesk L.opened self.old.log }
+            IsAnsweredThen seat.old.told seat.new.told candidate.view.train (Ok granted))) }
+        ensures denied { IfErr result (λ fault.
+            IsAnsweredThen seat.old.told seat.new.told candidate.view.train (Err fault)) }
+        ensures current { shown self.old.log candidate.view.train ≡ Ok candidate.view → result ≢ Ok None }
     {
-        self.is_of_desk();
-        if is_full(&self.log) {
-            return Err(OrMemory::Refused(AskFault::Full));
-        }
-        if version_of(&self.log) != candidate.version() {
-            return Ok(None);
-        }
         is_best(&candidate);
-        match self.commit_now(alloc, seat, &candidate)? {
+        match self.commit_now(rt, alloc, seat, &candidate)? {
             Some(receipt) => Ok(Some(Granted { receipt, candidate })),
             None => Ok(None),
         }
     }
 
-    /// Enters what the candidate would grant, if it is current, and gives the seat the receipt.
-    fn commit_now(
+    /// Enters what the candidate would grant, if its train is still shown its view, and gives the seat the receipt.
+    fn commit_now<R: Wait>(
         &mut self,
+        rt: &R,
         alloc: Global,
         seat: &mut Seat<L>,
         candidate: &Candidate,
     ) -> Result<Option<Receipt>, OrMemory<AskFault>>
         ensures tries { Tries result self.old.log self.new.log candidate.now }
-        ensures receipt { IfOk result (λ tried. IfSome tried (λ receipt. seat.new ≡ seat.old ++ receipt ∷ [])) }
-        ensures stale { IfOk result (λ tried. IfNone tried (seat.new ≡ seat.old)) }
-        ensures refused { OnErr result (seat.new ≡ seat.old) }
+        ensures told { seat.new.told ≡ self.new.log }
+        ensures before { IsLater seat.old.told self.old.log }
+        ensures later { IsLater seat.old.told seat.new.told }
+        ensures receipt { IfOk result (λ tried. IfSome tried (λ receipt.
+            seat.new.receipts ≡ seat.old.receipts ++ receipt ∷ [])) }
+        ensures stale { IfOk result (λ tried. IfNone tried (seat.new.receipts ≡ seat.old.receipts)) }
+        ensures refused { OnErr result (seat.new.receipts ≡ seat.old.receipts) }
     {
+        self.goes_on();
         let Shared {
             log,
+            press,
             found,
             entries,
             ..
         } = self;
-        let Seat { receipts, share } = seat;
+        let Seat {
+            receipts,
+            share,
+            eye,
+        } = seat;
+        press.bring(rt, eye);
+        if is_full(log) {
+            return Err(OrMemory::Refused(AskFault::Full));
+        }
         found.reserve(1)?;
         receipts.reserve(1)?;
         let Some(entered) = enter(log, alloc, candidate)? else {
             return Ok(None);
         };
+        publish(rt, alloc, log, press, eye);
         found.push_reserved(false);
         receipts.push_reserved(entered.copy());
         entries.add(share, 1);
@@ -257,39 +290,41 @@ impl<L: DeskName> Shared<L> {
     }
 
     /// Grants the train the best authority for what it is shown now, and gives the seat the receipt.
-    pub(crate) fn grant(
+    pub(crate) fn grant<R: Wait>(
         &mut self,
         rt: &(impl Threads + Sync),
+        waiting: &R,
         alloc: Global,
         seat: &mut Seat<L>,
         train: u32,
     ) -> Result<Granted, OrMemory<AskFault>>
-        ensures shown { IfOk result (λ granted. shown self.old.log train ≡ Ok granted.candidate.view) }
-        ensures best { IfOk result (λ granted. IsCandidateOf granted.candidate.view granted.candidate.grant) }
-        ensures train { IfOk result (λ granted. granted.candidate.view.train ≡ train) }
-        ensures entry { IfOk result (λ granted. granted.receipt.entry ≡ GrantedEntry granted.candidate.grant) }
-        ensures place { IfOk result (λ granted. granted.receipt.place ≡ length self.old.log.entries) }
-        ensures entered { IfOk result (λ granted.
-            self.new.log ≡ with_entry self.old.log (GrantedEntry granted.candidate.grant)) }
-        ensures receipt { IfOk result (λ granted. seat.new ≡ seat.old ++ granted.receipt ∷ []) }
-        ensures refused { IfErr result (IsRefused self.old.log train) }
-        ensures unchanged { OnErr result ((self.new.log ≡ self.old.log) × (seat.new ≡ seat.old)) }
-        ensures answered { IsAnsweredAt L.opened train result }
+        ensures receipt { IfOk result (λ granted. seat.new.receipts ≡ seat.old.receipts ++ granted.receipt ∷ []) }
+        ensures refused { OnErr result (seat.new.receipts ≡ seat.old.receipts) }
+        ensures later { IsLater seat.old.told seat.new.told }
+        ensures answered { IsAnsweredThen seat.old.told seat.new.told train result }
     {
-        self.is_of_desk();
+        self.bring(waiting, seat);
         let (view, version) = self.look(alloc, train)?;
         let candidate = candidate(rt, alloc, view, version)?;
-        match self.commit(alloc, seat, candidate)? {
-            Some(granted) => Ok(granted),
-            None => unreachable!(),
+        match self.commit(waiting, alloc, seat, candidate) {
+            Ok(Some(granted)) => Ok(granted),
+            Ok(None) => unreachable!(),
+            Err(fault) => Err(fault),
         }
     }
 
-    /// The numbers of the scene's trains, in order of arrival.
-    pub(crate) fn trains(&self, alloc: Global) -> Result<Vec<u32>, Memory>
-        ensures { IfOk result (λ numbers. AreTrainsOf L.opened numbers.items) }
+    /// The numbers of the scene's trains, in order of arrival. The seat is told of the scene.
+    pub(crate) fn trains<R: Wait>(
+        &self,
+        rt: &R,
+        alloc: Global,
+        seat: &mut Seat<L>,
+    ) -> Result<Vec<u32>, Memory>
+        ensures trains { IfOk result (λ numbers. numbers.items ≡ numbers_of seat.new.told) }
+        ensures later { IsLater seat.old.told seat.new.told }
+        ensures receipts { seat.new.receipts ≡ seat.old.receipts }
     {
-        let _version = self.log.version();
+        self.bring(rt, seat);
         trains_of(alloc, &self.log)
     }
 
@@ -298,16 +333,18 @@ impl<L: DeskName> Shared<L> {
     /// # Errors
     ///
     /// `Unmatched` with the first receipt, seat by seat, that is not at its place.
-    pub(crate) fn close(self, seats: Vec<Seat<L>>) -> Result<Record, CloseFault>
+    pub(crate) fn close<R: Wait>(self, rt: &R, seats: Vec<Seat<L>>) -> Result<Record, CloseFault>
         requires { L.parts ≤ vec_len seats }
         ensures log { IfOk result (λ log. log ≡ self.log) }
         ensures legal { IfOk result (λ log. IsLegal log.track log.entries) }
         ensures matches { IfOk result (λ log.
             Matches (all_receipts seats.items) self.log.entries (length L.opened.entries)) }
+        ensures told { IfOk result (λ log. All (λ seat. IsLater seat.told log) seats.items) }
         ensures unmatched { IfErr result (IsUnmatchedIn self.log L.opened (all_receipts seats.items)) }
     {
         let Shared {
             log,
+            press,
             start,
             mut found,
             mut entries,
@@ -315,11 +352,25 @@ impl<L: DeskName> Shared<L> {
         } = self;
         let _version = log.version();
         let misplaced = find_seats(&log, start, &mut found, seats.as_slice());
-        merge_all(&mut rest, seats);
+        merge_all(rt, &press, &mut rest, seats);
+        press.end(rt);
         entries.audit(&mut rest);
         match misplaced {
             None => Ok(log),
             Some(receipt) => Err(CloseFault::Unmatched(receipt)),
         }
+    }
+
+    /// Ends what lies under the lock of a desk whose seats are not all there.
+    pub(crate) fn end<R: Wait>(self, rt: &R) {
+        let Shared {
+            log: _,
+            press,
+            start: _,
+            found: _,
+            entries: _,
+            rest: _,
+        } = self;
+        press.end(rt);
     }
 }

@@ -22,7 +22,7 @@ use Rattle.rbc_grant_laws.specs.Candidates.{IsCandidateOf}
 use Rattle.rbc_grant_laws.proofs.CandidateLemmas.{MayFollow-candidate, is_ok-candidate, view-train}
 use Rattle.rbc_grant.specs.SameViews.{is_same_view-decides}
 use Rattle.rbc_grant.specs.ScenesOnTracks.{SceneOnTrack}
-use Rattle.rbc_record.specs.declared.limits.TheConstants.{MOST_ENTRIES}
+use Rattle.rbc_model.specs.declared.limits.TheConstants.{MOST_ENTRIES}
 use Rattle.rbc_scene_laws.proofs.KeptLemmas.{IsBestHistory-of_legal}
 use Rattle.rbc_record.specs.declared.entry.Entry.{Entry as EntryHeld}
 use Rattle.rbc_record.specs.declared.entry.Entry.TheVariants.{Heard as HeardHeld, Granted as GrantedHeld}

@@ -1,5 +1,5 @@
 -- What may be entered in a history, and what a call that enters it answers and leaves.
-use Rattle.std.specs.Prelude.{◌≡◌, Bool, false, not, ◌==◌, if◌then◌else◌, length, Result, Ok, Err}
+use Rattle.std.specs.Prelude.{◌≡◌, Bool, false, if◌then◌else◌, length, Result, Ok, Err}
 use Rattle.std.specs.Result.{result_map_both}
 use Rattle.rbc_model.specs.declared.memory.OrMemory.{OrMemory}
 use Rattle.rbc_model.specs.declared.memory.OrMemory.TheVariants.{Refused, Memory}
@@ -16,7 +16,7 @@ use Rattle.rbc_grant.specs.Candidates.{Candidate}
 use Rattle.rbc_record.specs.declared.faults.ApplyFault.{ApplyFault}
 use Rattle.rbc_record.specs.declared.faults.ApplyFault.TheVariants.{Full as FullToTold, Refused as RefusedByScene}
 use Rattle.rbc_record.specs.declared.faults.CommitFault.{CommitFault}
-use Rattle.rbc_record.specs.declared.faults.CommitFault.TheVariants.{Full as FullToGrants, Stale, Foreign}
+use Rattle.rbc_record.specs.declared.faults.CommitFault.TheVariants.{Full as FullToGrants, Stale}
 use Rattle.rbc_record.specs.Records.{HistoryOnTrack, scene_now, is_full, with_entry}
 
 -- what is told is entered, unless the history is full or its scene refuses it
@@ -40,14 +40,12 @@ is_just wanted (Err fault) = false
 abbrev pub is_shown : HistoryOnTrack → View → Bool
 is_shown history wanted = is_just wanted (view history.track (scene_now history) wanted.train)
 
--- what a candidate would grant is entered, unless the history is full, has another version than the candidate, or shows the train another view
+-- what a candidate would grant is entered, unless the history is full or shows the train another view
 abbrev pub entry_granted : HistoryOnTrack → Candidate → Result Entry CommitFault
 entry_granted history candidate =
     if is_full history
     then Err FullToGrants
-    else (if not (candidate.version == length history.entries)
-    then Err (Stale (length history.entries))
-    else (if is_shown history candidate.view then Ok (Granted candidate.grant) else Err Foreign))
+    else (if is_shown history candidate.view then Ok (Granted candidate.grant) else Err (Stale (length history.entries)))
 
 -- The call entered what the definition says behind the entries that there were, and gave a receipt for it; or it was refused as the definition
 -- says, or memory was, and nothing is changed.

@@ -5,7 +5,7 @@ use Rattle.rbc_model.specs.SoundTracks.{IsInForm, IsSound}
 use Rattle.rbc_model.specs.Scenes.{Scene}
 use Rattle.rbc_model.specs.Histories.{Entry, IsLegal, replay}
 use Rattle.rbc_grant.specs.ScenesOnTracks.{SceneOnTrack}
-use Rattle.rbc_record.specs.declared.limits.TheConstants.{MOST_ENTRIES}
+use Rattle.rbc_model.specs.declared.limits.TheConstants.{MOST_ENTRIES}
 
 -- a history, and the track that it is of
 pub record HistoryOnTrack : Type 0 where

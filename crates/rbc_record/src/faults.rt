@@ -20,10 +20,7 @@ pub enum CommitFault {
     /// The record has 100,000 entries.
     #[error("the record is full")]
     Full,
-    /// The candidate has another version than this, which is the record's.
+    /// The record, which is at this version, shows the candidate's train another view, or none.
     #[error("the record is at version {0}")]
     Stale(u64),
-    /// The candidate has the record's version, but its view is not what the record shows its train.
-    #[error("the candidate is of another record")]
-    Foreign,
 }

@@ -1,8 +1,9 @@
 //! The record of a track.
 
-ghost use Rattle.std.specs.Prelude.{◌≡◌, ◌≢◌, ◌++◌, ◌∷◌, ◌<◌, ◌≤◌, ℕ, [], length, take, true, false, slice_get, option_map, None, Ok, Err, IfOk, vec_len, vec_capacity};
+ghost use Rattle.std.specs.Prelude.{◌≡◌, ◌++◌, ◌∷◌, ◌<◌, ◌≤◌, ℕ, [], length, take, true, false, slice_get, option_map, None, Ok, Err, IfOk, vec_len, vec_capacity};
 ghost use Rattle.std.specs.Arc.{arc_value};
 ghost use Rattle.std.specs.Option.{option_copied};
+ghost use Rattle.rbc_model.specs.declared.limits.TheConstants.{MOST_ENTRIES};
 ghost use Rattle.rbc_model.specs.declared.memory.OrMemory.TheVariants.{Refused};
 ghost use Rattle.rbc_model.specs.declared.refusals.ViewFault.TheVariants.{UnknownTrain};
 ghost use Rattle.rbc_model.specs.Answers.{AnswersOrMemory};
@@ -11,7 +12,6 @@ ghost use Rattle.rbc_model.specs.Scenes.{train_numbered};
 ghost use Rattle.rbc_model.specs.SoundTracks.{IsInForm};
 ghost use Rattle.rbc_model.specs.Views.{view};
 ghost use Rattle.rbc_grant.specs.Steps.{IsOfTrack};
-ghost use Rattle.rbc_record.specs.declared.limits.TheConstants.{MOST_ENTRIES};
 ghost use Rattle.rbc_record.specs.declared.faults.ApplyFault.TheVariants.{Full as FullToTold};
 ghost use Rattle.rbc_record.specs.declared.faults.CommitFault.TheVariants.{Full as FullToGrants, Stale};
 ghost use Rattle.rbc_record.specs.Entries.{entry_of};
@@ -19,10 +19,10 @@ ghost use Rattle.rbc_record.specs.Entering.{EntersOrMemory, as_apply_fault, entr
 ghost use Rattle.rbc_record.specs.Headline.{EachEndIsFarthest, EachProfileIsBest};
 ghost use Rattle.rbc_record.specs.Records.{scene_now, is_full};
 
-use crate::limits::MOST_ENTRIES;
 use crate::{ApplyFault, CommitFault, Entry, Grant, Receipt};
 use rbc_grant::{Candidate, Scene, View};
-use rbc_model::{Event, Memory, OrMemory, Refusal, Told, ViewFault};
+use rbc_model::limits::MOST_ENTRIES;
+use rbc_model::{Memory, OrMemory, Refusal, Told, ViewFault};
 use rbc_track::Track;
 use std::alloc::Global;
 use std::marker::Model;
@@ -154,17 +154,16 @@ impl Record {
         }
     }
 
-    /// Enters what the candidate would grant, where it was made of this record's view at this record's version. Where
-    /// it is refused, or memory is, nothing changes.
+    /// Enters what the candidate would grant, where it was made of what this record shows its train now, at whatever
+    /// version. Where it is refused, or memory is, nothing changes.
     ///
     /// # Errors
     ///
     /// `Refused` with the first of these:
     /// - `Full`, before all else: the record has 100,000 entries,
-    /// - `Stale` with the record's version, before any memory is asked for: the candidate has another version,
-    /// - `Foreign`: the record shows the candidate's train another view, or none.
+    /// - `Stale` with the record's version: the record shows the candidate's train another view, or none.
     ///
-    /// `Memory` may come in place of `Foreign`.
+    /// `Memory` may come in place of `Stale`, but not where there is no such train.
     pub fn commit(
         &mut self,
         alloc: Global,
@@ -172,7 +171,7 @@ impl Record {
     ) -> Result<Receipt, OrMemory<CommitFault>>
         ensures entered { EntersOrMemory result self.old self.new (entry_granted self.old candidate.now) }
         ensures full { is_full self.old ≡ true → result ≡ Err (Refused FullToGrants) }
-        ensures stale { is_full self.old ≡ false → candidate.now.version ≢ length self.old.entries
+        ensures gone { is_full self.old ≡ false → train_numbered (scene_now self.old) candidate.now.view.train ≡ None
             → result ≡ Err (Refused (Stale (length self.old.entries))) }
         ensures shown { IfOk result (λ _.
             view self.old.track (scene_now self.old) candidate.now.view.train ≡ Ok candidate.now.view) }
@@ -181,12 +180,8 @@ impl Record {
         if self.is_full() {
             return Err(OrMemory::Refused(CommitFault::Full));
         }
-        let version = self.version();
-        if candidate.version() != version {
-            return Err(OrMemory::Refused(CommitFault::Stale(version)));
-        }
         if !self.shows(alloc, candidate.view())? {
-            return Err(OrMemory::Refused(CommitFault::Foreign));
+            return Err(OrMemory::Refused(CommitFault::Stale(self.version())));
         }
         self.entries.reserve(1)?;
         match self
@@ -202,7 +197,8 @@ impl Record {
 
     /// Whether the train of the view is shown just this view.
     fn shows(&self, alloc: Global, wanted: &View) -> Result<bool, Memory>
-        ensures { IfOk result (λ shown. shown ≡ is_shown self.now wanted.now) }
+        ensures shown { IfOk result (λ shown. shown ≡ is_shown self.now wanted.now) }
+        ensures gone { train_numbered (scene_now self.now) wanted.now.train ≡ None → result ≡ Ok false }
     {
         match self.view(alloc, wanted.train()) {
             Ok(shown) => Ok(*wanted == shown),

@@ -7,7 +7,6 @@ mod faults;
 mod grant;
 mod history;
 mod laws;
-pub mod limits;
 mod receipt;
 mod sameness;
 

@@ -3,4 +3,4 @@ mod JobLemmas
 mod OrderLemmas
 mod Permutations
 mod SweepLemmas
-mod WorkLemmas
+pub mod WorkLemmas

@@ -1,50 +1,54 @@
 -- What the crew and the last seat have done is the list, and the seats have gained what was granted.
-use Rattle.std.proofs.Common.{◌≡◌, ℕ, ◌+◌, ◌-◌, ◌≤◌, List, [], ◌++◌, length, map, fold, sym, ap, ◌∙◌, subst, arith}
+use Rattle.std.proofs.Common.{Result, Ok, Err, IfOk, OnErr, [], ◌∷◌, ◌≡◌, ℕ, ◌+◌, ◌-◌, ◌≤◌, List, ◌++◌, length, map, fold, sym, ap, ◌∙◌, subst, arith}
 use Rattle.std.specs.List.{All, AllZip, flat_map, sum_by}
 use Rattle.std.specs.List.Sorted.{IsPermutation}
-use Rattle.std.proofs.lemmas.List.{length-map}
+use Rattle.std.proofs.lemmas.List.{append-nil, length-map}
+use Rattle.rbc_desk.specs.Closing.{all_receipts}
 use Rattle.std.proofs.lemmas.List.Elements.{All-append, All-map, All-same}
 use Rattle.std.proofs.lemmas.List.Sorted.{All-permutation, IsPermutation-append_comm, IsPermutation-sym, IsPermutation-trans}
 use Rattle.std.proofs.lemmas.List.Sums.{sum_by-append}
 use Rattle.rbc_model.specs.Histories.{Receipt}
-use Rattle.rbc_desk.specs.Records.{HistoryOnTrack}
 use Rattle.rbc_sweep.specs.declared.jobs.Job.{Job}
 use Rattle.rbc_sweep.specs.declared.jobs.Tally.{Tally}
 use Rattle.rbc_sweep.specs.declared.order.Done.{Done}
 use Rattle.rbc_sweep.specs.declared.outcome.Outcome.{Outcome}
 use Rattle.rbc_sweep.specs.Jobs.{numbered, tally, AreSameJobs}
-use Rattle.rbc_sweep.specs.Outcomes.{IsOutcome, granted, receipts_of}
-use Rattle.rbc_sweep.specs.Serving.{AreAnswered, HaveGained, job_of, joined, jobs, outcome_of, receipts_in}
-use Rattle.rbc_sweep.proofs.CrewLemmas.{HasWorked, HaveGained-moved, HaveGained-trans, crew_answered, crew_gained, crew_known, crew_long, flat_map-map, jobs-append, receipts_in-append}
+use Rattle.rbc_desk.specs.Seats.{Seated}
+use Rattle.rbc_sweep.specs.Outcomes.{AreFirst, AreTrainsOfFirst, IsToldToOne, granted, receipts_each, receipts_of, train_of}
+use Rattle.rbc_sweep.specs.Serving.{HaveGained, job_of, joined, jobs, outcome_of, receipts_in}
+use Rattle.rbc_sweep.proofs.CrewLemmas.{HasWorked, HaveGained-moved, HaveGained-trans, crew_gained, crew_known, crew_long, crew_told, kept-trans, kept_either, told_before, told_behind, flat_map-map, jobs-append, receipts_in-append}
+use Rattle.rbc_sweep.proofs.WorkLemmas.{all_through, begins_still}
 use Rattle.rbc_sweep.proofs.JobLemmas.{count, length-numbered}
 use Rattle.rbc_sweep.proofs.Permutations.{IsPermutation-flat_map}
 
 -- what is known when all workers have come back
-pub record Gathered (opened : HistoryOnTrack) (trains : List ℕ) (had back : List (List Receipt)) (all : Tally) (others : List Done) : Type 0 where
+pub record Gathered (trains : List ℕ) (had back : List Seated) (all : Tally) (others : List Done) : Type 0 where
   pub together : all ≡ tally 1024 (numbered 0 trains) (jobs others)
   pub gained : HaveGained had back (receipts_in others)
-  pub answered : AreAnswered opened others
+  pub told : All (λ (d : Done). IsToldToOne had back d.outcome) others
   pub as_many : length back ≡ length had
 
-module _ {W : Type 0} (seat : W → List Receipt) (known : W → Tally) (done : W → List Done) (opened : HistoryOnTrack) (trains : List ℕ) where
-  pub gathered : (had back : List (List Receipt)) (ws vs : List W) (others : List Done) (u v all : Tally) (n : ℕ)
-      → AllZip (HasWorked seat known done opened) ws vs → map seat ws ≡ had → length had ≡ n → n ≤ 16
+module _ {W : Type 0} (seat : W → Seated) (known : W → Tally) (done : W → List Done) (trains : List ℕ) where
+  pub gathered : (had back : List Seated) (ws vs : List W) (others : List Done) (u v all : Tally) (n : ℕ)
+      → AllZip (HasWorked seat known done) ws vs → map seat ws ≡ had → length had ≡ n → n ≤ 16
       → u ≡ tally 1024 (numbered 0 trains) [] → v ≡ tally (u.parts - n) u.put u.taken → all ≡ fold joined v (map known vs)
-      → back ≡ map seat vs → others ≡ flat_map done vs → Gathered opened trains had back all others
+      → back ≡ map seat vs → others ≡ flat_map done vs → Gathered trains had back all others
   gathered had back ws vs others u v all n worked hired many few fresh lent joins given lists =
-      let long : length vs ≡ length ws = crew_long seat known done opened ws vs worked in
+      let long : length vs ≡ length ws = crew_long seat known done ws vs worked in
       let wide : length ws ≡ n = sym (length-map ws seat) ∙ ap length hired ∙ many in
       let start : v ≡ tally (1024 - n) (numbered 0 trains) [] = lent ∙ ap (λ (t : Tally). tally (t.parts - n) t.put t.taken) fresh in
       let parts : 1024 - n + length vs ≡ 1024 = omega arith in
       record {
         together = joins ∙ ap (λ (t : Tally). fold joined t (map known vs)) start
-            ∙ crew_known seat known done opened (tally (1024 - n) (numbered 0 trains) []) ws vs worked
+            ∙ crew_known seat known done (tally (1024 - n) (numbered 0 trains) []) ws vs worked
             ∙ ap (λ (k : ℕ). tally k (numbered 0 trains) (jobs (flat_map done vs))) parts
             ∙ ap (λ (l : List Done). tally 1024 (numbered 0 trains) (jobs l)) (sym lists);
         gained = subst (λ (l : List Done). HaveGained had back (receipts_in l)) (sym lists)
-            (subst (λ (b : List (List Receipt)). HaveGained had b (receipts_in (flat_map done vs))) (sym given)
-            (subst (λ (a : List (List Receipt)). HaveGained a (map seat vs) (receipts_in (flat_map done vs))) hired (crew_gained seat known done opened ws vs worked)));
-        answered = subst (λ (l : List Done). AreAnswered opened l) (sym lists) (crew_answered seat known done opened ws vs worked);
+            (subst (λ (b : List Seated). HaveGained had b (receipts_in (flat_map done vs))) (sym given)
+            (subst (λ (a : List Seated). HaveGained a (map seat vs) (receipts_in (flat_map done vs))) hired (crew_gained seat known done ws vs worked)));
+        told = subst (λ (l : List Done). All (λ (d : Done). IsToldToOne had back d.outcome) l) (sym lists)
+            (subst (λ (b : List Seated). All (λ (d : Done). IsToldToOne had b d.outcome) (flat_map done vs)) (sym given)
+            (subst (λ (a : List Seated). All (λ (d : Done). IsToldToOne a (map seat vs) d.outcome) (flat_map done vs)) hired (crew_told seat known done ws vs worked)));
         as_many = ap length given ∙ length-map vs seat ∙ long ∙ wide ∙ sym many;
       }
 
@@ -72,15 +76,58 @@ outcomes_granted last others done outcomes is moved =
     (IsPermutation-sym (flat_map got (map outcome_of done)) (granted outcomes) (IsPermutation-flat_map got (map outcome_of done) outcomes moved))
     (subst (λ (l : List Receipt). IsPermutation l (receipts_in others ++ receipts_in last)) (sym same) (IsPermutation-append_comm (receipts_in last) (receipts_in others)))
 
-pub seats_gained : (had back has : List (List Receipt)) (last others done : List Done) (outcomes : List Outcome) → HaveGained had back (receipts_in others)
+pub seats_gained : (had back has : List Seated) (last others done : List Done) (outcomes : List Outcome) → HaveGained had back (receipts_in others)
     → HaveGained back has (receipts_in last) → done ≡ last ++ others → IsPermutation (map outcome_of done) outcomes → HaveGained had has (granted outcomes)
 seats_gained had back has last others done outcomes crew finish is moved =
     HaveGained-moved had has (receipts_in others ++ receipts_in last) (granted outcomes)
     (HaveGained-trans had back has (receipts_in others) (receipts_in last) crew finish) (outcomes_granted last others done outcomes is moved)
 
-pub outcomes_answered : (opened : HistoryOnTrack) (last others done : List Done) (outcomes : List Outcome) → AreAnswered opened last → AreAnswered opened others
-    → done ≡ last ++ others → IsPermutation (map outcome_of done) outcomes → All (IsOutcome opened) outcomes
-outcomes_answered opened last others done outcomes by_last by_others is moved =
-    All-permutation (IsOutcome opened) (map outcome_of done) outcomes moved
-    (All-map (IsOutcome opened) outcome_of done
-    (All-same (λ (d : Done). IsOutcome opened d.outcome) done (last ++ others) is (All-append (λ (d : Done). IsOutcome opened d.outcome) last others by_last by_others)))
+-- each outcome is told to one of the seats: those of the crew, and then those of the last seat
+pub outcomes_told : (had back has : List Seated) (gained more : List Receipt) (last others done : List Done) (outcomes : List Outcome) → HaveGained had back gained → HaveGained back has more
+    → All (λ (d : Done). IsToldToOne back has d.outcome) last → All (λ (d : Done). IsToldToOne had back d.outcome) others
+    → done ≡ last ++ others → IsPermutation (map outcome_of done) outcomes → All (IsToldToOne had has) outcomes
+outcomes_told had back has gained more last others done outcomes crew finish by_last by_others is moved =
+    let P : Done → Type 0 = λ d. IsToldToOne had has d.outcome in
+    All-permutation (IsToldToOne had has) (map outcome_of done) outcomes moved
+    (All-map (IsToldToOne had has) outcome_of done
+    (All-same P done (last ++ others) is (All-append P last others
+    (all_through (λ (d : Done). IsToldToOne back has d.outcome) P last (λ d t. told_before had back has d.outcome crew.kept t) by_last)
+    (all_through (λ (d : Done). IsToldToOne had back d.outcome) P others (λ d t. told_behind had back has d.outcome finish.kept t) by_others))))
+
+-- ---- one of the seats was told which trains there are, and then they were served
+
+pub swept_gained : {A E : Type 0} (r : Result A E) (had mid has : List Seated) (got : A → List Receipt) → HaveGained had mid [] → IfOk r (λ x. HaveGained mid has (got x))
+    → IfOk r (λ x. HaveGained had has (got x))
+swept_gained (Ok x) had mid has got first ok = HaveGained-trans had mid has [] (got x) first ok
+swept_gained (Err e) had mid has got first ok = tt
+
+-- no receipt is new, where there was no room for the sweep
+pub swept_refused : {A E : Type 0} (r : Result A E) (had mid has : List Seated) → receipts_each mid ≡ receipts_each had → OnErr r (has ≡ mid) → OnErr r (receipts_each has ≡ receipts_each had)
+swept_refused (Ok x) had mid has first err = tt
+swept_refused (Err e) had mid has first err = ap receipts_each err ∙ first
+
+-- the first seat was told which trains there are, and the outcomes are theirs
+trains_still : (had mid has : List Seated) (trains : List ℕ) → AllZip AreFirst mid has → AreTrainsOfFirst had mid trains → AreTrainsOfFirst had has trains
+trains_still [] mid has trains kept t = absurd t
+trains_still (a ∷ had) [] has trains kept t = absurd t
+trains_still (a ∷ had) (b ∷ mid) [] trains kept t = absurd kept
+trains_still (a ∷ had) (b ∷ mid) (c ∷ has) trains kept t =
+    let first = kept.0 in record { history = t.history; later = t.later; told = begins_still t.history b.told c.told t.told first.told; all = t.all }
+
+pub known_ok : {T F : Type 0} (P : T → Type 0) (r : Result T F) (t : T) → r ≡ Ok t → IfOk r P → P t
+known_ok P r t is ok = subst (λ q. IfOk q P) is ok
+
+pub swept_trains : {A E : Type 0} (r : Result A E) (had mid has : List Seated) (trains : List ℕ) (outcomes : A → List Outcome) (got : A → List Receipt) → AreTrainsOfFirst had mid trains
+    → IfOk r (λ x. HaveGained mid has (got x)) → IfOk r (λ x. map train_of (outcomes x) ≡ trains) → IfOk r (λ x. AreTrainsOfFirst had has (map train_of (outcomes x)))
+swept_trains (Ok x) had mid has trains outcomes got first ok same = subst (AreTrainsOfFirst had has) (sym same) (trains_still had mid has trains ok.kept first)
+swept_trains (Err e) had mid has trains outcomes got first ok same = tt
+
+pub swept_kept : {A E : Type 0} (r : Result A E) (had mid has : List Seated) (got : A → List Receipt) → HaveGained had mid [] → IfOk r (λ x. HaveGained mid has (got x)) → OnErr r (has ≡ mid)
+    → AllZip AreFirst had has
+swept_kept r had mid has got first ok err = kept-trans had mid has first.kept (kept_either r mid has got ok err)
+
+pub swept_told : {A E : Type 0} (r : Result A E) (had mid has : List Seated) (outcomes : A → List Outcome) → HaveGained had mid [] → IfOk r (λ x. All (IsToldToOne mid has) (outcomes x))
+    → IfOk r (λ x. All (IsToldToOne had has) (outcomes x))
+swept_told (Ok x) had mid has outcomes first ok =
+    all_through (IsToldToOne mid has) (IsToldToOne had has) (outcomes x) (λ o t. told_before had mid has o first.kept t) ok
+swept_told (Err e) had mid has outcomes first ok = tt

@@ -1,12 +1,15 @@
 -- What a worker has done, train by train.
-use Rattle.std.proofs.Common.{◌≡◌, ℕ, List, [], ◌∷◌, ◌++◌, Result, Ok, Err, IfOk, OnErr, OnOk, false, sym, ap, ◌∙◌, subst, append_assoc}
+use Rattle.std.proofs.Common.{All, get_or, length, take, ◌≤◌, refl, arith, ◌≡◌, ℕ, List, [], ◌∷◌, ◌++◌, Result, Ok, Err, IfOk, OnErr, OnOk, false, sym, ap, ◌∙◌, subst, append_assoc}
 use Rattle.std.specs.Result.{is_err}
-use Rattle.std.proofs.lemmas.List.{append-nil, map_push}
+use Rattle.std.proofs.lemmas.List.{append-nil, length-take, map_push, take_all, take-take}
+use Rattle.rbc_desk.specs.Later.{IsLater}
+use Rattle.rbc_desk.specs.Seats.{Seated}
+use Rattle.rbc_desk.specs.Asking.{IsAnswered, IsAnsweredThen, after_answer}
+use Rattle.rbc_sweep.specs.declared.outcome.Outcome.{Outcome}
 use Rattle.std.proofs.lemmas.List.Concat.{flat_map-append}
 use Rattle.std.proofs.lemmas.List.Elements.{All-nil, All-push}
 use Rattle.rbc_model.specs.declared.memory.OrMemory.{OrMemory}
-use Rattle.rbc_model.specs.Histories.{Granted as GrantedEntry, Receipt}
-use Rattle.rbc_grant_laws.specs.Candidates.{IsCandidateOf}
+use Rattle.rbc_model.specs.Histories.{Receipt}
 use Rattle.rbc_desk.specs.Records.{HistoryOnTrack}
 use Rattle.rbc_desk.specs.declared.faults.AskFault.{AskFault}
 use Rattle.rbc_desk.specs.declared.granted.Granted.{Granted as Grant}
@@ -16,7 +19,7 @@ use Rattle.rbc_sweep.specs.declared.order.Done.{Done}
 use Rattle.rbc_sweep.specs.declared.outcome.Answer.{Answer}
 use Rattle.rbc_sweep.specs.declared.outcome.Answer.TheVariants.{Granted, Blocked, Gone, Full, Memory}
 use Rattle.rbc_sweep.specs.Jobs.{tally}
-use Rattle.rbc_sweep.specs.Outcomes.{IsGrantTo, IsOutcome, asked, receipts_of}
+use Rattle.rbc_sweep.specs.Outcomes.{Begins, IsTold, asked, receipts_of}
 use Rattle.rbc_sweep.specs.Serving.{HasServed, job_of, jobs, receipts_in}
 
 -- ---- one train
@@ -32,25 +35,73 @@ receipts_gained Gone old new ok err = err ∙ sym (append-nil old)
 receipts_gained Full old new ok err = err ∙ sym (append-nil old)
 receipts_gained Memory old new ok err = err ∙ sym (append-nil old)
 
-pub grant_to : (train : ℕ) (answer : Asked) → IfOk answer (λ (g : Grant). g.candidate.view.train ≡ train)
-    → IfOk answer (λ (g : Grant). g.receipt.entry ≡ GrantedEntry g.candidate.grant) → IfOk answer (λ (g : Grant). IsCandidateOf g.candidate.view g.candidate.grant)
-    → IsGrantTo train answer
-grant_to train (Ok grant) same entry best = (same, entry, best)
-grant_to train (Err fault) same entry best = tt
+-- ---- what is told
+
+pub begins_itself : (h : HistoryOnTrack) → Begins h h
+begins_itself h = record { track = refl; opening = take_all (length h.entries) h.entries (omega arith) }
+
+begins_length : (a b : HistoryOnTrack) → Begins a b → length a.entries ≤ length b.entries
+begins_length a b h =
+    omega (arith, ap length h.opening, length-take (length a.entries) b.entries)
+
+pub begins_still : (a b c : HistoryOnTrack) → Begins a b → Begins b c → Begins a c
+begins_still a b c ab bc = record {
+  track = bc.track ∙ ab.track;
+  opening = sym (take-take (length a.entries) (length b.entries) c.entries (begins_length a b ab)) ∙ ap (take (length a.entries)) bc.opening ∙ ab.opening;
+}
+
+pub begins_later : (a b : HistoryOnTrack) → IsLater a b → Begins a b
+begins_later a b h = record { track = h.track; opening = h.opening }
+
+later_after : (a b c : HistoryOnTrack) → Begins a b → IsLater b c → IsLater a c
+later_after a b c ab bc =
+    let all = begins_still a b c ab (begins_later b c bc) in
+    record { track = all.track; legal = bc.legal; opening = all.opening }
+
+grown : {X : Type 0} (xs : List X) (x : X) → take (length xs) (xs ++ x ∷ []) ≡ xs
+grown [] x = refl
+grown (y ∷ xs) x = ap (λ ys. y ∷ ys) (grown xs x)
+
+begins_after : (before : HistoryOnTrack) (answer : Asked) → Begins before (after_answer before answer)
+begins_after before (Ok grant) = record { track = refl; opening = grown before.entries grant.receipt.entry }
+begins_after before (Err fault) = begins_itself before
+
+pub told_asked : (had has : Seated) (train : ℕ) (answer : Answer) (desk : Asked) → asked answer ≡ desk → IsAnsweredThen had.told has.told train desk
+    → IsTold had has (record { train = train; answer = answer })
+told_asked had has train answer desk is since = record {
+  history = since.before;
+  later = since.later;
+  told = subst (Begins since.before) (sym since.told) (begins_after since.before desk);
+  answered = subst (IsAnswered since.before train) (sym is) since.answered;
+}
+
+-- who had been told less, and who is told more
+pub told_wider : (first had has last : Seated) (outcome : Outcome) → Begins first.told had.told → Begins has.told last.told → IsTold had has outcome → IsTold first last outcome
+told_wider first had has last outcome less more t = record {
+  history = t.history;
+  later = later_after first.told had.told t.history less t.later;
+  told = begins_still t.history has.told last.told t.told more;
+  answered = t.answered;
+}
+
+pub all_through : {X : Type 0} (P Q : X → Type 0) (xs : List X) → ((x : X) → P x → Q x) → All P xs → All Q xs
+all_through P Q xs f h k d inside = f (get_or xs k d) (h k d inside)
 
 -- ---- one train more
 
-pub served_none : (opened : HistoryOnTrack) (v : Tally) (had : List Receipt) (done : List Done) → done ≡ [] → HasServed opened v had v had done
-served_none opened v had done none = subst (HasServed opened v had v had) (sym none) (record {
+pub served_none : (v : Tally) (had : Seated) (done : List Done) → done ≡ [] → HasServed v had v had done
+served_none v had done none = subst (HasServed v had v had) (sym none) (record {
   taken = λ i. record { parts = v.parts; put = v.put; taken = sym (append-nil v.taken) i };
-  gained = sym (append-nil had);
-  answered = All-nil (λ (d : Done). IsOutcome opened d.outcome);
+  gained = sym (append-nil had.receipts);
+  begins = begins_itself had.told;
+  told = All-nil (λ (d : Done). IsTold had had d.outcome);
 })
 
-pub served_more : (opened : HistoryOnTrack) (old : Tally) (had : List Receipt) (new next : Tally) (has gains : List Receipt) (done : List Done) (one : Done) (job : Job)
-    → HasServed opened old had new has done → next ≡ tally new.parts new.put (new.taken ++ job ∷ []) → job_of one ≡ job
-    → gains ≡ has ++ receipts_of one.outcome.answer → IsOutcome opened one.outcome → HasServed opened old had next gains (done ++ one ∷ [])
-served_more opened old had new next has gains done one job served took same gained answered = record {
+pub served_more : (old : Tally) (had : Seated) (new next : Tally) (has gains : Seated) (done : List Done) (one : Done) (job : Job)
+    → HasServed old had new has done → next ≡ tally new.parts new.put (new.taken ++ job ∷ []) → job_of one ≡ job
+    → gains.receipts ≡ has.receipts ++ receipts_of one.outcome.answer → IsLater has.told gains.told → IsTold has gains one.outcome
+    → HasServed old had next gains (done ++ one ∷ [])
+served_more old had new next has gains done one job served took same gained later told = record {
   taken = (
       let now : List Job → Tally = λ taken. tally old.parts old.put taken in
       let all : (old.taken ++ jobs done) ++ job ∷ [] ≡ old.taken ++ jobs (done ++ one ∷ []) =
@@ -60,8 +111,12 @@ served_more opened old had new next has gains done one job served took same gain
       let mine = receipts_of one.outcome.answer in
       let more : receipts_in (done ++ one ∷ []) ≡ receipts_in done ++ mine =
       flat_map-append (λ (d : Done). receipts_of d.outcome.answer) done (one ∷ []) ∙ ap (λ l. receipts_in done ++ l) (append-nil mine) in
-      gained ∙ ap (λ l. l ++ mine) served.gained ∙ append_assoc had (receipts_in done) mine ∙ ap (λ l. had ++ l) (sym more));
-  answered = All-push (λ (d : Done). IsOutcome opened d.outcome) done one served.answered answered;
+      gained ∙ ap (λ l. l ++ mine) served.gained ∙ append_assoc had.receipts (receipts_in done) mine ∙ ap (λ l. had.receipts ++ l) (sym more));
+  begins = begins_still had.told has.told gains.told served.begins (begins_later has.told gains.told later);
+  told = All-push (λ (d : Done). IsTold had gains d.outcome) done one
+      (all_through (λ (d : Done). IsTold had has d.outcome) (λ (d : Done). IsTold had gains d.outcome) done
+      (λ d t. told_wider had had has gains d.outcome (begins_itself had.told) (begins_later has.told gains.told later) t) served.told)
+      (told_wider had has gains gains one.outcome served.begins (begins_itself gains.told) told);
 }
 
 -- ---- room

@@ -6,15 +6,15 @@ pub use Rattle.rbc_desk.specs.Asking
 pub use Rattle.rbc_desk.specs.Candidates
 pub use Rattle.rbc_desk.specs.Closing
 pub use Rattle.rbc_desk.specs.CommitFault
-pub use Rattle.rbc_desk.specs.Desks
 pub use Rattle.rbc_desk.specs.Entering
 pub use Rattle.rbc_desk.specs.Forms
+pub use Rattle.rbc_desk.specs.Later
 pub use Rattle.rbc_desk.specs.Records
 pub use Rattle.rbc_desk.specs.SameViews
+pub use Rattle.rbc_desk.specs.Seats
 pub use Rattle.rbc_desk.specs.Steps
 pub use Rattle.rbc_desk.specs.Telling
 pub use Rattle.rbc_desk.specs.Trains
 pub use Rattle.rbc_desk.specs.declared.faults.AskFault
 pub use Rattle.rbc_desk.specs.declared.faults.CloseFault
 pub use Rattle.rbc_desk.specs.declared.granted.Granted
-pub use Rattle.rbc_desk.specs.limits

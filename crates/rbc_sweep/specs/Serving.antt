@@ -3,14 +3,14 @@ use Rattle.std.specs.Prelude.{◌≡◌, ℕ, ◌+◌, List, ◌++◌, All, IsPe
 use Rattle.std.specs.List.{AllZip}
 use Rattle.crossbeam_queue.specs.Passes.{Pass, view}
 use Rattle.rbc_model.specs.Histories.{Receipt}
-use Rattle.rbc_desk.specs.Records.{HistoryOnTrack}
+use Rattle.rbc_desk.specs.Seats.{Seated}
 use Rattle.rbc_desk.specs.Closing.{all_receipts}
 use Rattle.rbc_sweep.specs.declared.jobs.Job.{Job}
 use Rattle.rbc_sweep.specs.declared.jobs.Tally.{Tally}
 use Rattle.rbc_sweep.specs.declared.order.Done.{Done}
 use Rattle.rbc_sweep.specs.declared.outcome.Outcome.{Outcome}
 use Rattle.rbc_sweep.specs.Jobs.{tally}
-use Rattle.rbc_sweep.specs.Outcomes.{AreFirst, IsOutcome, receipts_of}
+use Rattle.rbc_sweep.specs.Outcomes.{AreFirst, Begins, IsTold, receipts_of}
 
 -- the job that was done
 abbrev pub job_of : Done → Job
@@ -31,10 +31,6 @@ jobs done = map job_of done
 abbrev pub receipts_in : List Done → List Receipt
 receipts_in done = flat_map (λ (d : Done). receipts_of d.outcome.answer) done
 
--- each outcome is what its train is answered
-abbrev pub AreAnswered : HistoryOnTrack → List Done → Type 0
-AreAnswered opened done = All (λ (d : Done). IsOutcome opened d.outcome) done
-
 -- what is in all lists, one behind the other
 abbrev pub all_of : {A : Type 0} → List (Vec Done A) → List Done
 all_of {A} lists = flat_map (λ (list : Vec Done A). list.items) lists
@@ -43,17 +39,18 @@ all_of {A} lists = flat_map (λ (list : Vec Done A). list.items) lists
 abbrev pub tally_of : Pass Job Tally → Tally
 tally_of pass = view pass
 
--- Who had this tally and these receipts has done this.
-pub record HasServed (opened : HistoryOnTrack) (old : Tally) (had : List Receipt) (new : Tally) (has : List Receipt) (done : List Done) : Type 0 where
+-- Who had this tally and this seat has done this.
+pub record HasServed (old : Tally) (had : Seated) (new : Tally) (has : Seated) (done : List Done) : Type 0 where
   pub taken : new ≡ tally old.parts old.put (old.taken ++ jobs done)
-  pub gained : has ≡ had ++ receipts_in done
-  pub answered : AreAnswered opened done
+  pub gained : has.receipts ≡ had.receipts ++ receipts_in done
+  pub begins : Begins had.told has.told
+  pub told : All (λ (d : Done). IsTold had has d.outcome) done
 
 -- what two passes know, put together
 abbrev pub joined : Tally → Tally → Tally
 joined v w = tally (v.parts + w.parts) (v.put ++ w.put) (v.taken ++ w.taken)
 
 -- The seats keep what they had, in their order, and have gained just these receipts.
-pub record HaveGained (had has : List (List Receipt)) (gained : List Receipt) : Type 0 where
+pub record HaveGained (had has : List Seated) (gained : List Receipt) : Type 0 where
   pub kept : AllZip AreFirst had has
   pub just : IsPermutation (all_receipts had ++ gained) (all_receipts has)

@@ -6,7 +6,8 @@ ghost use Rattle.std.specs.List.{AllZip};
 ghost use Rattle.crossbeam_queue.specs.Passes.{IsPassOf};
 ghost use Rattle.rbc_sweep.specs.Jobs.{tally, AreSameJobs};
 ghost use Rattle.rbc_sweep.specs.declared.worker.Worker.{Worker};
-ghost use Rattle.rbc_sweep.specs.Serving.{AreAnswered, HasServed, HaveGained, joined, jobs, receipts_in, tally_of};
+ghost use Rattle.rbc_sweep.specs.Outcomes.{IsToldToOne};
+ghost use Rattle.rbc_sweep.specs.Serving.{HasServed, HaveGained, joined, jobs, receipts_in, tally_of};
 
 use crate::jobs::{JobPass, Queue, join, part_of};
 use crate::order::Done;
@@ -57,7 +58,7 @@ fn serve_each<L: DeskName + Send + Sync, R: Threads + Wait + Sync, G: Gate + Syn
     requires { All (λ w. IsPassOf queue.now w.pass × (tally_of w.pass ≡ tally 1 [] []) × (w.done.items ≡ []))
         workers.old }
     ensures { (i : ℕ) (d : Worker L) → i < length workers.old → IsPassOf queue.now (slice_index_or workers.new i d).pass
-        × HasServed L.opened (tally 1 [] []) (slice_index_or workers.old i d).seat
+        × HasServed (tally 1 [] []) (slice_index_or workers.old i d).seat
         (tally_of (slice_index_or workers.new i d).pass) (slice_index_or workers.new i d).seat
         (slice_index_or workers.new i d).done.items }
 {
@@ -73,7 +74,7 @@ fn serve_each<L: DeskName + Send + Sync, R: Threads + Wait + Sync, G: Gate + Syn
             requires { IsPassOf queue.now worker.now.pass × (tally_of worker.now.pass ≡ tally 1 [] [])
                 × (worker.now.done.items ≡ []) }
             ensures { IsPassOf queue.entry.now worker.exit.now.pass
-                × HasServed L.opened (tally 1 [] []) worker.entry.now.seat (tally_of worker.exit.now.pass)
+                × HasServed (tally 1 [] []) worker.entry.now.seat (tally_of worker.exit.now.pass)
                 worker.exit.now.seat worker.exit.now.done.items }
         { serve(rt, alloc, queue, desk, gate, worker) },
     );
@@ -91,7 +92,7 @@ pub(crate) fn serve_all<L: DeskName + Send + Sync, R: Threads + Wait + Sync, G: 
     requires { All (λ w. IsPassOf queue.now w.pass × (tally_of w.pass ≡ tally 1 [] []) × (w.done.items ≡ []))
         workers.items }
     ensures passes { All (λ w. IsPassOf queue.now w.pass) result.items }
-    ensures served { AllZip (λ w v. HasServed L.opened (tally 1 [] []) w.seat (tally_of v.pass) v.seat v.done.items)
+    ensures served { AllZip (λ w v. HasServed (tally 1 [] []) w.seat (tally_of v.pass) v.seat v.done.items)
         workers.items result.items }
 {
     serve_each(rt, alloc, queue, desk, gate, workers.as_mut_slice());
@@ -140,7 +141,7 @@ pub(crate) fn finish<L: DeskName, R: Threads + Wait + Sync, G: Gate>(
     requires some { 0 < vec_len seats }
     requires empty { done.items ≡ [] }
     ensures gained { HaveGained seats.items result.0.items (receipts_in result.1.items) }
-    ensures answered { AreAnswered L.opened result.1.items }
+    ensures told { All (λ d. IsToldToOne seats.items result.0.items d.outcome) result.1.items }
     ensures settled { AreSameJobs (tally_of pass).put ((tally_of pass).taken ++ jobs result.1.items) }
     ensures room { vec_capacity done ≤ vec_capacity result.1 }
 {

@@ -1,10 +1,9 @@
 //! The sweep.
 
-ghost use Rattle.std.specs.Prelude.{◌≡◌, ◌<◌, ◌≤◌, ◌++◌, All, IfOk, IsPermutation, OnErr, length, map, vec_len};
+ghost use Rattle.std.specs.Prelude.{◌≡◌, ◌<◌, ◌≤◌, ◌++◌, [], All, IfOk, IsPermutation, OnErr, length, map, vec_len};
 ghost use Rattle.std.specs.List.{AllZip};
 ghost use Rattle.rbc_desk.specs.Closing.{all_receipts};
-ghost use Rattle.rbc_desk.specs.Trains.{AreTrainsOf};
-ghost use Rattle.rbc_sweep.specs.Outcomes.{AreFirst, IsOutcome, granted, train_of};
+ghost use Rattle.rbc_sweep.specs.Outcomes.{AreFirst, AreTrainsOfFirst, IsToldToOne, granted, receipts_each, train_of};
 ghost use Rattle.rbc_sweep.specs.Serving.{HaveGained};
 
 use crate::Outcome;
@@ -34,7 +33,7 @@ fn serve_list<L: DeskName + Send + Sync, R: Threads + Wait + Sync, G: Gate + Syn
     requires trains { room.train_count ≡ length trains.now }
     ensures gained { HaveGained seats.items result.0.items (granted result.1.items) }
     ensures trains { map train_of result.1.items ≡ trains.now }
-    ensures answered { All (IsOutcome L.opened) result.1.items }
+    ensures told { All (IsToldToOne seats.items result.0.items) result.1.items }
 {
     let Room {
         queue,
@@ -69,7 +68,7 @@ fn sweep_list<L: DeskName + Send + Sync, R: Threads + Wait + Sync, G: Gate + Syn
     requires few { vec_len seats ≤ 16 }
     ensures gained { IfOk result.1 (λ outcomes. HaveGained seats.items result.0.items (granted outcomes.items)) }
     ensures trains { IfOk result.1 (λ outcomes. map train_of outcomes.items ≡ trains.now) }
-    ensures answered { IfOk result.1 (λ outcomes. All (IsOutcome L.opened) outcomes.items) }
+    ensures told { IfOk result.1 (λ outcomes. All (IsToldToOne seats.items result.0.items) outcomes.items) }
     ensures refused { OnErr result.1 (result.0.items ≡ seats.items) }
 {
     if trains.is_empty() {
@@ -84,8 +83,28 @@ fn sweep_list<L: DeskName + Send + Sync, R: Threads + Wait + Sync, G: Gate + Syn
     }
 }
 
+/// The numbers of the desk's trains. The first of the seats is told the history that they are of.
+fn list_trains<L: DeskName, R: Wait>(
+    rt: &R,
+    alloc: Global,
+    desk: &Desk<L>,
+    mut seats: Vec<Seat<L>>,
+) -> (Vec<Seat<L>>, Result<Vec<u32>, Memory>)
+    requires { 0 < vec_len seats }
+    ensures gained { HaveGained seats.items result.0.items [] }
+    ensures count { vec_len result.0 ≡ vec_len seats }
+    ensures receipts { receipts_each result.0.items ≡ receipts_each seats.items }
+    ensures trains { IfOk result.1 (λ trains. AreTrainsOfFirst seats.items result.0.items trains.items) }
+{
+    let first = &mut seats[0];
+    let trains = desk.trains(rt, alloc, first);
+    (seats, trains)
+}
+
 /// Serves each train of the desk's scene once, by one worker for each of the 1 to 16 seats, and gives the seats back in
-/// their order. The outcomes stand in the trains' order of arrival.
+/// their order. The trains are those of a history that goes on from what the first seat had been told, and each outcome is
+/// that of a history that goes on from what one of the seats had been told. The outcomes stand in the trains' order of
+/// arrival.
 ///
 /// # Errors
 ///
@@ -100,13 +119,15 @@ pub fn sweep<L: DeskName + Send + Sync, R: Threads + Wait + Sync, G: Gate + Sync
 ) -> (Vec<Seat<L>>, Result<Vec<Outcome>, Memory>)
     requires { (1 ≤ vec_len seats) × (vec_len seats ≤ 16) }
     ensures seats { AllZip AreFirst seats.items result.0.items }
-    ensures trains { IfOk result.1 (λ outcomes. AreTrainsOf L.opened (map train_of outcomes.items)) }
-    ensures answered { IfOk result.1 (λ outcomes. All (IsOutcome L.opened) outcomes.items) }
+    ensures trains { IfOk result.1 (λ outcomes.
+        AreTrainsOfFirst seats.items result.0.items (map train_of outcomes.items)) }
+    ensures told { IfOk result.1 (λ outcomes. All (IsToldToOne seats.items result.0.items) outcomes.items) }
     ensures gained { IfOk result.1 (λ outcomes.
         IsPermutation (all_receipts seats.items ++ granted outcomes.items) (all_receipts result.0.items)) }
-    ensures refused { OnErr result.1 (result.0.items ≡ seats.items) }
+    ensures refused { OnErr result.1 (receipts_each result.0.items ≡ receipts_each seats.items) }
 {
-    match desk.trains(rt, alloc) {
+    let (seats, trains) = list_trains(rt, alloc, desk, seats);
+    match trains {
         Ok(trains) => sweep_list(rt, alloc, desk, gate, seats, trains.as_slice()),
         Err(fault) => (seats, Err(fault)),
     }

@@ -3,7 +3,8 @@
 ghost use Rattle.std.specs.Prelude.{◌≡◌, ◌<◌, ◌≤◌, ◌++◌, [], vec_capacity};
 ghost use Rattle.crossbeam_queue.specs.Passes.{IsPassOf};
 ghost use Rattle.rbc_sweep.specs.Jobs.{IsSettled};
-ghost use Rattle.rbc_sweep.specs.Outcomes.{IsOutcome, receipts_of};
+ghost use Rattle.rbc_desk.specs.Later.{IsLater};
+ghost use Rattle.rbc_sweep.specs.Outcomes.{IsTold, receipts_of};
 ghost use Rattle.rbc_sweep.specs.Serving.{HasServed, tally_of};
 
 use crate::jobs::{JobPass, Queue, take};
@@ -32,8 +33,9 @@ fn outcome<L: DeskName, R: Threads + Wait + Sync, G: Gate>(
     train: u32,
 ) -> Outcome
     ensures train { result.train ≡ train }
-    ensures receipts { seat.new ≡ seat.old ++ receipts_of result.answer }
-    ensures answered { IsOutcome L.opened result }
+    ensures receipts { seat.new.receipts ≡ seat.old.receipts ++ receipts_of result.answer }
+    ensures later { IsLater seat.old.told seat.new.told }
+    ensures told { IsTold seat.old seat.new result }
 {
     let answer = Answer::of(desk.ask(rt, alloc, seat, train, gate));
     Outcome { train, answer }
@@ -52,7 +54,7 @@ pub(crate) fn serve<L: DeskName, R: Threads + Wait + Sync, G: Gate>(
     requires part { 0 < (tally_of worker.old.pass).parts }
     requires empty { worker.old.done.items ≡ [] }
     ensures pass { IsPassOf queue.now worker.new.pass }
-    ensures served { HasServed L.opened (tally_of worker.old.pass) worker.old.seat (tally_of worker.new.pass)
+    ensures served { HasServed (tally_of worker.old.pass) worker.old.seat (tally_of worker.new.pass)
         worker.new.seat worker.new.done.items }
     ensures settled { (tally_of worker.old.pass).parts ≡ 1024 → IsSettled (tally_of worker.new.pass) }
     ensures room { vec_capacity worker.old.done ≤ vec_capacity worker.new.done }

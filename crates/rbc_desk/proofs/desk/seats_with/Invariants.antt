@@ -1,5 +1,10 @@
-use Rattle.std.proofs.Common.{◌≡◌, ◌+◌, [], replicate}
+use Rattle.std.proofs.Common.{◌≡◌, [], All, length, map}
+use Rattle.std.specs.Vec.Iter.{into_iter_items}
+use Rattle.rbc_snap.specs.Later.{IsLater}
+use Rattle.rbc_desk.specs.Seats.{seated}
 use Rattle.rbc_desk.proofs.desk.seats_with.Given as goal
 
-abbrev pub invariant-loop-seat : goal.invariant-loop-seat
-invariant-loop-seat g l = (l.all.parts + l._seat ≡ l.fn.all.parts) × (l.all.amount ≡ 0) × (l.seats.items ≡ replicate l._seat [])
+abbrev pub invariant-loop-eye : goal.invariant-loop-eye
+invariant-loop-eye g l =
+    (l.all.parts ≡ length (into_iter_items l.eye-iterator)) × (l.all.amount ≡ 0) × (l.seats.items ≡ map (λ eye. seated [] eye) l.yielded)
+    × All (λ eye. IsLater g.L.DeskName.opened eye) (into_iter_items l.eye-iterator)

@@ -1,8 +1,8 @@
 use Rattle.std.proofs.Common.{◌≡◌, ◌++◌, ℕ, List, ap, map, ◌∙◌}
 use Rattle.rbc_model.specs.Trains.{Train}
-use Rattle.rbc_record.specs.BookEntries.{number_on, on_track}
-use Rattle.rbc_record.specs.TrainsOnTracks.{TrainOnTrack}
-use Rattle.rbc_record.specs.ScenesOnTracks.{SceneOnTrack}
+use Rattle.rbc_snap.specs.BookEntries.{number_on, on_track}
+use Rattle.rbc_snap.specs.TrainsOnTracks.{TrainOnTrack}
+use Rattle.rbc_snap.specs.ScenesOnTracks.{SceneOnTrack}
 use Rattle.rbc_desk.proofs.TrainLemmas.{numbers_on}
 use Rattle.rbc_desk.proofs.shared.trains_of.Goals as goal
 

@@ -1,5 +1,5 @@
 use Rattle.std.proofs.Common.{◌≡◌, ◌++◌, map}
-use Rattle.rbc_record.specs.BookEntries.{number_on}
+use Rattle.rbc_snap.specs.BookEntries.{number_on}
 use Rattle.rbc_desk.specs.Trains.{numbers_of}
 use Rattle.rbc_desk.proofs.shared.trains_of.Given as goal
 

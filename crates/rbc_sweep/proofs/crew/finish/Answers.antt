@@ -1,9 +1,12 @@
-use Rattle.std.proofs.Common.{◌≡◌, ◌++◌, ◌∷◌, [], ap, subst, sym, ◌∙◌}
+use Rattle.std.proofs.Common.{All, ◌≡◌, ◌++◌, ◌∷◌, [], ap, subst, sym, ◌∙◌}
 use Rattle.std.specs.Option.{option_to_list}
 use Rattle.rbc_sweep.specs.declared.jobs.Tally.{Tally}
 use Rattle.rbc_sweep.specs.Jobs.{IsSettled}
 use Rattle.rbc_sweep.specs.Serving.{HaveGained, receipts_in}
-use Rattle.rbc_sweep.proofs.CrewLemmas.{HaveGained-last}
+use Rattle.rbc_sweep.specs.declared.order.Done.{Done}
+use Rattle.rbc_sweep.specs.Outcomes.{IsTold, IsToldToOne}
+use Rattle.rbc_sweep.proofs.CrewLemmas.{HaveGained-last, told_last}
+use Rattle.rbc_sweep.proofs.WorkLemmas.{all_through}
 use Rattle.rbc_sweep.proofs.crew.finish.Goals as goal
 
 pub returns-clause-gained : goal.returns-clause-gained
@@ -15,7 +18,19 @@ returns-clause-gained g c =
     let split : c.args.seats.items ≡ first ++ had ∷ [] = c.pop.ensures.items ∙ ap (λ o. first ++ option_to_list o) c.unwrap-seat.ensures in
     subst (λ seats. HaveGained seats c.push_reserved.new.self.items gained) (sym split)
     (subst (λ seats. HaveGained (first ++ had ∷ []) seats gained) (sym c.push_reserved.ensures.items)
-    (HaveGained-last first had has gained c.serve.ensures.served.gained))
+    (HaveGained-last first had has gained c.serve.ensures.served.gained c.serve.ensures.served.begins))
+
+pub returns-clause-told : goal.returns-clause-told
+returns-clause-told g c =
+    let first = c.pop.new.self.items in
+    let had = c.unwrap-seat.result in
+    let has = c.serve.new.worker.seat in
+    let done = c.serve.new.worker.done.items in
+    let split : c.args.seats.items ≡ first ++ had ∷ [] = c.pop.ensures.items ∙ ap (λ o. first ++ option_to_list o) c.unwrap-seat.ensures in
+    subst (λ seats. All (λ (d : Done). IsToldToOne seats c.push_reserved.new.self.items d.outcome) done) (sym split)
+    (subst (λ seats. All (λ (d : Done). IsToldToOne (first ++ had ∷ []) seats d.outcome) done) (sym c.push_reserved.ensures.items)
+    (all_through (λ (d : Done). IsTold had has d.outcome) (λ (d : Done). IsToldToOne (first ++ had ∷ []) (first ++ has ∷ []) d.outcome) done
+    (λ d t. told_last first had has d.outcome t) c.serve.ensures.served.told))
 
 pub returns-clause-settled : goal.returns-clause-settled
 returns-clause-settled g c =

@@ -7,7 +7,7 @@ use Rattle.rbc_sweep.specs.declared.worker.Worker.{Worker}
 use Rattle.rbc_sweep.specs.Jobs.{numbered, AreSameJobs}
 use Rattle.rbc_sweep.specs.Serving.{all_of, jobs, tally_of}
 use Rattle.rbc_sweep.proofs.CrewLemmas.{flat_map-map}
-use Rattle.rbc_sweep.proofs.SweepLemmas.{Gathered, gathered, outcomes_answered, same_count, same_jobs, seats_gained}
+use Rattle.rbc_sweep.proofs.SweepLemmas.{Gathered, gathered, outcomes_told, same_count, same_jobs, seats_gained}
 use Rattle.rbc_sweep.proofs.sweeping.serve_list.Goals as goal
 
 pub finish-seats-requires-clause-all : goal.finish-seats-requires-clause-all
@@ -20,8 +20,8 @@ finish-seats-requires-clause-all g c κs within =
     let lists : others ≡ flat_map done vs =
     ap (λ (l : List (Vec Done Global)). all_of l) c.gather-seats.ensures.lists
     ∙ flat_map-map (λ (l : Vec Done Global). l.items) (λ (w : Worker g.row.L.Denot). w.done) vs in
-    let crew : Gathered g.L.DeskName.opened c.args.trains.now c.args.seats.items c.gather-seats.result.0.items (tally_of c.gather-seats.new.pass) others =
-    gathered seat known done g.L.DeskName.opened c.args.trains.now c.args.seats.items c.gather-seats.result.0.items c.hire-workers.result.items vs others
+    let crew : Gathered c.args.trains.now c.args.seats.items c.gather-seats.result.0.items (tally_of c.gather-seats.new.pass) others =
+    gathered seat known done c.args.trains.now c.args.seats.items c.gather-seats.result.0.items c.hire-workers.result.items vs others
     (tally_of c.put_all.new.pass) (tally_of c.hire-workers.new.pass) (tally_of c.gather-seats.new.pass) c.args.seats.len
     c.serve_all-workers.ensures.served c.hire-workers.ensures.seats (sym c.args.seats.ok.0) c.requires.few c.put_all.ensures.all c.hire-workers.ensures.left
     c.gather-seats.ensures.joined c.gather-seats.ensures.seats lists in
@@ -37,8 +37,8 @@ finish-seats-requires-clause-some g c κs within =
     let lists : others ≡ flat_map done vs =
     ap (λ (l : List (Vec Done Global)). all_of l) c.gather-seats.ensures.lists
     ∙ flat_map-map (λ (l : Vec Done Global). l.items) (λ (w : Worker g.row.L.Denot). w.done) vs in
-    let crew : Gathered g.L.DeskName.opened c.args.trains.now c.args.seats.items c.gather-seats.result.0.items (tally_of c.gather-seats.new.pass) others =
-    gathered seat known done g.L.DeskName.opened c.args.trains.now c.args.seats.items c.gather-seats.result.0.items c.hire-workers.result.items vs others
+    let crew : Gathered c.args.trains.now c.args.seats.items c.gather-seats.result.0.items (tally_of c.gather-seats.new.pass) others =
+    gathered seat known done c.args.trains.now c.args.seats.items c.gather-seats.result.0.items c.hire-workers.result.items vs others
     (tally_of c.put_all.new.pass) (tally_of c.hire-workers.new.pass) (tally_of c.gather-seats.new.pass) c.args.seats.len
     c.serve_all-workers.ensures.served c.hire-workers.ensures.seats (sym c.args.seats.ok.0) c.requires.few c.put_all.ensures.all c.hire-workers.ensures.left
     c.gather-seats.ensures.joined c.gather-seats.ensures.seats lists in
@@ -54,8 +54,8 @@ put_together-done-requires g c =
     let lists : others ≡ flat_map done vs =
     ap (λ (l : List (Vec Done Global)). all_of l) c.gather-seats.ensures.lists
     ∙ flat_map-map (λ (l : Vec Done Global). l.items) (λ (w : Worker g.row.L.Denot). w.done) vs in
-    let crew : Gathered g.L.DeskName.opened c.args.trains.now c.args.seats.items c.gather-seats.result.0.items (tally_of c.gather-seats.new.pass) others =
-    gathered seat known done g.L.DeskName.opened c.args.trains.now c.args.seats.items c.gather-seats.result.0.items c.hire-workers.result.items vs others
+    let crew : Gathered c.args.trains.now c.args.seats.items c.gather-seats.result.0.items (tally_of c.gather-seats.new.pass) others =
+    gathered seat known done c.args.trains.now c.args.seats.items c.gather-seats.result.0.items c.hire-workers.result.items vs others
     (tally_of c.put_all.new.pass) (tally_of c.hire-workers.new.pass) (tally_of c.gather-seats.new.pass) c.args.seats.len
     c.serve_all-workers.ensures.served c.hire-workers.ensures.seats (sym c.args.seats.ok.0) c.requires.few c.put_all.ensures.all c.hire-workers.ensures.left
     c.gather-seats.ensures.joined c.gather-seats.ensures.seats lists in
@@ -75,8 +75,8 @@ in_order-requires-clause-room g c =
     let lists : others ≡ flat_map done vs =
     ap (λ (l : List (Vec Done Global)). all_of l) c.gather-seats.ensures.lists
     ∙ flat_map-map (λ (l : Vec Done Global). l.items) (λ (w : Worker g.row.L.Denot). w.done) vs in
-    let crew : Gathered g.L.DeskName.opened c.args.trains.now c.args.seats.items c.gather-seats.result.0.items (tally_of c.gather-seats.new.pass) others =
-    gathered seat known done g.L.DeskName.opened c.args.trains.now c.args.seats.items c.gather-seats.result.0.items c.hire-workers.result.items vs others
+    let crew : Gathered c.args.trains.now c.args.seats.items c.gather-seats.result.0.items (tally_of c.gather-seats.new.pass) others =
+    gathered seat known done c.args.trains.now c.args.seats.items c.gather-seats.result.0.items c.hire-workers.result.items vs others
     (tally_of c.put_all.new.pass) (tally_of c.hire-workers.new.pass) (tally_of c.gather-seats.new.pass) c.args.seats.len
     c.serve_all-workers.ensures.served c.hire-workers.ensures.seats (sym c.args.seats.ok.0) c.requires.few c.put_all.ensures.all c.hire-workers.ensures.left
     c.gather-seats.ensures.joined c.gather-seats.ensures.seats lists in
@@ -96,8 +96,8 @@ returns-clause-gained g c =
     let lists : others ≡ flat_map done vs =
     ap (λ (l : List (Vec Done Global)). all_of l) c.gather-seats.ensures.lists
     ∙ flat_map-map (λ (l : Vec Done Global). l.items) (λ (w : Worker g.row.L.Denot). w.done) vs in
-    let crew : Gathered g.L.DeskName.opened c.args.trains.now c.args.seats.items c.gather-seats.result.0.items (tally_of c.gather-seats.new.pass) others =
-    gathered seat known done g.L.DeskName.opened c.args.trains.now c.args.seats.items c.gather-seats.result.0.items c.hire-workers.result.items vs others
+    let crew : Gathered c.args.trains.now c.args.seats.items c.gather-seats.result.0.items (tally_of c.gather-seats.new.pass) others =
+    gathered seat known done c.args.trains.now c.args.seats.items c.gather-seats.result.0.items c.hire-workers.result.items vs others
     (tally_of c.put_all.new.pass) (tally_of c.hire-workers.new.pass) (tally_of c.gather-seats.new.pass) c.args.seats.len
     c.serve_all-workers.ensures.served c.hire-workers.ensures.seats (sym c.args.seats.ok.0) c.requires.few c.put_all.ensures.all c.hire-workers.ensures.left
     c.gather-seats.ensures.joined c.gather-seats.ensures.seats lists in
@@ -114,8 +114,8 @@ returns-clause-trains g c =
     let lists : others ≡ flat_map done vs =
     ap (λ (l : List (Vec Done Global)). all_of l) c.gather-seats.ensures.lists
     ∙ flat_map-map (λ (l : Vec Done Global). l.items) (λ (w : Worker g.row.L.Denot). w.done) vs in
-    let crew : Gathered g.L.DeskName.opened c.args.trains.now c.args.seats.items c.gather-seats.result.0.items (tally_of c.gather-seats.new.pass) others =
-    gathered seat known done g.L.DeskName.opened c.args.trains.now c.args.seats.items c.gather-seats.result.0.items c.hire-workers.result.items vs others
+    let crew : Gathered c.args.trains.now c.args.seats.items c.gather-seats.result.0.items (tally_of c.gather-seats.new.pass) others =
+    gathered seat known done c.args.trains.now c.args.seats.items c.gather-seats.result.0.items c.hire-workers.result.items vs others
     (tally_of c.put_all.new.pass) (tally_of c.hire-workers.new.pass) (tally_of c.gather-seats.new.pass) c.args.seats.len
     c.serve_all-workers.ensures.served c.hire-workers.ensures.seats (sym c.args.seats.ok.0) c.requires.few c.put_all.ensures.all c.hire-workers.ensures.left
     c.gather-seats.ensures.joined c.gather-seats.ensures.seats lists in
@@ -125,8 +125,8 @@ returns-clause-trains g c =
     c.in_order.ensures.trains c.args.trains.now
     (subst (λ (l : List Done). AreSameJobs (numbered 0 c.args.trains.now) (jobs l)) (sym c.put_together-done.ensures) same)
 
-pub returns-clause-answered : goal.returns-clause-answered
-returns-clause-answered g c =
+pub returns-clause-told : goal.returns-clause-told
+returns-clause-told g c =
     let seat = λ (w : Worker g.row.L.Denot). w.seat in
     let known = λ (w : Worker g.row.L.Denot). tally_of w.pass in
     let done = λ (w : Worker g.row.L.Denot). w.done.items in
@@ -135,10 +135,10 @@ returns-clause-answered g c =
     let lists : others ≡ flat_map done vs =
     ap (λ (l : List (Vec Done Global)). all_of l) c.gather-seats.ensures.lists
     ∙ flat_map-map (λ (l : Vec Done Global). l.items) (λ (w : Worker g.row.L.Denot). w.done) vs in
-    let crew : Gathered g.L.DeskName.opened c.args.trains.now c.args.seats.items c.gather-seats.result.0.items (tally_of c.gather-seats.new.pass) others =
-    gathered seat known done g.L.DeskName.opened c.args.trains.now c.args.seats.items c.gather-seats.result.0.items c.hire-workers.result.items vs others
+    let crew : Gathered c.args.trains.now c.args.seats.items c.gather-seats.result.0.items (tally_of c.gather-seats.new.pass) others =
+    gathered seat known done c.args.trains.now c.args.seats.items c.gather-seats.result.0.items c.hire-workers.result.items vs others
     (tally_of c.put_all.new.pass) (tally_of c.hire-workers.new.pass) (tally_of c.gather-seats.new.pass) c.args.seats.len
     c.serve_all-workers.ensures.served c.hire-workers.ensures.seats (sym c.args.seats.ok.0) c.requires.few c.put_all.ensures.all c.hire-workers.ensures.left
     c.gather-seats.ensures.joined c.gather-seats.ensures.seats lists in
-    outcomes_answered g.L.DeskName.opened c.finish-seats.result.1.items others c.put_together-done.result.items c.in_order.result.items
-    c.finish-seats.ensures.answered crew.answered c.put_together-done.ensures c.in_order.ensures.permutation
+    outcomes_told c.args.seats.items c.gather-seats.result.0.items c.finish-seats.result.0.items _ _ c.finish-seats.result.1.items others c.put_together-done.result.items c.in_order.result.items
+    crew.gained c.finish-seats.ensures.gained c.finish-seats.ensures.told crew.told c.put_together-done.ensures c.in_order.ensures.permutation

@@ -12,7 +12,6 @@ push_reserved-requires g c =
 
 pub loop-preserved : goal.loop-preserved
 loop-preserved g c =
-    let opened = g.L.DeskName.opened in
     let old = tally_of c.args.worker.now.pass in
     let had = c.args.worker.now.seat in
     let job = c.in-Some-take.job in
@@ -22,8 +21,8 @@ loop-preserved g c =
     let same : job_of one ≡ job = λ i. record { place = job.place; train = c.outcome-outcome.ensures.train i } in
     record {
       pass = c.take.ensures.pass;
-      served = subst (λ (done : List Done). HasServed opened old had (tally_of c.take.new.pass) c.outcome-outcome.new.seat done) (sym items)
-          (served_more opened old had (tally_of c.loop.pass) (tally_of c.take.new.pass) c.loop.seat c.outcome-outcome.new.seat c.loop.done.items one job
-          c.loop.invariant.served c.in-Some-take.ensures.taken same c.outcome-outcome.ensures.receipts c.outcome-outcome.ensures.answered);
+      served = subst (λ (done : List Done). HasServed old had (tally_of c.take.new.pass) c.outcome-outcome.new.seat done) (sym items)
+          (served_more old had (tally_of c.loop.pass) (tally_of c.take.new.pass) c.loop.seat c.outcome-outcome.new.seat c.loop.done.items one job
+          c.loop.invariant.served c.in-Some-take.ensures.taken same c.outcome-outcome.ensures.receipts c.outcome-outcome.ensures.later c.outcome-outcome.ensures.told);
       room = omega arith;
     }

@@ -6,6 +6,6 @@ use Rattle.rbc_sweep.proofs.worker.serve.Given as goal
 abbrev pub invariant-loop : goal.invariant-loop
 invariant-loop g l = record {
   pass : IsPassOf l.queue l.pass;
-  served : HasServed g.L.DeskName.opened (tally_of l.initial.pass) l.initial.seat (tally_of l.pass) l.seat l.done.items;
+  served : HasServed (tally_of l.initial.pass) l.initial.seat (tally_of l.pass) l.seat l.done.items;
   room : vec_capacity l.initial.done ≤ vec_capacity l.done;
 }

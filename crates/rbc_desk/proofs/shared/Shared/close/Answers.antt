@@ -1,4 +1,7 @@
-use Rattle.std.proofs.Common.{◌≡◌, ◌+◌, [], length, subst, arith}
+use Rattle.std.proofs.Common.{◌≡◌, ◌+◌, [], All, length, subst, arith}
+use Rattle.rbc_snap.specs.Records.{HistoryOnTrack}
+use Rattle.rbc_snap.specs.Later.{IsLater}
+use Rattle.rbc_desk.specs.Seats.{Seated}
 use Rattle.rbc_desk.specs.Closing.{all_receipts, AreAtPlaces, IsFirstMisplaced}
 use Rattle.rbc_desk.proofs.ClosingLemmas.{goes_on, matches}
 use Rattle.rbc_desk.proofs.shared.Shared.close.Goals as goal
@@ -24,3 +27,7 @@ returns-in-Some-clause-unmatched g c =
       subst (λ begun. IsFirstMisplaced log.entries begun [] receipts c.in-Some.receipt) c.args.self.starts
           (subst (λ seats. IsFirstMisplaced log.entries start [] (all_receipts seats) c.in-Some.receipt) c.as_slice.ensures.value c.in-Some.ensures),
     )
+
+pub returns-in-None-clause-told : goal.returns-in-None-clause-told
+returns-in-None-clause-told g c =
+    subst (λ (h : HistoryOnTrack). All (λ (seat : Seated). IsLater seat.told h) c.args.seats.items) c.args.self.published c.merge_all.ensures.told

@@ -1,17 +1,28 @@
-use Rattle.std.proofs.Common.{rules, IfErr, IsTrue, is_err, ap, ◌∙◌, subst, Ok}
+use Rattle.std.proofs.Common.{ap, sym, subst, ◌∙◌}
 use Rattle.rbc_model.specs.Views.{View}
-use Rattle.rbc_desk.specs.Asking.{IsRefused, IsAnsweredAt}
-use Rattle.rbc_desk.proofs.AskingLemmas.{refused_at}
+use Rattle.rbc_snap.specs.Later.{IsLater}
+use Rattle.rbc_snap.proofs.LaterLemmas.{later_still}
+use Rattle.rbc_desk.proofs.AskingLemmas.{since_asked}
 use Rattle.rbc_desk.proofs.shared.Shared.grant.Goals as goal
 
-pub returns-in_err-granted-clause-answered : goal.returns-in_err-granted-clause-answered
-returns-in_err-granted-clause-answered g c =
-    let answer = c.from_residual-in_err-granted.result in
-    let refused : IfErr answer (IsRefused c.args.self.now.log c.args.train) = search rules in
-    let failed : IsTrue (is_err answer) = search rules in
-    refused_at g.L.DeskName.opened c.args.self.now.log c.args.train answer c.is_of_desk.ensures failed refused
+pub returns-in-Err-clause-later : goal.returns-in-Err-clause-later
+returns-in-Err-clause-later g c =
+    let told = subst (IsLater c.args.seat.now.told) (sym c.bring.ensures.told) c.bring.ensures.later in
+    later_still c.args.seat.now.told c.bring.new.seat.told c.commit.new.seat.told told c.commit.ensures.later
 
-pub returns-clause-answered : goal.returns-clause-answered
-returns-clause-answered g c =
+pub returns-in-Err-clause-answered : goal.returns-in-Err-clause-answered
+returns-in-Err-clause-answered g c =
+    let told = subst (IsLater c.args.seat.now.told) (sym c.bring.ensures.told) c.bring.ensures.later in
     let train = ap (λ (v : View). v.train) c.in_ok-candidate.ensures.view ∙ c.in_ok-view.ensures.train in
-    subst (λ n. IsAnsweredAt g.L.DeskName.opened n (Ok c.in-Some.granted)) train (rw c.in-Some.is at c.in_ok-granted.ensures.answered)
+    since_asked c.args.seat.now.told c.bring.new.seat.told c.commit.new.seat.told c.in_ok-candidate.candidate.view.train c.args.train _ told train c.in-Err.ensures.denied
+
+pub returns-in-Ok-Some-clause-later : goal.returns-in-Ok-Some-clause-later
+returns-in-Ok-Some-clause-later g c =
+    let told = subst (IsLater c.args.seat.now.told) (sym c.bring.ensures.told) c.bring.ensures.later in
+    later_still c.args.seat.now.told c.bring.new.seat.told c.commit.new.seat.told told c.commit.ensures.later
+
+pub returns-in-Ok-Some-clause-answered : goal.returns-in-Ok-Some-clause-answered
+returns-in-Ok-Some-clause-answered g c =
+    let told = subst (IsLater c.args.seat.now.told) (sym c.bring.ensures.told) c.bring.ensures.later in
+    let train = ap (λ (v : View). v.train) c.in_ok-candidate.ensures.view ∙ c.in_ok-view.ensures.train in
+    since_asked c.args.seat.now.told c.bring.new.seat.told c.commit.new.seat.told c.in_ok-candidate.candidate.view.train c.args.train _ told train (rw c.in-Ok-Some.field-0-is at c.in-Ok-Some.ensures.answered)

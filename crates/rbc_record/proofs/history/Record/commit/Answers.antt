@@ -13,7 +13,7 @@ kept : (c : After-append) → IsKept c.grant.new.self (map entry_of c.append.new
 kept c =
     kept_after_granted c.self.inside.scene c.grant.new.self c.self.inside.entries.items c.append.new.entries.items c.args.self.now c.self.view_is c.self.invariant
     (sym c.is_full.ensures.full ∙ c.if-is_full.false) c.in-Ok.ensures.granted.1 c.args.candidate.now.view c.args.candidate.now.grant c.view.ensures.best
-    (ap (is_shown c.args.self.now) (sym c.view.ensures.view) ∙ sym c.in_ok-shows.ensures ∙ c.if-not-branch.false)
+    (ap (is_shown c.args.self.now) (sym c.view.ensures.view) ∙ sym c.in_ok-shows.ensures.shown ∙ c.if-not-branch.false)
     c.train.result c.end.result c.train.ensures (c.end.ensures.end ∙ ap (λ (a : Authority). a.end) c.authority.ensures.authority)
     (c.append.ensures.items ∙ (λ i. c.reserve.ensures.items i ++ Granted (c.of.ensures i) ∷ [])) c.in-Ok.ensures.granted.0
 
@@ -25,11 +25,11 @@ returns-in-Ok-clause-best c = best_of_kept c.grant.new.self (map entry_of c.appe
 
 pub returns-in-Ok-clause-shown : goal.returns-in-Ok-clause-shown
 returns-in-Ok-clause-shown c =
-    view_shown c.args.self.now c.args.candidate.now.view (ap (is_shown c.args.self.now) (sym c.view.ensures.view) ∙ sym c.in_ok-shows.ensures ∙ c.if-not-branch.false)
+    view_shown c.args.self.now c.args.candidate.now.view (ap (is_shown c.args.self.now) (sym c.view.ensures.view) ∙ sym c.in_ok-shows.ensures.shown ∙ c.if-not-branch.false)
 
 pub unreachable-requires : goal.unreachable-requires
 unreachable-requires c =
     never_refused c.self.inside.scene (map entry_of c.self.inside.entries.items) c.args.self.now c.self.view_is c.self.invariant c.args.candidate.now.view c.args.candidate.now.grant
-    c.view.ensures.best (ap (is_shown c.args.self.now) (sym c.view.ensures.view) ∙ sym c.in_ok-shows.ensures ∙ c.if-not-branch.false) c.train.result c.end.result c.train.ensures
+    c.view.ensures.best (ap (is_shown c.args.self.now) (sym c.view.ensures.view) ∙ sym c.in_ok-shows.ensures.shown ∙ c.if-not-branch.false) c.train.result c.end.result c.train.ensures
     (c.end.ensures.end ∙ ap (λ (a : Authority). a.end) c.authority.ensures.authority) c.in-Err-Refused.field-0 c.in-Err-Refused.field-0-0 c.in-Err-Refused.field-0-is
     c.in-Err-Refused.ensures.granted.0

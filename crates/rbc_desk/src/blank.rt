@@ -1,0 +1,26 @@
+//! What a desk is opened with.
+
+ghost use Rattle.std.specs.Prelude.{◌≡◌};
+
+use rbc_snap::Journal;
+use std::sync::ledger;
+
+/// A ledger and a history that no desk stands for yet. It takes no memory.
+pub struct Blank {
+    /// The ledger, which counts what is entered.
+    pub ledger: ledger::Blank,
+    /// The history, in which nothing stands yet.
+    pub journal: Journal,
+}
+
+impl Blank {
+    /// For a desk with so many seats.
+    pub fn new(seats: usize) -> Blank
+        ensures { result.ledger.parts ≡ seats }
+    {
+        Blank {
+            ledger: ledger::Blank::new(seats as u64),
+            journal: Journal::new(),
+        }
+    }
+}

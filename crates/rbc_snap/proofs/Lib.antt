@@ -1,0 +1,5 @@
+mod BeginningLemmas
+pub mod LaterLemmas
+mod MomentLemmas
+mod AddingLemmas
+mod StepLemmas

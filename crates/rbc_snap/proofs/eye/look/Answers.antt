@@ -1,0 +1,17 @@
+use Rattle.std.proofs.Common.{subst, sym}
+use Rattle.rbc_snap.specs.Later.{IsLater}
+use Rattle.rbc_snap.specs.Sights.{SeenOf}
+use Rattle.rbc_snap.proofs.LaterLemmas.{later_itself}
+use Rattle.rbc_snap.proofs.eye.look.Goals as goal
+
+pub returns-in_default-clause-later : goal.returns-in_default-clause-later
+returns-in_default-clause-later c =
+    subst (λ (s : SeenOf). IsLater c.args.told.now.history s.history) (sym c.again.ensures) (later_itself c.args.told.now.history c.version-legal.ensures.legal)
+
+pub returns-then-is_behind-clause-later : goal.returns-then-is_behind-clause-later
+returns-then-is_behind-clause-later c =
+    subst (λ (s : SeenOf). IsLater c.args.told.now.history s.history) (sym c.again-then-is_behind.ensures) (later_itself c.args.told.now.history c.version-legal.ensures.legal)
+
+pub returns-in-Err-Memory-clause-later : goal.returns-in-Err-Memory-clause-later
+returns-in-Err-Memory-clause-later c =
+    subst (λ (s : SeenOf). IsLater c.args.told.now.history s.history) (sym c.again-in-Err-Memory.ensures) (later_itself c.args.told.now.history c.version-legal.ensures.legal)

@@ -1,0 +1,17 @@
+pub mod Later
+pub mod Sights
+pub mod Journals
+pub mod Knowing
+pub mod Looks
+pub use Rattle.rbc_record.specs.BookEntries
+pub use Rattle.rbc_record.specs.Candidates
+pub use Rattle.rbc_record.specs.Entering
+pub use Rattle.rbc_record.specs.Entries
+pub use Rattle.rbc_record.specs.Forms
+pub use Rattle.rbc_record.specs.Records
+pub use Rattle.rbc_record.specs.SameViews
+pub use Rattle.rbc_record.specs.ScenesOnTracks
+pub use Rattle.rbc_record.specs.Steps
+pub use Rattle.rbc_record.specs.TrainsOnTracks
+pub use Rattle.rbc_record.specs.declared.faults.ApplyFault
+pub use Rattle.rbc_record.specs.declared.faults.CommitFault

@@ -1,0 +1,183 @@
+//! A reader's end, which stands in a seat.
+
+ghost use Rattle.std.specs.Prelude.{◌≡◌, ◌≤◌, length, Ok};
+ghost use Rattle.left_right.specs.Sides.{view as known_to};
+ghost use Rattle.rbc_model.specs.Histories.{IsLegal};
+ghost use Rattle.rbc_snap.specs.Knowing.{knower};
+ghost use Rattle.rbc_snap.specs.Later.{IsLater};
+ghost use Rattle.rbc_snap.specs.Looks.{IsSeenIn};
+
+use crate::rule::{Known, OneHistory, Sees};
+use crate::{EyeFault, HistoryName, Published, Sight};
+use core::mem::replace_with;
+use left_right::reader::{Reader, Reading};
+use rbc_model::OrMemory;
+use rbc_record::{View, view};
+use std::alloc::Global;
+use std::marker::{Model, PhantomData};
+use std::sync::Wait;
+
+pub(crate) type End = Reader<Published, Known, OneHistory>;
+
+type Seeing = Reading<Published, Known, OneHistory>;
+
+/// An eye, through which a seat views the published scene. Contracts see it as what its seat was told.
+#[derive(Drop)]
+pub struct Eye<J: HistoryName> {
+    reader: End,
+    told: Sight,
+    of: PhantomData<J>,
+}
+
+impl<J: HistoryName> Model for Eye<J> {
+    ghost use Rattle.std.specs.Prelude.{◌≡◌};
+    ghost use Rattle.rbc_record.specs.Records.{HistoryOnTrack};
+    ghost use Rattle.rbc_snap.specs.Knowing.{knower};
+
+    ghost Value = { HistoryOnTrack };
+
+    ghost view = { λ e. e.told.history };
+
+    ghost invariant = { λ e. (e.reader.place.me.0.client ≡ knower J.book) × (e.told.book ≡ J.book) };
+}
+
+/// What a look answers, and what is told by it.
+struct Answered {
+    answer: Result<(View, u64), OrMemory<EyeFault>>,
+    told: Sight,
+}
+
+/// The view of a train in what is published, if that is not behind what was told.
+fn look(shown: &Published, told: &Sight, alloc: Global, train: u32) -> Answered
+    requires { shown.now.sight.book ≡ told.now.book }
+    ensures book { result.told.book ≡ told.now.book }
+    ensures later { IsLater told.now.history result.told.history }
+    ensures seen { IsSeenIn told.now.history result.told.history train result.answer }
+{
+    let _legal = told.version();
+    let version = shown.sight.version();
+    let Some(scene) = &shown.scene else {
+        return Answered {
+            answer: Err(OrMemory::Refused(EyeFault::Behind(version))),
+            told: told.again(),
+        };
+    };
+    if shown.sight.is_behind(told) {
+        return Answered {
+            answer: Err(OrMemory::Refused(EyeFault::Behind(version))),
+            told: told.again(),
+        };
+    }
+    match view(alloc, scene, train) {
+        Ok(view) => Answered {
+            answer: Ok((view, version)),
+            told: shown.sight.again(),
+        },
+        Err(OrMemory::Refused(fault)) => Answered {
+            answer: Err(OrMemory::Refused(EyeFault::Unshown(fault, version))),
+            told: shown.sight.again(),
+        },
+        Err(OrMemory::Memory) => Answered {
+            answer: Err(OrMemory::Memory),
+            told: told.again(),
+        },
+    }
+}
+
+/// A reader finds nothing published only where the press is gone.
+fn enter<J: HistoryName, R: Wait>(rt: &R, mut reader: End) -> Seeing
+    requires { known_to reader.place ≡ knower J.book }
+    ensures place { known_to result.place ≡ knower J.book }
+    ensures book { result.part.value.sight.book ≡ J.book }
+{
+    for _ in rt.forever() {
+        match reader.enter_as::<Sees>() {
+            Ok(reading) => return reading,
+            Err(back) => reader = back,
+        }
+    }
+    unreachable!()
+}
+
+fn enter_and_look<J: HistoryName, R: Wait>(
+    rt: &R,
+    reader: End,
+    told: &Sight,
+    alloc: Global,
+    train: u32,
+) -> (End, Answered)
+    requires place { known_to reader.place ≡ knower J.book }
+    requires told { told.now.book ≡ J.book }
+    ensures place { known_to result.0.place ≡ knower J.book }
+    ensures book { result.1.told.book ≡ J.book }
+    ensures later { IsLater told.now.history result.1.told.history }
+    ensures seen { IsSeenIn told.now.history result.1.told.history train result.1.answer }
+{
+    let reading = enter::<J, R>(rt, reader);
+    let seen = look(reading.get(), told, alloc, train);
+    (reading.leave(), seen)
+}
+
+impl<J: HistoryName> Eye<J> {
+    /// An eye over a reader, whose seat was told this.
+    pub(crate) fn over(reader: End, told: Sight) -> Eye<J>
+        requires knows { known_to reader.place ≡ knower J.book }
+        requires told { told.book ≡ J.book }
+        ensures { result ≡ told.history }
+    {
+        Eye {
+            reader,
+            told,
+            of: PhantomData,
+        }
+    }
+
+    /// The view of a train in the published scene, with its version. The seat is told all that the scene stands for.
+    ///
+    /// # Errors
+    ///
+    /// `Refused` with the first of these:
+    /// - `Behind` with the published version, where it is below what the seat was told, or the published copy has no
+    ///   scene,
+    /// - `Unshown` with why the train is shown no end, and the version.
+    ///
+    /// `Memory` may come in place of `Unshown`.
+    pub fn view<R: Wait>(
+        &mut self,
+        rt: &R,
+        alloc: Global,
+        train: u32,
+    ) -> Result<(View, u64), OrMemory<EyeFault>>
+        ensures later { IsLater self.old self.new }
+        ensures seen { IsSeenIn self.old self.new train result }
+    {
+        let Eye { reader, told, .. } = self;
+        let now: &Sight = told;
+        let look = replace_with(reader, (rt, now, alloc, train), |reader, x| {
+            enter_and_look::<J, R>(x.0, reader, x.1, x.2, x.3)
+        });
+        let Answered { answer, told: then } = look;
+        *told = then;
+        answer
+    }
+
+    /// Takes in what the press told.
+    pub fn learn(&mut self, token: Sight)
+        requires { token.book ≡ J.book }
+        ensures later { IsLater self.old self.new }
+        ensures told { length self.old.entries ≤ length token.history.entries → self.new ≡ token.history }
+    {
+        let _legal = self.told.version();
+        if !token.is_behind(&self.told) {
+            self.told = token;
+        }
+    }
+
+    /// How many entries its seat was told.
+    pub fn version(&self) -> u64
+        ensures count { result ≡ length self.now.entries }
+        ensures legal { IsLegal self.now.track self.now.entries }
+    {
+        self.told.version()
+    }
+}

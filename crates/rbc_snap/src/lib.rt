@@ -1,0 +1,27 @@
+//! Published scenes: a press shows finished scenes of a record, and eyes view trains in them without a lock. What is seen
+//! goes on from all that was told before.
+#![tactic(auto)]
+
+mod eye;
+mod faults;
+mod journal;
+mod law;
+mod name;
+mod press;
+mod published;
+mod rule;
+mod sight;
+
+pub use eye::Eye;
+pub use faults::EyeFault;
+pub use journal::Journal;
+pub use law::Law;
+pub use name::HistoryName;
+pub use press::Press;
+pub use published::{Issue, Published};
+pub use rbc_model::{Memory, OrMemory, ViewFault};
+pub use rbc_record::{
+    ApplyFault, Candidate, CommitFault, Entry, Receipt, Record, Scene, Train, View, candidate,
+};
+pub use rule::{Known, Names, OneHistory, Plants, Sees};
+pub use sight::Sight;

@@ -1,0 +1,90 @@
+//! What was seen of a history.
+
+ghost use Rattle.std.specs.Prelude.{◌≡◌, ◌<◌, ◌∷◌, [], length, MatchBool};
+ghost use Rattle.rbc_model.specs.Histories.{IsLegal};
+ghost use Rattle.rbc_snap.specs.Journals.{head_of};
+ghost use Rattle.rbc_snap.specs.Later.{IsLater};
+ghost use Rattle.rbc_snap.specs.Sights.{seen_of};
+
+use crate::journal::{Glimpse, Head, add};
+use rbc_record::Record;
+use std::marker::Model;
+
+/// A moment of a history that was seen. Contracts see it as which history it is, and all that was entered up to then.
+#[derive(Drop)]
+pub struct Sight {
+    count: u64,
+    version: u64,
+    seen: Glimpse,
+}
+
+impl Model for Sight {
+    ghost use Rattle.std.specs.Prelude.{◌≡◌, length};
+    ghost use Rattle.rbc_snap.specs.Sights.{SeenOf, seen_of, latest, AreMoments};
+
+    ghost Value = { SeenOf };
+
+    ghost view = { λ s. seen_of s.seen.book (latest s.seen.log) };
+
+    ghost invariant = { λ s. (s.count ≡ length s.seen.log) × (s.version ≡ length (latest s.seen.log).entries) × AreMoments s.seen.log };
+}
+
+impl Sight {
+    /// The first moment.
+    pub(crate) fn first(seen: Glimpse, log: &Record) -> Sight
+        requires { seen.log ≡ log.now ∷ [] }
+        ensures { result ≡ seen_of seen.book log.now }
+    {
+        Sight {
+            count: 1,
+            version: log.version(),
+            seen,
+        }
+    }
+
+    /// The same once more.
+    pub fn again(&self) -> Sight
+        ensures { result ≡ self.now }
+    {
+        Sight {
+            count: self.count,
+            version: self.version,
+            seen: self.seen.again(),
+        }
+    }
+
+    /// How many entries it has.
+    pub fn version(&self) -> u64
+        ensures count { result ≡ length self.now.history.entries }
+        ensures legal { IsLegal self.now.history.track self.now.history.entries }
+    {
+        self.version
+    }
+
+    /// Whether it has fewer entries than the other. If not, it goes on from the other.
+    pub fn is_behind(&self, other: &Sight) -> bool
+        requires { other.now.book ≡ self.now.book }
+        ensures { MatchBool result
+            (length self.now.history.entries < length other.now.history.entries)
+            (IsLater other.now.history self.now.history) }
+    {
+        let mut both = self.seen.again();
+        both.learn(&other.seen);
+        self.version < other.version
+    }
+
+    /// Goes on to the record, as the next moment. False where there are other moments.
+    pub(crate) fn grow(&mut self, head: &Head, log: &Record) -> bool
+        requires head { head.now ≡ head_of self.old.book }
+        requires later { IsLater self.old.history log.now }
+        ensures { MatchBool result (self.new ≡ seen_of self.old.book log.now) (self.new ≡ self.old) }
+    {
+        let Some(seen) = add(head, &self.seen, self.count, log) else {
+            return false;
+        };
+        self.count += 1;
+        self.version = log.version();
+        self.seen = seen;
+        true
+    }
+}
