@@ -1,3 +1,4 @@
 mod CertifyingLemmas
 mod LayoutLemmas
 mod OverlongLemmas
+mod StepsAnsweredLemmas

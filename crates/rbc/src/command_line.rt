@@ -41,6 +41,7 @@ Requests, one a line:
   lock R                                   Route R is locked
   free S                                   Section S is freed
   leave T                                  Train T leaves
+  yield T END                              Train T gives back its authority from END m past its group on
   ask T                                    Train T asks for an authority";
 
 /// Reads the command line, whose first word is the program's name. A line that asks for help is an error whose exit

@@ -7,7 +7,7 @@ ghost use Rattle.rbc.specs.Listening.{listening_line};
 use crate::command_line::Service;
 use crate::failure::Failure;
 use rbc_model::Memory;
-use rbc_server::{Desk, DeskName, Record};
+use rbc_server::{Blank, Desk, DeskName, Record};
 use rbc_streams::{Sink, WriteFailed, put};
 use rbc_track::Track;
 use rbc_words::print_number;
@@ -15,7 +15,6 @@ use std::alloc::Global;
 use std::io::{Read, Write};
 use std::marker::Brand;
 use std::net::OpenListener;
-use std::sync::ledger::Blank;
 use std::sync::{Arc, Wait};
 use std::thread::Threads;
 
@@ -67,7 +66,7 @@ pub(crate) fn serve<
     let lent = Arc::try_clone(&track).map_err(Memory::from)?;
     let log = Record::new(alloc, track)?;
     let seats = service.connections + service.workers;
-    let blank = Blank::new(seats as u64);
+    let blank = Blank::new(seats);
     open::<Brand, S, N, W, T>(
         rt,
         alloc,
@@ -102,14 +101,15 @@ fn open<
     requires going { W.failed writer.old ≡ false }
     requires track { track.now ≡ log.track }
     requires opened { log ≡ L.opened }
-    requires name { blank.name ≡ L.name }
-    requires parts { blank.parts ≡ L.parts }
+    requires name { blank.ledger.name ≡ L.name }
+    requires parts { blank.ledger.parts ≡ L.parts }
+    requires book { blank.journal ≡ L.book }
     requires one_each { seats ≡ L.parts }
     requires some { 1 ≤ connections }
     requires workers { connections < seats }
     requires few { seats ≤ 16 }
 {
-    let (desk, seats) = Desk::<L>::new(alloc, log, seats, blank)?;
+    let (desk, seats) = Desk::<L>::new(rt, alloc, log, seats, blank)?;
     rbc_server::serve(rt, alloc, listener, track, desk, seats, connections, writer)?;
     Ok(())
 }

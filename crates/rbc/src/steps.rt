@@ -5,6 +5,7 @@ ghost use Rattle.std.specs.Io.KnownBytes.{Consumes, IsAtEnd};
 ghost use Rattle.rbc_model.specs.declared.places.Format.TheVariants.{Near};
 ghost use Rattle.rbc_model.specs.StepsReply.{AnswersLine};
 ghost use Rattle.rbc_model.specs.Talks.{IsTalk, EachByItself};
+ghost use Rattle.rbc.specs.Answered.{AnswersAllSteps};
 
 use crate::answers::reply_to;
 use rbc_checks::{Answers, converse};
@@ -83,6 +84,9 @@ pub fn steps<R: Source, W: Sink>(
     // What was written answers the lines of what was read.
     ensures talk { (input : List ℕ) × Consumes (R.left reader.old) (R.left reader.new) input
         × IsTalk LONGEST_LINE (EachByItself (AnswersLine Near)) tt tt input (W.written writer.old) (W.written writer.new) result }
+
+    // At the end of the input, where memory was never refused, what was written is one function of what was read.
+    ensures answers { OnOk result (AnswersAllSteps (R.left reader.old) (W.written writer.old) (W.written writer.new)) }
 
     // And it was handed on, unless the writer failed.
     ensures handed_on { W.failed writer.new ≡ false → W.held_back writer.old ≡ [] → W.held_back writer.new ≡ [] }

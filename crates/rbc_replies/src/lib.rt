@@ -2,7 +2,6 @@
 #![tactic(auto)]
 
 mod certificates;
-mod line_words;
 mod replies;
 
 pub use replies::{Basis, Granted, SessionRefusal, SessionReply, print};

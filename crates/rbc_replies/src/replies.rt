@@ -4,20 +4,21 @@ ghost use Rattle.std.specs.Prelude.{◌≡◌, false, [], ◌∷◌, ◌++◌, m
 ghost use Rattle.rbc_model.specs.SessionReply.{obstacle_words, refused_reply, BadEvent};
 ghost use Rattle.rbc_model.specs.Sessions.{Prints};
 ghost use Rattle.rbc_model.specs.Words.{line_of, hex_of};
-ghost use Rattle.rbc_replies.specs.LineWords.{word_text};
+ghost use Rattle.rbc_words.specs.LineWords.{word_text};
 ghost use Rattle.rbc_words.specs.PriceText.{spaced};
 ghost use Rattle.rbc_replies.specs.Replies.{refusal_view, grant_line, grant_text, reply_text};
 ghost use Rattle.rbc_replies.specs.Replies.{ObstacleIsOfTrack, EventIsOfTrack, RefusalIsOfTrack};
 ghost use Rattle.rbc_replies.specs.Replies.{IsWhole, ReplyIsWhole};
 
 use crate::certificates::print_certificate;
-use crate::line_words::{Word, leg_word, print_line, print_words, section_word};
 use rbc_model::{LineFault, Obstacle, Refusal, StepsRefusal};
 use rbc_packet::Authority;
 use rbc_steps::{Grade, Runs, Speed};
 use rbc_streams::{Sink, WriteFailed, put};
 use rbc_track::{Name, Track};
-use rbc_words::{Spelled, print_hex, print_refusal};
+use rbc_words::{
+    Spelled, Word, leg_word, print_hex, print_line, print_refusal, print_words, section_word,
+};
 
 /// Why a line of a session is refused.
 #[derive(Clone, Copy, Debug, PartialEq, Eq)]

@@ -1,6 +1,6 @@
 -- A train that asks: what it is shown, and what the record answers, as the reply to its line.
-use Rattle.std.proofs.Common.{◌≡◌, ℕ, zero, suc, lit<, ◌+◌, Bool, true, false, cond, not, List, ◌∷◌, [], ◌++◌, length, Option, Some, None, Result, Ok, Err, refl, sym, ap, ◌∙◌, subst, inl, ℤ, arith}
-use Rattle.std.specs.Prelude.{MatchBool, ◌==◌, codes, decimal}
+use Rattle.std.proofs.Common.{◌≡◌, ℕ, zero, suc, lit<, ◌+◌, Bool, true, false, cond, List, ◌∷◌, [], ◌++◌, length, Option, Some, None, Result, Ok, Err, refl, sym, ap, ◌∙◌, subst, inl, ℤ, arith}
+use Rattle.std.specs.Prelude.{MatchBool, codes, decimal}
 use Rattle.std.specs.Fmt.{signed_decimal}
 use Rattle.rbc_model.specs.declared.places.Format.TheVariants.{Near}
 use Rattle.rbc_model.specs.declared.refusals.Obstacle.{Obstacle}
@@ -29,14 +29,14 @@ use Rattle.rbc_sweep.specs.Forms.{metres_shown}
 use Rattle.rbc_sweep.specs.SameViews.{is_same_view, same_views}
 use Rattle.rbc_sweep.specs.Candidates.{Candidate, HasChosenProfiles}
 use Rattle.rbc_sweep.specs.CommitFault.{CommitFault}
-use Rattle.rbc_sweep.specs.CommitFault.TheVariants.{Full as FullToGrants, Stale, Foreign}
+use Rattle.rbc_sweep.specs.CommitFault.TheVariants.{Full as FullToGrants, Stale}
 use Rattle.rbc_sweep.specs.Entering.{EntersOrMemory, entry_granted, is_shown}
 use Rattle.rbc_sweep.specs.Records.{HistoryOnTrack, scene_now, is_full, with_entry}
 use Rattle.rbc_replies.specs.Certificates.{IsBasisOf}
 use Rattle.rbc_words.specs.PriceText.{prices_of}
 use Rattle.rbc_replies.specs.Replies.{ObstacleIsOfTrack, IsWhole, grant_text}
 use Rattle.rbc_replies.specs.declared.replies.Granted.{Granted as ToldGrant}
-use Rattle.rbc_server.specs.Turns.{AnswersAuthority, AnswersAsker, IsGrantFor, IsGranted, IsRefused}
+use Rattle.rbc_session_laws.specs.Turns.{AnswersAuthority, AnswersAsker, IsGrantFor, IsGranted, IsRefused}
 use Rattle.rbc_server.specs.Changes.{Comes}
 use Rattle.rbc_server.specs.Shown.{IsToldOf}
 use Rattle.rbc_server.proofs.NamingLemmas.{IsNamedIn, named_view}
@@ -80,60 +80,40 @@ module _ (history : HistoryOnTrack) (number : ℕ) where
         → AnswersAuthority history.track history.entries reply added number
     shown_granted reply added free said = asked_answers reply added (Ok shown) e (inl (granted_said (is_full history) reply added free said))
 
--- ---- what the record answers to a candidate of its own view, at its version
+-- ---- what the record answers to a candidate of a view that it shows
 
 module _ (history : HistoryOnTrack) (candidate : Candidate) where
-  abbrev entering : Bool → Bool → Bool → Result Entry CommitFault
-  entering full current shown =
-      cond full (Err FullToGrants)
-      (cond (not current) (Err (Stale (length history.entries))) (cond shown (Ok (Granted candidate.grant)) (Err Foreign)))
+  abbrev entering : Bool → Bool → Result Entry CommitFault
+  entering full shown = cond full (Err FullToGrants) (cond shown (Ok (Granted candidate.grant)) (Err (Stale (length history.entries))))
 
-  entered : (full current shown : Bool) (entry : Entry) → entering full current shown ≡ Ok entry → (full ≡ false) × (Granted candidate.grant ≡ entry)
-  entered true current shown entry e = absurd (let c : ⊥ = cc in c)
-  entered false false shown entry e = absurd (let c : ⊥ = cc in c)
-  entered false true false entry e = absurd (let c : ⊥ = cc in c)
-  entered false true true entry e = (refl, let same : Granted candidate.grant ≡ entry = cc in same)
+  entered : (full shown : Bool) (entry : Entry) → entering full shown ≡ Ok entry → (full ≡ false) × (Granted candidate.grant ≡ entry)
+  entered true shown entry e = absurd (let c : ⊥ = cc in c)
+  entered false false entry e = absurd (let c : ⊥ = cc in c)
+  entered false true entry e = (refl, let same : Granted candidate.grant ≡ entry = cc in same)
 
   pub grant_entered : (entry : Entry) → entry_granted history candidate ≡ Ok entry → (is_full history ≡ false) × (Granted candidate.grant ≡ entry)
-  grant_entered entry e = entered (is_full history) (candidate.version == length history.entries) (is_shown history candidate.view) entry e
+  grant_entered entry e = entered (is_full history) (is_shown history candidate.view) entry e
 
-  full_for : (full current shown : Bool) → entering full current shown ≡ Err FullToGrants → full ≡ true
-  full_for true current shown e = refl
-  full_for false false shown e = absurd (let c : ⊥ = cc in c)
-  full_for false true false e = absurd (let c : ⊥ = cc in c)
-  full_for false true true e = absurd (let c : ⊥ = cc in c)
+  full_for : (full shown : Bool) → entering full shown ≡ Err FullToGrants → full ≡ true
+  full_for true shown e = refl
+  full_for false false e = absurd (let c : ⊥ = cc in c)
+  full_for false true e = absurd (let c : ⊥ = cc in c)
 
   pub full_to_grants : entry_granted history candidate ≡ Err FullToGrants → is_full history ≡ true
-  full_to_grants e = full_for (is_full history) (candidate.version == length history.entries) (is_shown history candidate.view) e
+  full_to_grants e = full_for (is_full history) (is_shown history candidate.view) e
 
-  stale_for : (full current shown : Bool) (version : ℕ) → current ≡ true → entering full current shown ≡ Err (Stale version) → ⊥
-  stale_for true current shown version h e = cc
-  stale_for false false shown version h e = cc
-  stale_for false true false version h e = cc
-  stale_for false true true version h e = cc
-
-  same_number : (n : ℕ) → (n == n) ≡ true
-  same_number n = grind arith
-
-  pub never_stale : (version : ℕ) → candidate.version ≡ length history.entries → entry_granted history candidate ≡ Err (Stale version) → ⊥
-  never_stale version current e =
-      stale_for (is_full history) (candidate.version == length history.entries) (is_shown history candidate.view) version
-      (subst (λ n. (candidate.version == n) ≡ true) current (same_number candidate.version)) e
-
-  foreign_for : (full current shown : Bool) → shown ≡ true → entering full current shown ≡ Err Foreign → ⊥
-  foreign_for true current shown h e = cc
-  foreign_for false false shown h e = cc
-  foreign_for false true false h e = cc
-  foreign_for false true true h e = cc
+  stale_for : (full shown : Bool) (version : ℕ) → shown ≡ true → entering full shown ≡ Err (Stale version) → ⊥
+  stale_for true shown version h e = cc
+  stale_for false false version h e = cc
+  stale_for false true version h e = cc
 
   abbrev is_wanted : Result View ViewFault → Bool
   is_wanted (Ok shown) = is_same_view candidate.view shown
   is_wanted (Err fault) = false
 
-  pub never_foreign : view history.track (scene_now history) candidate.view.train ≡ Ok candidate.view → entry_granted history candidate ≡ Err Foreign → ⊥
-  never_foreign e answer =
-      foreign_for (is_full history) (candidate.version == length history.entries) (is_shown history candidate.view)
-      (subst (λ r. is_wanted r ≡ true) (sym e) (same_views.refl candidate.view)) answer
+  pub never_stale : (version : ℕ) → view history.track (scene_now history) candidate.view.train ≡ Ok candidate.view → entry_granted history candidate ≡ Err (Stale version) → ⊥
+  never_stale version e answer =
+      stale_for (is_full history) (is_shown history candidate.view) version (subst (λ r. is_wanted r ≡ true) (sym e) (same_views.refl candidate.view)) answer
 
 -- ---- what is told of a grant
 

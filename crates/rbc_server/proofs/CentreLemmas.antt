@@ -6,9 +6,9 @@ use Rattle.rbc_model.specs.SessionReply.{SessionRefusal, refused_reply}
 use Rattle.rbc_sweep.specs.Records.{HistoryOnTrack}
 use Rattle.rbc_replies.specs.Replies.{reply_text}
 use Rattle.rbc_replies.specs.declared.replies.SessionReply.{SessionReply}
-use Rattle.rbc_server.specs.declared.demand.Demand.{Demand}
-use Rattle.rbc_server.specs.Demands.{demand_in}
-use Rattle.rbc_server.specs.Turns.{AnswersDemand}
+use Rattle.rbc_session_laws.specs.declared.demand.Demand.{Demand}
+use Rattle.rbc_session_laws.specs.Demands.{demand_in}
+use Rattle.rbc_session_laws.specs.Turns.{AnswersDemand}
 use Rattle.rbc_server.specs.Changes.{Comes, Goes}
 use Rattle.rbc_server.proofs.TellingLemmas.{nothing_added}
 

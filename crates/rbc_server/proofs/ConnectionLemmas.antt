@@ -1,19 +1,17 @@
--- Seats keep the receipts that they had.
-use Rattle.std.proofs.Common.{◌≡◌, List, [], ◌∷◌, ◌++◌, length, take, map, refl, sym, ap, ◌∙◌, subst, arith}
-use Rattle.std.proofs.lemmas.List.{append-nil}
+-- Seats have first what they had.
+use Rattle.std.proofs.Common.{◌≡◌, List, [], ◌∷◌, ◌++◌, length, take, map, refl, sym, ap, ◌∙◌, subst, append_assoc, arith}
+use Rattle.std.proofs.lemmas.List.{append-nil, map_push, take_all}
 use Rattle.std.specs.List.{AllZip}
-use mathlib.Core.List.{IsPrefix}
+use Rattle.rbc_sweep.specs.Outcomes.{AreFirst}
+use Rattle.rbc_sweep.specs.Seats.{Seated}
+use Rattle.rbc_sweep.proofs.WorkLemmas.{begins_itself}
 
 pub take_append : {A : Type 0} (xs ys : List A) → take (length xs) (xs ++ ys) ≡ xs
 take_append [] ys = refl
 take_append (x ∷ xs) ys = ap (λ l. x ∷ l) (take_append xs ys)
 
--- receipts behind those that a seat had leave these the first
-pub first_of_prefix : {A : Type 0} (xs ys : List A) → IsPrefix xs ys → take (length xs) ys ≡ xs
-first_of_prefix xs ys p = subst (λ l. take (length xs) l ≡ xs) p.1 (take_append xs p.0)
-
-pub first_of_same : {A : Type 0} (xs : List A) → take (length xs) xs ≡ xs
-first_of_same xs = subst (λ l. take (length xs) l ≡ xs) (append-nil xs) (take_append xs [])
+pub first_itself : (seat : Seated) → AreFirst seat seat
+first_itself seat = record { receipts = take_all (length seat.receipts) seat.receipts (omega arith); told = begins_itself seat.told }
 
 all_zip_map : {H S : Type 0} (f : H → S) (R : S → S → Type 0) (hs : List H) (ts : List S) → AllZip (λ h t. R (f h) t) hs ts → AllZip R (map f hs) ts
 all_zip_map f R [] [] z = z
@@ -30,6 +28,13 @@ pub all_came : {H S : Type 0} (R : H → S → Type 0) (handles begun rest : Lis
     → ((more : List S) → AllZip R rest more → AllZip R begun (back ++ more)) → length rest ≡ 0 → begun ≡ handles → AllZip R handles back
 all_came R handles begun rest back goes over same =
     subst (λ l. AllZip R l back) same (subst (AllZip R begun) (append-nil back) (goes [] (rw (no_items rest over) tt)))
+
+-- a seat more went to a thread that promised to keep what it had
+pub one_handed : {H S : Type 0} (promised : H → S) (handles more : List H) (h : H) (s : S) (left rest all : List S) → map promised handles ++ left ≡ all → left ≡ s ∷ rest
+    → more ≡ handles ++ h ∷ [] → promised h ≡ s → map promised more ++ rest ≡ all
+one_handed promised handles more h s left rest all was next is mine =
+    ap (λ l. map promised l ++ rest) is ∙ ap (λ l. l ++ rest) (map_push promised handles h) ∙ append_assoc (map promised handles) (promised h ∷ []) rest
+    ∙ ap (λ x. map promised handles ++ x ∷ rest) mine ∙ ap (λ l. map promised handles ++ l) (sym next) ∙ was
 
 -- from what each handle promised to what each seat kept
 pub kept_by_handles : {H S : Type 0} (promised : H → S) (R : S → S → Type 0) (handles : List H) (left seats back : List S)

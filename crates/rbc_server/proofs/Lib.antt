@@ -8,3 +8,4 @@ pub mod TellingLemmas
 pub mod ConnectionLemmas
 pub mod OutcomeLemmas
 pub mod ServingLemmas
+pub mod AnsweredLemmas

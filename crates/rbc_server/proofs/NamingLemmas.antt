@@ -36,7 +36,7 @@ use Rattle.rbc_scene_laws.proofs.LengtheningLemmas.{ahead_fully, linked_from_bel
 use Rattle.rbc_scene_laws.proofs.LockingLemmas.{all_got, good_route}
 use Rattle.rbc_scene_laws.proofs.TrainListLemmas.{find-holds}
 use Rattle.rbc_replies.specs.Replies.{ObstacleIsOfTrack, EventIsOfTrack}
-use Rattle.rbc_server.specs.Demands.{IsToldOfTrack}
+use Rattle.rbc_model.specs.HistoryText.{IsToldOfTrack}
 
 module _ (track : Track) where
   abbrev IsOfTrack : Leg → Type 0

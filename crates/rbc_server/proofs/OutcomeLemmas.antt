@@ -3,16 +3,18 @@ use Rattle.std.proofs.Common.{◌≡◌, ℕ, suc, ◌<◌, ◌≤◌, ◌+◌, 
 use Rattle.std.specs.Prelude.{All, OnOk}
 use Rattle.std.proofs.lemmas.List.{at_drop_all}
 use Rattle.std.proofs.lemmas.List.Elements.{All-weaker}
+use Rattle.std.proofs.lemmas.Option.{get_or_from_slice_get, slice_get_within}
 use Rattle.rbc_model.specs.SoundTracks.{IsSound}
 use Rattle.rbc_model.specs.Tracks.{Track}
 use Rattle.rbc_model.specs.Histories.{Entry, replay}
 use Rattle.rbc_model.specs.Views.{view}
-use Rattle.rbc_sweep.specs.limits.TheConstants.{MOST_ENTRIES}
-use Rattle.rbc_sweep.specs.Records.{HistoryOnTrack, history_on}
-use Rattle.rbc_sweep.specs.Asking.{IsAnswered, IsAnsweredAt}
+use Rattle.rbc_model.specs.declared.limits.TheConstants.{MOST_ENTRIES}
+use Rattle.rbc_sweep.specs.Records.{history_on}
+use Rattle.rbc_sweep.specs.Seats.{Seated}
+use Rattle.rbc_sweep.specs.Asking.{IsAnswered}
 use Rattle.rbc_sweep.specs.Granted.{Granted as Grant}
 use Rattle.rbc_replies.specs.Replies.{ObstacleIsOfTrack}
-use Rattle.rbc_sweep.specs.Outcomes.{IsOutcome, asked}
+use Rattle.rbc_sweep.specs.Outcomes.{IsToldToOne, asked}
 use Rattle.rbc_sweep.specs.declared.outcome.Answer.{Answer}
 use Rattle.rbc_sweep.specs.declared.outcome.Answer.TheVariants.{Granted, Blocked, Gone, Full, Memory}
 use Rattle.rbc_sweep.specs.declared.outcome.Outcome.{Outcome}
@@ -47,16 +49,26 @@ grant_is_tellable track entries train grant sound is = (
   (let below = below_most (length entries) is.0 in omega (arith, is.2)),
 )
 
-answer_is_tellable : (opened : HistoryOnTrack) (train : ℕ) (answer : Answer) → IsSound opened.track → IsAnsweredAt opened train (asked answer) → AnswerIsTellable opened.track answer
-answer_is_tellable opened train (Granted grant) sound (history, of_desk, is) =
-    grant_is_tellable opened.track history.entries train grant sound (subst (λ t. IsAnswered (history_on t history.entries) train (Ok grant)) of_desk.track is)
-answer_is_tellable opened train (Blocked obstacle at version) sound (history, of_desk, is) =
-    asked_blocked_named opened.track history.entries train obstacle at version sound
-    (subst (λ t. IsAnswered (history_on t history.entries) train (asked (Blocked obstacle at version))) of_desk.track is)
-answer_is_tellable opened train Gone sound answered = tt
-answer_is_tellable opened train Full sound answered = tt
-answer_is_tellable opened train Memory sound answered = tt
+answer_is_tellable : (track : Track) (entries : List Entry) (train : ℕ) (answer : Answer) → IsSound track → IsAnswered (history_on track entries) train (asked answer) → AnswerIsTellable track answer
+answer_is_tellable track entries train (Granted grant) sound is = grant_is_tellable track entries train grant sound is
+answer_is_tellable track entries train (Blocked obstacle at version) sound is = asked_blocked_named track entries train obstacle at version sound is
+answer_is_tellable track entries train Gone sound is = tt
+answer_is_tellable track entries train Full sound is = tt
+answer_is_tellable track entries train Memory sound is = tt
 
-pub all_tellable : (opened : HistoryOnTrack) (outcomes : List Outcome) → IsSound opened.track → All (IsOutcome opened) outcomes → All (IsTellable opened.track) outcomes
-all_tellable opened outcomes sound answered =
-    All-weaker (IsOutcome opened) (IsTellable opened.track) (λ outcome is. answer_is_tellable opened outcome.train outcome.answer sound is.0) outcomes answered
+-- what one of the seats was told, where each was told of the track
+outcome_is_tellable : (track : Track) (had has : List Seated) (outcome : Outcome) → IsSound track → All (λ (seat : Seated). seat.told.track ≡ track) had → IsToldToOne had has outcome
+    → IsTellable track outcome
+outcome_is_tellable track had has outcome sound on t =
+    let told = t.told in
+    let history = told.history in
+    let later = told.later in
+    let at : get_or had t.place t.before ≡ t.before = get_or_from_slice_get had t.place t.before t.before t.had_it in
+    let here : t.before.told.track ≡ track = subst (λ (s : Seated). s.told.track ≡ track) at (on t.place t.before (slice_get_within had t.place t.before t.had_it)) in
+    answer_is_tellable track history.entries outcome.train outcome.answer sound
+    (subst (λ t. IsAnswered (history_on t history.entries) outcome.train (asked outcome.answer)) (later.track ∙ here) told.answered)
+
+pub all_tellable : (track : Track) (had has : List Seated) (outcomes : List Outcome) → IsSound track → All (λ (seat : Seated). seat.told.track ≡ track) had → All (IsToldToOne had has) outcomes
+    → All (IsTellable track) outcomes
+all_tellable track had has outcomes sound on answered =
+    All-weaker (IsToldToOne had has) (IsTellable track) (λ outcome is. outcome_is_tellable track had has outcome sound on is) outcomes answered

@@ -15,79 +15,89 @@ use Rattle.rbc_model.specs.Answers.{RefusesOrMemory}
 use Rattle.rbc_model.specs.SoundTracks.{IsInForm, IsSound}
 use Rattle.rbc_model.specs.Tracks.{Track}
 use Rattle.rbc_model.specs.Views.{View, view}
-use Rattle.rbc_model.specs.Histories.{Entry, Receipt, IsLegal, replay}
+use Rattle.rbc_model.specs.Histories.{Entry, Receipt, replay}
 use Rattle.rbc_model.specs.SessionReply.{SessionRefusal, BadEvent, Full, Memory, accepted_reply, blocked_reply, refused_reply}
 use Rattle.rbc_grant_laws.specs.Candidates.{IsCandidateOf}
 use Rattle.rbc_grant_laws.proofs.CandidateLemmas.{view-train}
 use Rattle.rbc_sweep.specs.Candidates.{HasChosenProfiles}
 use Rattle.rbc_sweep.specs.ApplyFault.{ApplyFault}
-use Rattle.rbc_sweep.specs.limits.TheConstants.{MOST_ENTRIES}
+use Rattle.rbc_model.specs.declared.limits.TheConstants.{MOST_ENTRIES}
 use Rattle.rbc_sweep.specs.Entering.{entry_told}
 use Rattle.rbc_sweep.specs.Records.{HistoryOnTrack, history_on}
 use Rattle.rbc_sweep.specs.AskFault.{AskFault}
 use Rattle.rbc_sweep.specs.AskFault.TheVariants.{UnknownTrain, Blocked, Full as FullToAsker}
 use Rattle.rbc_sweep.specs.Granted.{Granted as GrantedAtDesk}
-use Rattle.rbc_sweep.specs.Asking.{fault_at, IsAnswered, IsAnsweredAt}
-use Rattle.rbc_sweep.specs.Desks.{IsOfDesk}
-use Rattle.rbc_sweep.specs.Telling.{IsToldAt}
+use Rattle.rbc_sweep.specs.Asking.{fault_at, IsAnswered, IsAnsweredThen}
+use Rattle.rbc_sweep.specs.Seats.{Seated}
+use Rattle.rbc_sweep.specs.Telling.{IsToldThen}
 use Rattle.rbc_replies.specs.Replies.{refusal_view, ObstacleIsOfTrack, RefusalIsOfTrack, IsWhole, ReplyIsWhole, grant_text}
 use Rattle.rbc_replies.specs.declared.replies.Granted.{Granted as ToldGrant}
 use Rattle.rbc_replies.specs.declared.replies.SessionReply.{SessionReply}
-use Rattle.rbc_server.specs.declared.demand.Demand.{Demand}
-use Rattle.rbc_server.specs.declared.demand.Demand.TheVariants.{Event, Authority}
-use Rattle.rbc_server.specs.Demands.{IsToldOfTrack, demand_in}
+use Rattle.rbc_session_laws.specs.declared.demand.Demand.{Demand}
+use Rattle.rbc_session_laws.specs.declared.demand.Demand.TheVariants.{Nothing, Event, Authority}
+use Rattle.rbc_model.specs.HistoryText.{IsToldOfTrack}
+use Rattle.rbc_session_laws.specs.Demands.{demand_in}
 use Rattle.rbc_server.specs.SeatChanges.{SeatComes, SeatGoes}
 use Rattle.rbc_server.specs.SeatTurns.{AnswersAsked}
+use Rattle.rbc_session_laws.specs.Turns.{AnswersEvent}
 use Rattle.rbc_server.specs.Shown.{told_refusal, entry_granted_in, IsToldOf}
 use Rattle.rbc_server.proofs.AskingLemmas.{asked_answers, blocked_named, shown_named, granted_answers, told_whole}
-use Rattle.rbc_server.proofs.TellingLemmas.{entered_free, told_answers, not_told_answers, not_told_named}
-
--- ---- histories of the desk
-
--- they are on the track of the one that it was opened with
-of_desk_on : (opened history : HistoryOnTrack) → IsOfDesk opened history → IsOfDesk opened (history_on opened.track history.entries)
-of_desk_on opened history is = record { track = refl; legal = subst (λ t. IsLegal t history.entries) is.track is.legal; opening = is.opening }
+use Rattle.rbc_server.proofs.TellingLemmas.{entered_free, nothing_added, told_answers, not_told_answers, not_told_named}
 
 pub below_most : (n : ℕ) → nat_le MOST_ENTRIES n ≡ false → n < MOST_ENTRIES
 below_most n e = grind (arith, nat_tests)
 
 -- ---- what is told
 
-pub told_at_desk : (opened : HistoryOnTrack) (told : Told) (receipt : Receipt) (place : ℕ) (old new : List Receipt) → IsToldAt opened told (Ok receipt) → place ≡ receipt.place → new ≡ old ++ receipt ∷ []
-    → SeatComes opened (Ok (Event told)) old (accepted_reply (place + 1)) new
-told_at_desk opened told receipt place old new (before, after, is, enters, free) at gains = (
-  Some receipt,
-  (
-    before.entries,
-    of_desk_on opened before is,
-    told_answers (history_on opened.track before.entries) told receipt place (subst (λ t. entry_told (history_on t before.entries) told ≡ Ok receipt.entry) is.track enters.0) enters.1 at,
-    enters.1,
-  ),
-  gains,
-)
+-- the history that was answered after is on the track of what had been told
+told_on : (begun after : HistoryOnTrack) (told : Told) (answer : Result Receipt (OrMemory ApplyFault)) (track : Track) → begun.track ≡ track → (since : IsToldThen begun after told answer)
+    → since.before.track ≡ track
+told_on begun after told answer track on since = let later = since.later in later.track ∙ on
 
-pub not_told_at_desk : (opened : HistoryOnTrack) (told : Told) (fault : OrMemory ApplyFault) (old new : List Receipt) → IsToldAt opened told (Err fault) → new ≡ old
-    → SeatComes opened (Ok (Event told)) old (refused_reply opened.track (refusal_view (told_refusal fault))) new
-not_told_at_desk opened told fault old new (before, after, is, enters, free) same = (
-  None,
-  (
-    before.entries,
-    of_desk_on opened before is,
-    not_told_answers (history_on opened.track before.entries) told fault (subst (λ t. RefusesOrMemory fault (entry_told (history_on t before.entries) told)) is.track enters.0) (λ e. free (ap Err e)),
-    tt,
-  ),
-  same ∙ sym (append-nil old),
-)
+pub told_at_desk : (told : Told) (receipt : Receipt) (place : ℕ) (old new : Seated) → IsToldThen old.told new.told told (Ok receipt) → place ≡ receipt.place
+    → new.receipts ≡ old.receipts ++ receipt ∷ [] → SeatComes (Ok (Event told)) old (accepted_reply (place + 1)) new
+told_at_desk told receipt place old new since at gains =
+    let entered = since.entered in (
+      Some receipt,
+      record {
+        before = since.before;
+        later = since.later;
+        answered = told_answers since.before told receipt place entered.0 entered.1 at;
+        next = entered.1;
+        told = entered.2;
+      },
+      gains,
+    )
 
-pub not_told_named_at_desk : (opened : HistoryOnTrack) (told : Told) (fault : OrMemory ApplyFault) → IsSound opened.track → IsToldOfTrack opened.track told → IsToldAt opened told (Err fault)
-    → RefusalIsOfTrack opened.track (told_refusal fault)
-not_told_named_at_desk opened told fault sound of_track (before, after, is, enters, free) =
-    not_told_named (history_on opened.track before.entries) told fault sound of_track (subst (λ t. RefusesOrMemory fault (entry_told (history_on t before.entries) told)) is.track enters.0)
+pub not_told_at_desk : (told : Told) (fault : OrMemory ApplyFault) (track : Track) (old new : Seated) → old.told.track ≡ track → IsToldThen old.told new.told told (Err fault)
+    → new.receipts ≡ old.receipts → SeatComes (Ok (Event told)) old (refused_reply track (refusal_view (told_refusal fault))) new
+not_told_at_desk told fault track old new on since same =
+    let entered = since.entered in
+    let before = since.before in (
+      None,
+      record {
+        before = before;
+        later = since.later;
+        answered = subst (λ t. AnswersEvent before.track before.entries (refused_reply t (refusal_view (told_refusal fault))) None told) (told_on old.told new.told told (Err fault) track on since)
+            (not_told_answers before told fault entered.0 (λ e. since.room (ap Err e)));
+        next = tt;
+        told = entered.1 ∙ nothing_added before;
+      },
+      same ∙ sym (append-nil old.receipts),
+    )
+
+pub not_told_named_at_desk : (told : Told) (fault : OrMemory ApplyFault) (track : Track) (begun after : HistoryOnTrack) → IsSound track → IsToldOfTrack track told → begun.track ≡ track
+    → IsToldThen begun after told (Err fault) → RefusalIsOfTrack track (told_refusal fault)
+not_told_named_at_desk told fault track begun after sound of_track on since =
+    let is = told_on begun after told (Err fault) track on since in
+    let entered = since.entered in
+    not_told_named (history_on track since.before.entries) told fault sound of_track (subst (λ t. RefusesOrMemory fault (entry_told (history_on t since.before.entries) told)) is entered.0)
 
 -- where a receipt was given, its place is one that a history may have
-pub told_below : (opened : HistoryOnTrack) (told : Told) (receipt : Receipt) → IsToldAt opened told (Ok receipt) → receipt.place < MOST_ENTRIES
-told_below opened told receipt (before, after, is, enters, free) =
-    let below = below_most (length before.entries) (entered_free before told receipt.entry enters.0) in omega (arith, enters.1)
+pub told_below : (begun after : HistoryOnTrack) (told : Told) (receipt : Receipt) → IsToldThen begun after told (Ok receipt) → receipt.place < MOST_ENTRIES
+told_below begun after told receipt since =
+    let entered = since.entered in
+    let below = below_most (length since.before.entries) (entered_free since.before told receipt.entry entered.0) in omega (arith, entered.1)
 
 -- ---- what is asked
 
@@ -158,51 +168,67 @@ module _ (track : Track) (entries : List Entry) (train : ℕ) where
       pub asked_granted_whole : IsSound track → IsWhole track told
       asked_granted_whole sound = told_whole track granted.candidate (place + 1) told of_candidate best chosen (shown_named there train granted.candidate.view sound shown_to)
 
--- the answer after some history of the desk, as a reply to a train that asks
-pub asked_at_desk : (opened : HistoryOnTrack) (train : ℕ) (track : Track) (reply : List ℕ) (answer : Result GrantedAtDesk (OrMemory AskFault)) (old new : List Receipt) → track ≡ opened.track → IsAnsweredAt opened train answer
+-- the history that was answered after is on the track of what had been told
+asked_on : (begun after : HistoryOnTrack) (train : ℕ) (answer : Result GrantedAtDesk (OrMemory AskFault)) (track : Track) → begun.track ≡ track → (since : IsAnsweredThen begun after train answer)
+    → IsAnswered (history_on track since.before.entries) train answer
+asked_on begun after train answer track on since =
+    let later = since.later in
+    subst (λ t. IsAnswered (history_on t since.before.entries) train answer) (later.track ∙ on) since.answered
+
+-- the answer after a history that goes on from what the seat had been told, as a reply to a train that asks
+pub asked_at_desk : (train : ℕ) (track : Track) (reply : List ℕ) (answer : Result GrantedAtDesk (OrMemory AskFault)) (old new : Seated) → old.told.track ≡ track
+    → IsAnsweredThen old.told new.told train answer
     → ((entries : List Entry) → IsAnswered (history_on track entries) train answer → AnswersAsked track entries reply (entry_granted_in answer) train)
-    → IfOk answer (λ granted. new ≡ old ++ granted.receipt ∷ []) → OnErr answer (new ≡ old)
-    → SeatComes opened (Ok (Authority train)) old reply new
-asked_at_desk opened train track reply (Ok granted) old new on (history, is, answered) says gains kept =
-    let here : IsAnswered (history_on track history.entries) train (Ok granted) = subst (λ t. IsAnswered (history_on t history.entries) train (Ok granted)) (is.track ∙ sym on) answered in (
+    → IfOk answer (λ granted. new.receipts ≡ old.receipts ++ granted.receipt ∷ []) → OnErr answer (new.receipts ≡ old.receipts)
+    → SeatComes (Ok (Authority train)) old reply new
+asked_at_desk train track reply (Ok granted) old new on since says gains kept =
+    let before = since.before in
+    let later = since.later in
+    let answered = since.answered in (
       Some granted.receipt,
-      (
-        history.entries,
-        of_desk_on opened history is,
-        subst (λ t. AnswersAsked t history.entries reply (Some granted.receipt.entry) train) on (says history.entries here),
-        answered.2,
-      ),
+      record {
+        before = before;
+        later = later;
+        answered = subst (λ t. AnswersAsked t before.entries reply (Some granted.receipt.entry) train) (sym (later.track ∙ on))
+            (says before.entries (asked_on old.told new.told train (Ok granted) track on since));
+        next = answered.2;
+        told = since.told;
+      },
       gains,
     )
-asked_at_desk opened train track reply (Err fault) old new on (history, is, answered) says gains kept =
-    let here : IsAnswered (history_on track history.entries) train (Err fault) = subst (λ t. IsAnswered (history_on t history.entries) train (Err fault)) (is.track ∙ sym on) answered in (
+asked_at_desk train track reply (Err fault) old new on since says gains kept =
+    let before = since.before in
+    let later = since.later in (
       None,
-      (
-        history.entries,
-        of_desk_on opened history is,
-        subst (λ t. AnswersAsked t history.entries reply None train) on (says history.entries here),
-        tt,
-      ),
-      kept ∙ sym (append-nil old),
+      record {
+        before = before;
+        later = later;
+        answered = subst (λ t. AnswersAsked t before.entries reply None train) (sym (later.track ∙ on)) (says before.entries (asked_on old.told new.told train (Err fault) track on since));
+        next = tt;
+        told = since.told ∙ nothing_added before;
+      },
+      kept ∙ sym (append-nil old.receipts),
     )
 
-pub asked_below : (opened : HistoryOnTrack) (train : ℕ) (answer : Result GrantedAtDesk (OrMemory AskFault)) → IsAnsweredAt opened train answer → IfOk answer (λ granted. granted.receipt.place < MOST_ENTRIES)
-asked_below opened train (Ok granted) (history, is, answered) = let below = below_most (length history.entries) answered.0 in let at = answered.2 in omega arith
-asked_below opened train (Err fault) at = tt
+pub asked_below : (begun after : HistoryOnTrack) (train : ℕ) (answer : Result GrantedAtDesk (OrMemory AskFault)) → IsAnsweredThen begun after train answer → IfOk answer (λ granted. granted.receipt.place < MOST_ENTRIES)
+asked_below begun after train (Ok granted) since = let answered = since.answered in let below = below_most (length since.before.entries) answered.0 in let at = answered.2 in omega arith
+asked_below begun after train (Err fault) since = tt
 
-pub asked_whole : (opened : HistoryOnTrack) (train : ℕ) (track : Track) (answer : Result GrantedAtDesk (OrMemory AskFault)) (reply : SessionReply) → track ≡ opened.track → IsAnsweredAt opened train answer
-    → ((entries : List Entry) → IsAnswered (history_on track entries) train answer → ReplyIsWhole track reply) → ReplyIsWhole track reply
-asked_whole opened train track answer reply on (history, is, answered) whole =
-    whole history.entries (subst (λ t. IsAnswered (history_on t history.entries) train answer) (is.track ∙ sym on) answered)
+pub asked_whole : (train : ℕ) (track : Track) (answer : Result GrantedAtDesk (OrMemory AskFault)) (reply : SessionReply) (begun after : HistoryOnTrack) → begun.track ≡ track
+    → IsAnsweredThen begun after train answer → ((entries : List Entry) → IsAnswered (history_on track entries) train answer → ReplyIsWhole track reply) → ReplyIsWhole track reply
+asked_whole train track answer reply begun after on since whole = whole since.before.entries (asked_on begun after train answer track on since)
 
 -- ---- lines
 
-pub seat_line_comes : (opened : HistoryOnTrack) (before after : List Receipt) (line reply : List ℕ) (demand : Result Demand SessionRefusal) (track : Track) → track ≡ opened.track → demand ≡ demand_in track line
-    → SeatComes opened demand before reply after → SeatGoes opened before line reply after
-seat_line_comes opened before after line reply demand track is e comes = subst (λ d. SeatComes opened d before reply after) (e ∙ ap (λ t. demand_in t line) is) comes
+pub seat_line_comes : (before after : Seated) (line reply : List ℕ) (demand : Result Demand SessionRefusal) (track : Track) → track ≡ before.told.track → demand ≡ demand_in track line
+    → SeatComes demand before reply after → SeatGoes before line reply after
+seat_line_comes before after line reply demand track is e comes = subst (λ d. SeatComes d before reply after) (e ∙ ap (λ t. demand_in t line) is) comes
 
--- a line that is refused changes nothing
-pub seat_refused : (opened : HistoryOnTrack) (receipts : List Receipt) (line : List ℕ) (refusal : SessionRefusal) (track : Track) → track ≡ opened.track
-    → Err refusal ≡ demand_in track line → SeatGoes opened receipts line (refused_reply track refusal) receipts
-seat_refused opened receipts line refusal track is e =
-    seat_line_comes opened receipts receipts line (refused_reply track refusal) (Err refusal) track is e (None, (ap (λ t. refused_reply t refusal) is, refl), sym (append-nil receipts))
+-- a line that asks for nothing, and one that is refused, change nothing
+pub seat_idle : (seat : Seated) (line : List ℕ) (track : Track) → track ≡ seat.told.track → Ok Nothing ≡ demand_in track line → SeatGoes seat line [] seat
+seat_idle seat line track is e = seat_line_comes seat seat line [] (Ok Nothing) track is e (None, (refl, (refl, refl)), sym (append-nil seat.receipts))
+
+pub seat_refused : (seat : Seated) (line : List ℕ) (refusal : SessionRefusal) (track : Track) → track ≡ seat.told.track → Err refusal ≡ demand_in track line
+    → SeatGoes seat line (refused_reply track refusal) seat
+seat_refused seat line refusal track is e =
+    seat_line_comes seat seat line (refused_reply track refusal) (Err refusal) track is e (None, (ap (λ t. refused_reply t refusal) is, (refl, refl)), sym (append-nil seat.receipts))

@@ -1,17 +1,19 @@
 -- What comes of serving connections.
-use Rattle.std.proofs.Common.{◌≡◌, ℕ, zero, suc, Bool, true, List, [], ◌∷◌, ◌++◌, take, drop, Result, Err, refl, sym, ap, ◌∙◌, subst, append_assoc}
-use Rattle.std.specs.Prelude.{IsPermutation, IsTrue, IfErr}
+use Rattle.std.proofs.Common.{◌≡◌, ℕ, zero, suc, Bool, true, List, [], ◌∷◌, ◌++◌, length, take, drop, Option, Result, Ok, Err, refl, sym, ap, ◌∙◌, subst}
+use Rattle.std.specs.Prelude.{All, IsTrue, IfOk, IfErr}
 use Rattle.std.specs.List.{AllZip}
-use Rattle.std.proofs.lemmas.Grind.{flat_map-append}
-use Rattle.std.proofs.lemmas.List.Sorted.{IsPermutation-append_right}
-use Rattle.rbc_model.specs.Histories.{Receipt}
+use Rattle.std.specs.Io.KnownBytes.{Appends}
+use Rattle.rbc_model.specs.Histories.{Matches}
+use Rattle.rbc_model.specs.Tracks.{Track}
 use Rattle.rbc_sweep.specs.Closing.{all_receipts, IsUnmatched}
+use Rattle.rbc_sweep.specs.Later.{IsLater}
 use Rattle.rbc_sweep.specs.Records.{HistoryOnTrack}
+use Rattle.rbc_sweep.specs.Seats.{Seated}
 use Rattle.rbc_sweep.specs.CloseFault.{CloseFault}
 use Rattle.rbc_sweep.specs.Outcomes.{AreFirst}
-use Rattle.rbc_server.specs.Serving.{IsServeFault}
+use Rattle.rbc_server.specs.Serving.{closed_line, IsAttended, IsCloseFault, IsServed, IsServeFault}
 use Rattle.rbc_server.specs.declared.serving.ServeFault.{ServeFault}
-use Rattle.rbc_server.specs.declared.serving.ServeFault.TheVariants.{Write, Close}
+use Rattle.rbc_server.specs.declared.serving.ServeFault.TheVariants.{Port, Write, Memory, Close}
 
 all_zip_append : {A B : Type 0} (R : A → B → Type 0) (xs : List A) (ys : List B) (us : List A) (vs : List B) → AllZip R xs ys → AllZip R us vs → AllZip R (xs ++ us) (ys ++ vs)
 all_zip_append R [] [] us vs z more = more
@@ -24,33 +26,37 @@ take_drop zero xs = refl
 take_drop (suc n) [] = refl
 take_drop (suc n) (x ∷ xs) = ap (λ l. x ∷ l) (take_drop n xs)
 
--- the first seats and those that are left kept what they had, and so did all
-pub all_kept : {A B : Type 0} (R : A → B → Type 0) (n : ℕ) (seats first left : List A) (served workers kept : List B)
-    → first ≡ take n seats → left ≡ drop n seats → AllZip R first served → AllZip R left workers → kept ≡ served ++ workers → AllZip R seats kept
-all_kept R n seats first left served workers kept is_first is_left zips more is =
-    let parts : AllZip R (take n seats ++ drop n seats) (served ++ workers) =
-    all_zip_append R (take n seats) served (drop n seats) workers (subst (λ l. AllZip R l served) is_first zips) (subst (λ l. AllZip R l workers) is_left more) in
-    subst (AllZip R seats) (sym is) (subst (λ l. AllZip R l (served ++ workers)) (take_drop n seats) parts)
+-- the seats that came back: those of the connections and those of the sweep, each with what it had first
+pub attended_kept : (track : Track) (connections : ℕ) (seats kept : List Seated) (old new : Option (List ℕ)) → IsAttended track connections seats kept old new → AllZip AreFirst seats kept
+attended_kept track connections seats kept old new a =
+    let parts = all_zip_append AreFirst (take connections seats) a.served (drop connections seats) a.swept a.after_connections a.after_sweep in
+    subst (AllZip AreFirst seats) (sym a.all) (subst (λ l. AllZip AreFirst l (a.served ++ a.swept)) (take_drop connections seats) parts)
 
--- what was granted in the sweep is among the receipts of all seats
-pub all_gained : (served before workers kept : List (List Receipt)) (grants : List Receipt) → IsPermutation (all_receipts before ++ grants) (all_receipts workers) → kept ≡ served ++ workers
-    → IsPermutation ((all_receipts served ++ all_receipts before) ++ grants) (all_receipts kept)
-all_gained served before workers kept grants gained is =
-    subst (λ l. IsPermutation ((all_receipts served ++ all_receipts before) ++ grants) (all_receipts l)) (sym is)
-    (subst (λ l. IsPermutation l (all_receipts (served ++ workers))) (sym (append_assoc (all_receipts served) (all_receipts before) grants))
-    (subst (IsPermutation (all_receipts served ++ (all_receipts before ++ grants))) (sym (flat_map-append (λ receipts. receipts) served workers))
-    (IsPermutation-append_right (all_receipts served) (all_receipts before ++ grants) (all_receipts workers) gained)))
+pub served_then : {E : Type 0} (r : Result HistoryOnTrack E) (opened : HistoryOnTrack) (connections : ℕ) (seats kept : List Seated) (old so_far new : Option (List ℕ))
+    → IsAttended opened.track connections seats kept old so_far → IfOk r (λ log. Matches (all_receipts kept) log.entries (length opened.entries))
+    → IfOk r (λ log. All (λ (seat : Seated). IsLater seat.told log) kept) → IfOk r (λ log. Appends so_far new (closed_line (length log.entries)))
+    → IfOk r (IsServed opened connections seats old new)
+served_then (Ok log) opened connections seats kept old so_far new attended matches told closed =
+    record { kept = kept; so_far = so_far; attended = attended; matches = matches; goes_on = told; closed = closed }
+served_then (Err fault) opened connections seats kept old so_far new attended matches told closed = tt
 
 -- ---- faults
+
+pub fault_told : {T : Type 0} (r : Result T ServeFault) (opened : HistoryOnTrack) (parts : ℕ) (seats kept : List Seated) → AllZip AreFirst seats kept → IfErr r (IsCloseFault opened parts kept)
+    → IfErr r (IsServeFault opened parts seats)
+fault_told (Ok x) opened parts seats kept first is = tt
+fault_told (Err Port) opened parts seats kept first is = tt
+fault_told (Err Write) opened parts seats kept first is = tt
+fault_told (Err Memory) opened parts seats kept first is = tt
+fault_told (Err (Close fault)) opened parts seats kept first is = (kept, first, is)
 
 module _ {T : Type 0} (r : Result T ServeFault) (fault : ServeFault) (is : r ≡ Err fault) where
   pub write_told : (failed : Bool) → fault ≡ Write → failed ≡ true → (r ≡ Err Write → IsTrue failed) × (IsTrue failed → r ≡ Err Write)
   write_told failed write fails = ((λ _. fails), (λ _. is ∙ ap Err write))
 
-  pub write_is_told : (opened : HistoryOnTrack) (parts : ℕ) (seats : List (List Receipt)) → fault ≡ Write → IfErr r (IsServeFault opened parts seats)
-  write_is_told opened parts seats write = subst (λ x. IfErr x (IsServeFault opened parts seats)) (sym (is ∙ ap Err write)) tt
+  pub write_is_told : (opened : HistoryOnTrack) (parts : ℕ) (seats : List Seated) → fault ≡ Write → IfErr r (IsCloseFault opened parts seats)
+  write_is_told opened parts seats write = subst (λ x. IfErr x (IsCloseFault opened parts seats)) (sym (is ∙ ap Err write)) tt
 
-  pub close_is_told : (opened : HistoryOnTrack) (parts : ℕ) (seats kept : List (List Receipt)) (close : CloseFault) → fault ≡ Close close
-      → AllZip AreFirst seats kept → IsUnmatched opened parts kept close → IfErr r (IsServeFault opened parts seats)
-  close_is_told opened parts seats kept close closes first unmatched =
-      subst (λ x. IfErr x (IsServeFault opened parts seats)) (sym (is ∙ ap Err closes)) (kept, first, unmatched)
+  pub close_is_told : (opened : HistoryOnTrack) (parts : ℕ) (seats : List Seated) (close : CloseFault) → fault ≡ Close close → IsUnmatched opened parts seats close
+      → IfErr r (IsCloseFault opened parts seats)
+  close_is_told opened parts seats close closes unmatched = subst (λ x. IfErr x (IsCloseFault opened parts seats)) (sym (is ∙ ap Err closes)) unmatched

@@ -8,8 +8,8 @@ use Rattle.rbc_model.specs.Talks.{Answered, IsTalk, Ends}
 use Rattle.rbc_model.specs.Tracks.{Track}
 use Rattle.rbc_model.specs.Histories.{Entry}
 use Rattle.rbc_sweep.specs.Records.{HistoryOnTrack}
-use Rattle.rbc_server.specs.Turns.{AnswersLine}
-use Rattle.rbc_server.specs.SessionRuns.{Turn, entries_of, entries_added, lines_treated, replies_to, IsSession}
+use Rattle.rbc_session_laws.specs.Turns.{AnswersLine}
+use Rattle.rbc_session_laws.specs.SessionRuns.{Turn, entries_of, entries_added, lines_treated, replies_to, IsSession}
 use Rattle.rbc_server.specs.Changes.{with_added, Goes}
 
 -- each turn is right after the entries of those before it

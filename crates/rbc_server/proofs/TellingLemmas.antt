@@ -18,8 +18,8 @@ use Rattle.rbc_sweep.specs.ApplyFault.TheVariants.{Full as FullToTold, Refused a
 use Rattle.rbc_sweep.specs.Entering.{EntersOrMemory, entry_told}
 use Rattle.rbc_sweep.specs.Records.{HistoryOnTrack, scene_now, is_full}
 use Rattle.rbc_replies.specs.Replies.{refusal_view, RefusalIsOfTrack, EventIsOfTrack}
-use Rattle.rbc_server.specs.Demands.{IsToldOfTrack}
-use Rattle.rbc_server.specs.Turns.{AnswersEvent, IsRefused, IsGivenUp, IsAccepted}
+use Rattle.rbc_model.specs.HistoryText.{IsToldOfTrack}
+use Rattle.rbc_session_laws.specs.Turns.{AnswersEvent, IsRefused, IsGivenUp, IsAccepted}
 use Rattle.rbc_server.specs.Changes.{Comes, with_added}
 use Rattle.rbc_server.specs.Shown.{told_refusal}
 use Rattle.rbc_server.proofs.NamingLemmas.{RefusalIsNamed, named_told}

@@ -3,8 +3,8 @@ use Rattle.std.specs.Prelude.{◌≡◌, ℕ, List, ◌++◌, Option}
 use Rattle.rbc_model.specs.Tracks.{Track}
 use Rattle.rbc_model.specs.Histories.{Entry}
 use Rattle.rbc_sweep.specs.Records.{HistoryOnTrack}
-use Rattle.rbc_server.specs.Turns.{AnswersLine}
-use Rattle.rbc_server.specs.SessionRuns.{entries_of}
+use Rattle.rbc_session_laws.specs.Turns.{AnswersLine}
+use Rattle.rbc_session_laws.specs.SessionRuns.{entries_of}
 
 -- the history with an entry more, if there is one
 abbrev pub with_added : HistoryOnTrack → Option Entry → HistoryOnTrack

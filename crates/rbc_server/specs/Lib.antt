@@ -1,9 +1,7 @@
+pub mod Answered
 pub mod Changes
-pub mod Demands
 pub mod SeatChanges
 pub mod SeatSessions
 pub mod SeatTurns
-pub mod SessionRuns
 pub mod Shown
-pub mod Turns
 pub mod Serving

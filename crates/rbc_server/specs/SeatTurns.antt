@@ -1,15 +1,15 @@
--- A session at a desk: what a line is answered from a seat, and which receipt the seat gains.
+-- A session at a desk: what a line is answered from a seat, which receipt the seat gains, and what it is told.
 use Rattle.std.specs.Prelude.{◌≡◌, ℕ, true, List, [], length, Option, option_map, Some, None, Result, Ok, Err, ◌⊎◌}
-use Rattle.rbc_model.specs.declared.reports.Told.{Told}
 use Rattle.rbc_model.specs.Tracks.{Track}
-use Rattle.rbc_model.specs.Histories.{Entry, Receipt}
+use Rattle.rbc_model.specs.Histories.{Entry, Receipt, is_full}
 use Rattle.rbc_model.specs.SessionReply.{SessionRefusal, Full, refused_reply}
-use Rattle.rbc_sweep.specs.Records.{HistoryOnTrack, history_on}
-use Rattle.rbc_sweep.specs.Desks.{IsOfDesk}
-use Rattle.rbc_server.specs.declared.demand.Demand.{Demand}
-use Rattle.rbc_server.specs.declared.demand.Demand.TheVariants.{Nothing, Event, Authority}
-use Rattle.rbc_server.specs.Demands.{demand_in}
-use Rattle.rbc_server.specs.Turns.{is_full, IsRefused, IsGivenUp, AnswersEvent, AnswersAuthority}
+use Rattle.rbc_sweep.specs.Later.{IsLater}
+use Rattle.rbc_sweep.specs.Records.{HistoryOnTrack}
+use Rattle.rbc_session_laws.specs.declared.demand.Demand.{Demand}
+use Rattle.rbc_session_laws.specs.declared.demand.Demand.TheVariants.{Nothing, Event, Authority}
+use Rattle.rbc_server.specs.Changes.{with_added}
+use Rattle.rbc_session_laws.specs.Demands.{demand_in}
+use Rattle.rbc_session_laws.specs.Turns.{IsRefused, IsGivenUp, AnswersEvent, AnswersAuthority}
 
 -- the entry that a receipt is for, if there is one
 abbrev pub entry_in : Option Receipt → Option Entry
@@ -20,10 +20,14 @@ abbrev pub IsNext : List Entry → Option Receipt → Type 0
 IsNext entries None = Unit {0}
 IsNext entries (Some receipt) = receipt.place ≡ length entries
 
--- This is answered after some history that the desk had, and the receipt is for the entry that it adds there, or there is none.
-abbrev pub AfterSome : HistoryOnTrack → (List Entry → Option Entry → Type 0) → Option Receipt → Type 0
-AfterSome opened Answers receipt =
-    (entries : List Entry) × IsOfDesk opened (history_on opened.track entries) × Answers entries (entry_in receipt) × IsNext entries receipt
+-- This is answered after a legal history that goes on from what had been told. The receipt is for the entry that the answer adds there, or there is
+-- none. What is told then is that history, with this entry.
+pub record IsAnsweredSince (Answers : Track → List Entry → Option Entry → Type 0) (begun after : HistoryOnTrack) (receipt : Option Receipt) : Type 0 where
+  pub before : HistoryOnTrack
+  pub later : IsLater begun before
+  pub answered : Answers before.track before.entries (entry_in receipt)
+  pub next : IsNext before.entries receipt
+  pub told : after ≡ with_added before (entry_in receipt)
 
 -- A train that asks is put off, whatever it would be shown: the history was full by the time of the grant, or memory was refused.
 abbrev pub IsPutOff : Track → List Entry → List ℕ → Option Entry → Type 0
@@ -33,23 +37,20 @@ IsPutOff track entries reply added = ((is_full entries ≡ true) × IsRefused tr
 abbrev pub AnswersAsked : Track → List Entry → List ℕ → Option Entry → ℕ → Type 0
 AnswersAsked track entries reply added train = AnswersAuthority track entries reply added train ⊎ IsPutOff track entries reply added
 
--- At the desk that was opened with this history, a line is answered by this reply, and the seat gains this receipt, or none.
-module _ (opened : HistoryOnTrack) (reply : List ℕ) (receipt : Option Receipt) where
-  -- what is told is entered or refused as after some history that the desk had
-  abbrev pub AnswersEventAtDesk : Told → Type 0
-  AnswersEventAtDesk told = AfterSome opened (λ entries added. AnswersEvent opened.track entries reply added told) receipt
-
-  -- a train that asks is answered as after some history that the desk had, or it is put off
-  abbrev pub AnswersAuthorityAtDesk : ℕ → Type 0
-  AnswersAuthorityAtDesk train = AfterSome opened (λ entries added. AnswersAsked opened.track entries reply added train) receipt
+-- From a seat that had been told this history, and is told that one from then on, a line is answered by this reply, and the seat gains this receipt,
+-- or none.
+module _ (begun after : HistoryOnTrack) (reply : List ℕ) (receipt : Option Receipt) where
+  -- nothing is entered, and nothing told of the history
+  abbrev pub IsIdle : Type 0
+  IsIdle = (receipt ≡ None) × (after ≡ begun)
 
   -- what is asked for
   abbrev pub AnswersDemandAtDesk : Result Demand SessionRefusal → Type 0
-  AnswersDemandAtDesk (Ok Nothing) = (reply ≡ []) × (receipt ≡ None)
-  AnswersDemandAtDesk (Ok (Event told)) = AnswersEventAtDesk told
-  AnswersDemandAtDesk (Ok (Authority train)) = AnswersAuthorityAtDesk train
-  AnswersDemandAtDesk (Err refusal) = (reply ≡ refused_reply opened.track refusal) × (receipt ≡ None)
+  AnswersDemandAtDesk (Ok Nothing) = (reply ≡ []) × IsIdle
+  AnswersDemandAtDesk (Ok (Event told)) = IsAnsweredSince (λ track entries added. AnswersEvent track entries reply added told) begun after receipt
+  AnswersDemandAtDesk (Ok (Authority train)) = IsAnsweredSince (λ track entries added. AnswersAsked track entries reply added train) begun after receipt
+  AnswersDemandAtDesk (Err refusal) = (reply ≡ refused_reply begun.track refusal) × IsIdle
 
--- The line is answered by this reply, and the seat gains this receipt, or none.
-abbrev pub AnswersLineAtDesk : HistoryOnTrack → List ℕ → List ℕ → Option Receipt → Type 0
-AnswersLineAtDesk opened line reply receipt = AnswersDemandAtDesk opened reply receipt (demand_in opened.track line)
+  -- what the line asks for
+  abbrev pub AnswersLineAtDesk : List ℕ → Type 0
+  AnswersLineAtDesk line = AnswersDemandAtDesk (demand_in begun.track line)

@@ -1,21 +1,22 @@
 -- What a centre that serves connections prints at the end, and what comes of it.
-use Rattle.std.specs.Prelude.{◌≡◌, ℕ, ◌+◌, ◌<◌, List, [], ◌∷◌, ◌++◌, length, map, codes, decimal, All, IsPermutation, Option}
+use Rattle.std.specs.Prelude.{◌≡◌, ℕ, ◌+◌, ◌<◌, List, [], ◌∷◌, ◌++◌, length, map, take, drop, codes, decimal, All, IsPermutation, Option}
 use Rattle.std.specs.List.{AllZip}
 use Rattle.std.specs.Io.KnownBytes.{Appends}
 use Rattle.rbc_model.specs.Levels.{speed_levels, grade_levels}
-use Rattle.rbc_model.specs.Histories.{Receipt, Matches}
+use Rattle.rbc_model.specs.Histories.{Matches}
 use Rattle.rbc_model.specs.PriceTables.{IsGreatestSoundTable}
 use Rattle.rbc_model.specs.Scales.{unit_of}
 use Rattle.rbc_model.specs.SessionReply.{grant_reply, blocked_reply, refused_reply, Full as HistoryIsFull, Memory as NoMemory}
 use Rattle.rbc_model.specs.Tracks.{Track}
 use Rattle.rbc_model.specs.Words.{line_of}
+use Rattle.rbc_sweep.specs.Later.{IsLater}
 use Rattle.rbc_sweep.specs.Records.{HistoryOnTrack}
-use Rattle.rbc_sweep.specs.limits.TheConstants.{MOST_ENTRIES}
+use Rattle.rbc_sweep.specs.Seats.{Seated}
+use Rattle.rbc_model.specs.declared.limits.TheConstants.{MOST_ENTRIES}
 use Rattle.rbc_sweep.specs.Closing.{all_receipts, IsUnmatched}
 use Rattle.rbc_sweep.specs.Granted.{Granted as Grant}
 use Rattle.rbc_replies.specs.Replies.{ObstacleIsOfTrack}
-use Rattle.rbc_sweep.specs.Trains.{AreTrainsOf}
-use Rattle.rbc_sweep.specs.Outcomes.{AreFirst, IsOutcome, granted, train_of}
+use Rattle.rbc_sweep.specs.Outcomes.{AreFirst, AreTrainsOfFirst, IsToldToOne, granted, train_of}
 use Rattle.rbc_sweep.specs.declared.outcome.Answer.{Answer}
 use Rattle.rbc_sweep.specs.declared.outcome.Answer.TheVariants.{Granted, Blocked, Gone, Full, Memory}
 use Rattle.rbc_sweep.specs.declared.outcome.Outcome.{Outcome}
@@ -70,23 +71,37 @@ IsTellable track outcome = AnswerIsTellable track outcome.answer
 
 -- ---- what comes of it
 
--- Connections were served at the desk that was opened with this history, from seats with these receipts, and a sweep of all trains was made; this
--- was written, and this record came back.
-pub record IsServed (opened : HistoryOnTrack) (seats : List (List Receipt)) (old new : Option (List ℕ)) (log : HistoryOnTrack) : Type 0 where
-  -- Each seat kept its receipts, and all receipts of all seats are just the entries since the desk was opened.
-  pub kept : List (List Receipt)
-  pub first : AllZip AreFirst seats kept
-  pub matches : Matches (all_receipts kept) log.entries (length opened.entries)
-  -- The sweep served each train of a scene of the desk once, in order of arrival, and what it granted is among the receipts.
+-- So many connections were served from the first of these seats, and a sweep was made with those that are left. These seats came back, and this was
+-- written on this track.
+pub record IsAttended (track : Track) (connections : ℕ) (seats kept : List Seated) (old new : Option (List ℕ)) : Type 0 where
+  -- Each seat has first what it had, of receipts and of what it was told.
+  pub served : List Seated
+  pub swept : List Seated
+  pub all : kept ≡ served ++ swept
+  pub after_connections : AllZip AreFirst (take connections seats) served
+  pub after_sweep : AllZip AreFirst (drop connections seats) swept
+  -- The sweep served, in order of arrival, each train that its first seat was told of, and each is answered as one of its seats was told. What the
+  -- seats gained is what it granted.
   pub outcomes : List Outcome
-  pub trains : AreTrainsOf opened (map train_of outcomes)
-  pub answered : All (IsOutcome opened) outcomes
-  pub others : List Receipt
-  pub gained : IsPermutation (others ++ granted outcomes) (all_receipts kept)
-  -- What was written tells the outcomes, and then how many entries the history has.
+  pub trains : AreTrainsOfFirst (drop connections seats) swept (map train_of outcomes)
+  pub answered : All (IsToldToOne (drop connections seats) swept) outcomes
+  pub gained : IsPermutation (all_receipts (drop connections seats) ++ granted outcomes) (all_receipts swept)
+  -- What was written tells the outcomes.
   pub told : List ℕ
-  pub tells : TellsAll opened.track outcomes told
-  pub written : Appends old new (told ++ closed_line (length log.entries))
+  pub tells : TellsAll track outcomes told
+  pub written : Appends old new told
+
+-- Connections were served, and a sweep was made, at the desk that was opened with this history; then the desk was closed. This was written, and this
+-- record came back.
+pub record IsServed (opened : HistoryOnTrack) (connections : ℕ) (seats : List Seated) (old new : Option (List ℕ)) (log : HistoryOnTrack) : Type 0 where
+  pub kept : List Seated
+  pub so_far : Option (List ℕ)
+  pub attended : IsAttended opened.track connections seats kept old so_far
+  -- All receipts of all seats are just the entries since the desk was opened, and the record goes on from what each seat was told.
+  pub matches : Matches (all_receipts kept) log.entries (length opened.entries)
+  pub goes_on : All (λ (seat : Seated). IsLater seat.told log) kept
+  -- Last of all it is told how many entries the record has.
+  pub closed : Appends so_far new (closed_line (length log.entries))
 
 -- ---- faults
 
@@ -95,8 +110,13 @@ abbrev pub serve_fault : ConnectFault → ServeFault
 serve_fault NoConnection = Port
 serve_fault NoThread = NoServeMemory
 
--- A desk that could not be closed: some of its seats were not handed in; or in some history that it may have had, a receipt of a seat is not at
--- its place, each seat having kept its receipts.
-abbrev pub IsServeFault : HistoryOnTrack → ℕ → List (List Receipt) → ServeFault → Type 0
-IsServeFault opened parts seats (Close fault) = (kept : List (List Receipt)) × AllZip AreFirst seats kept × IsUnmatched opened parts kept fault
+-- A desk that could not be closed: some of its seats were not handed in; or in a legal history that goes on from its opening, a receipt of a seat is
+-- not at its place.
+abbrev pub IsCloseFault : HistoryOnTrack → ℕ → List Seated → ServeFault → Type 0
+IsCloseFault opened parts kept (Close fault) = IsUnmatched opened parts kept fault
+IsCloseFault opened parts kept _ = Unit {0}
+
+-- the same after connections and a sweep: each seat has first what it had
+abbrev pub IsServeFault : HistoryOnTrack → ℕ → List Seated → ServeFault → Type 0
+IsServeFault opened parts seats (Close fault) = (kept : List Seated) × AllZip AreFirst seats kept × IsUnmatched opened parts kept fault
 IsServeFault opened parts seats _ = Unit {0}

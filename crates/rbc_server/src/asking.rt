@@ -1,6 +1,6 @@
 //! A train that asks: it is granted an authority, or told what stands in its way.
 
-ghost use Rattle.std.specs.Prelude.{◌≡◌, ℕ, List, length, false, None, Ok};
+ghost use Rattle.std.specs.Prelude.{◌≡◌, ℕ, List, false, None, Ok};
 ghost use Rattle.rbc_model.specs.declared.memory.OrMemory.TheVariants.{Refused};
 ghost use Rattle.rbc_model.specs.declared.refusals.ViewFault.TheVariants.{UnknownTrain};
 ghost use Rattle.rbc_model.specs.Answers.{RefusesOrMemory};
@@ -13,7 +13,7 @@ ghost use Rattle.rbc_sweep.specs.Records.{scene_now};
 ghost use Rattle.rbc_replies.specs.Replies.{reply_text, ReplyIsWhole};
 ghost use Rattle.rbc_server.specs.Changes.{Comes};
 ghost use Rattle.rbc_server.specs.Shown.{IsToldOf};
-ghost use Rattle.rbc_server.specs.Turns.{AnswersAuthority};
+ghost use Rattle.rbc_session_laws.specs.Turns.{AnswersAuthority};
 
 use rbc_model::{OrMemory, Refusal, ViewFault};
 use rbc_replies::{Basis, Granted, SessionRefusal, SessionReply, print};
@@ -98,11 +98,9 @@ fn grant<W: Sink>(
     print(history.track(), &reply, writer)
 }
 
-/// The reply to a train that is shown the candidate's view, at the history's version.
+/// The reply to a train that is shown the candidate's view.
 fn commit<'a>(alloc: Global, history: &mut Record, candidate: &'a Candidate) -> SessionReply<'a>
-    requires current { candidate.now.version ≡ length history.old.entries }
-    requires shown { view history.old.track (scene_now history.old) candidate.now.view.train
-        ≡ Ok candidate.now.view }
+    requires { view history.old.track (scene_now history.old) candidate.now.view.train ≡ Ok candidate.now.view }
     ensures comes { Comes (λ track entries said added. AnswersAuthority track entries said added
         candidate.now.view.train) history.old (reply_text history.old.track result) history.new }
     ensures whole { ReplyIsWhole history.old.track result }
@@ -115,9 +113,8 @@ fn commit<'a>(alloc: Global, history: &mut Record, candidate: &'a Candidate) -> 
         Ok(receipt) => SessionReply::Granted(told_of(candidate, receipt.place() + 1)),
         Err(OrMemory::Refused(CommitFault::Full)) => SessionReply::Refused(SessionRefusal::Full),
         Err(OrMemory::Memory) => SessionReply::Refused(SessionRefusal::Memory),
-        // The candidate is of the history's version, and of its own view.
+        // The train is shown the candidate's view.
         Err(OrMemory::Refused(CommitFault::Stale(_))) => unreachable!(),
-        Err(OrMemory::Refused(CommitFault::Foreign)) => unreachable!(),
     }
 }
 

@@ -1,11 +1,12 @@
 //! The centre answers lines.
 
 use crate::asking::ask;
-use crate::demand::{Demand, demand_in};
+use crate::demand::demand_in;
 use crate::telling::tell;
 use rbc_model::LineFault;
 use rbc_model::limits::LONGEST_LINE;
 use rbc_replies::{SessionRefusal, SessionReply, print};
+use rbc_session_laws::Demand;
 use rbc_streams::{Answers, Sink, WriteFailed};
 use rbc_sweep::Record;
 use std::alloc::Global;

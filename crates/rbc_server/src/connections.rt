@@ -34,7 +34,7 @@ impl From<AllocError> for ConnectFault {
     }
 }
 
-/// The seat keeps the receipts that it had.
+/// The seat has first what it had: its receipts, and what it was told.
 #[derive(Drop)]
 struct Keeps<L: DeskName>(Snapshot<Seat<L>>);
 

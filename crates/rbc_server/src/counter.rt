@@ -3,22 +3,23 @@
 ghost use Rattle.std.specs.Prelude.{◌≡◌, ◌<◌, ℕ, List, false, Ok, IfOk};
 ghost use Rattle.rbc_model.specs.Sessions.{Prints};
 ghost use Rattle.rbc_model.specs.Histories.{Entry};
-ghost use Rattle.rbc_sweep.specs.limits.TheConstants.{MOST_ENTRIES};
+ghost use Rattle.rbc_model.specs.declared.limits.TheConstants.{MOST_ENTRIES};
 ghost use Rattle.rbc_sweep.specs.Records.{history_on};
 ghost use Rattle.rbc_sweep.specs.Asking.{IsAnswered};
 ghost use Rattle.rbc_replies.specs.Replies.{reply_text, ReplyIsWhole};
-ghost use Rattle.rbc_server.specs.declared.demand.Demand.TheVariants.{Event, Authority};
-ghost use Rattle.rbc_server.specs.Demands.{IsToldOfTrack};
+ghost use Rattle.rbc_session_laws.specs.declared.demand.Demand.TheVariants.{Event, Authority};
+ghost use Rattle.rbc_model.specs.HistoryText.{IsToldOfTrack};
 ghost use Rattle.rbc_server.specs.SeatChanges.{SeatComes};
 ghost use Rattle.rbc_server.specs.SeatTurns.{AnswersAsked};
 ghost use Rattle.rbc_server.specs.Shown.{entry_granted_in};
 
 use crate::asking::told_of;
-use crate::demand::{Demand, demand_in};
+use crate::demand::demand_in;
 use crate::telling::refusal_of;
 use rbc_model::limits::LONGEST_LINE;
 use rbc_model::{LineFault, OrMemory, Refusal, Told};
 use rbc_replies::{SessionRefusal, SessionReply, print};
+use rbc_session_laws::Demand;
 use rbc_streams::{Answers, Sink, WriteFailed};
 use rbc_sweep::{AskFault, Desk, DeskName, Gate, Granted, Seat};
 use rbc_track::Track;
@@ -41,11 +42,12 @@ impl<'a, L: DeskName, G: Gate, R: Wait> Counter<'a, L, G, R> {
     /// The reply to what is told. Where it is accepted, the seat gains a receipt.
     fn tell(&self, alloc: Global, seat: &mut Seat<L>, told: Told) -> SessionReply<'static>
         requires { IsToldOfTrack L.opened.track told }
-        ensures comes { SeatComes L.opened (Ok (Event told)) seat.old (reply_text L.opened.track result) seat.new }
+        ensures comes { SeatComes (Ok (Event told)) seat.old (reply_text L.opened.track result) seat.new }
         ensures whole { ReplyIsWhole L.opened.track result }
     {
-        // What a refusal names is of the track, since the track is sound.
+        // What a refusal names is of the track, since the track is sound. What the seat was told is on it.
         let _sections = self.track.section_count();
+        let _version = seat.version();
         match self.desk.event(self.waiting, alloc, seat, told) {
             Ok(receipt) => SessionReply::Accepted(receipt.place() + 1),
             Err(fault) => SessionReply::Refused(refusal_of(fault)),
@@ -67,9 +69,11 @@ impl<'a, L: DeskName, G: Gate, R: Wait> Counter<'a, L, G, R> {
     ) -> Result<(), WriteFailed>
         requires { W.failed writer.old ≡ false }
         ensures { (reply : List ℕ)
-            × SeatComes L.opened (Ok (Authority train)) seat.old reply seat.new
+            × SeatComes (Ok (Authority train)) seat.old reply seat.new
             × Prints (W.written writer.old) (W.written writer.new) (W.failed writer.new) reply result }
     {
+        // What the seat was told is on the desk's track.
+        let _version = seat.version();
         let answer = self
             .desk
             .ask_by(rt, self.waiting, alloc, seat, train, self.gate);
@@ -119,7 +123,7 @@ impl<'a, L: DeskName, G: Gate, R: Wait> Answers<Counter<'a, L, G, R>> for Seat<L
 
     ghost state = { λ seat. seat };
 
-    ghost answers = { SeatGoes L.opened };
+    ghost answers = { SeatGoes };
 
     fn longest_line() -> usize
         ensures value { result ≡ LONGEST_LINE }
@@ -136,6 +140,8 @@ impl<'a, L: DeskName, G: Gate, R: Wait> Answers<Counter<'a, L, G, R>> for Seat<L
         line: &[u8],
         writer: &mut W,
     ) -> Result<(), WriteFailed> {
+        // What the seat was told is on the desk's track.
+        let _version = self.version();
         match demand_in(counter.track, line) {
             Ok(Demand::Nothing) => print(counter.track, &SessionReply::Nothing, writer),
             Ok(Demand::Event(told)) => {
@@ -152,6 +158,8 @@ impl<'a, L: DeskName, G: Gate, R: Wait> Answers<Counter<'a, L, G, R>> for Seat<L
         counter: &Counter<'a, L, G, R>,
         writer: &mut W,
     ) -> Result<(), WriteFailed> {
+        // As above.
+        let _version = self.version();
         let overlong = SessionReply::Refused(SessionRefusal::BadLine(LineFault::Overlong));
         print(counter.track, &overlong, writer)
     }

@@ -3,24 +3,14 @@
 ghost use Rattle.std.specs.Prelude.{◌≡◌, IfOk};
 ghost use Rattle.std.specs.Result.{result_map_both};
 ghost use Rattle.rbc_replies.specs.Replies.{refusal_view};
-ghost use Rattle.rbc_server.specs.Demands.{looked_up, demand_in, IsDemandOfTrack};
+ghost use Rattle.rbc_session_laws.specs.Demands.{looked_up, demand_in, IsDemandOfTrack};
 ghost use Rattle.rbc_words.specs.SessionLines.{request_view};
 
 use rbc_model::Told;
 use rbc_replies::SessionRefusal;
+use rbc_session_laws::Demand;
 use rbc_track::Track;
 use rbc_words::{Request, parse};
-
-/// What a line asks for, its names looked up in the track.
-#[derive(Clone, Copy, Debug, PartialEq, Eq)]
-pub enum Demand {
-    /// Nothing: the line has no reply.
-    Nothing,
-    /// Something is told.
-    Event(Told),
-    /// The train of this number asks for an authority.
-    Authority(u32),
-}
 
 /// What the bytes of a line ask for. It takes no memory.
 ///
@@ -56,6 +46,7 @@ fn looked_up(track: &Track, request: Request) -> Result<Demand, SessionRefusal>
             None => Err(SessionRefusal::UnknownName(name)),
         },
         Request::Leave(train) => Ok(Demand::Event(Told::Leave(train))),
+        Request::GiveBack(train, end) => Ok(Demand::Event(Told::GiveBack(train, end))),
         Request::Ask(train) => Ok(Demand::Authority(train)),
     }
 }

@@ -12,8 +12,7 @@ mod serving;
 mod sessions;
 mod telling;
 
-pub use demand::Demand;
 pub use rbc_streams::SessionFault;
-pub use rbc_sweep::{Desk, DeskName, Record};
+pub use rbc_sweep::{Blank, Desk, DeskName, Record};
 pub use serving::{ServeFault, serve};
 pub use sessions::{run, session};

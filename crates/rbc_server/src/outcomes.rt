@@ -3,7 +3,7 @@
 ghost use Rattle.std.specs.Prelude.{◌≡◌, ◌<◌, ◌∷◌, ◌++◌, [], ℕ, List, All, false, decimal, OnOk, is_err};
 ghost use Rattle.std.specs.Io.KnownBytes.{Appends};
 ghost use Rattle.rbc_model.specs.Sessions.{Prints};
-ghost use Rattle.rbc_sweep.specs.limits.TheConstants.{MOST_ENTRIES};
+ghost use Rattle.rbc_model.specs.declared.limits.TheConstants.{MOST_ENTRIES};
 ghost use Rattle.rbc_replies.specs.Replies.{ObstacleIsOfTrack};
 ghost use Rattle.rbc_server.specs.Serving.{TellsAll, TellsAnswer, TellsGrant, AnswerIsTellable, IsTellable, closed_line};
 

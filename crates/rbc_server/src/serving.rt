@@ -1,8 +1,11 @@
 //! A centre that serves connections.
 
-ghost use Rattle.std.specs.Prelude.{◌≡◌, ◌↔◌, ◌<◌, ◌≤◌, [], false, take, length, vec_len, IsTrue, IfOk, IfErr, OnOk, Err};
-ghost use Rattle.rbc_model.specs.Histories.{IsLegal};
-ghost use Rattle.rbc_server.specs.Serving.{IsServed, IsServeFault};
+ghost use Rattle.std.specs.Prelude.{◌≡◌, ◌≢◌, ◌↔◌, ◌<◌, ◌≤◌, [], All, false, take, length, vec_len, IsTrue, IfOk, IfErr, OnOk, Err};
+ghost use Rattle.std.specs.Io.KnownBytes.{Appends};
+ghost use Rattle.rbc_model.specs.Histories.{IsLegal, Matches};
+ghost use Rattle.rbc_sweep.specs.Closing.{all_receipts};
+ghost use Rattle.rbc_sweep.specs.Later.{IsLater};
+ghost use Rattle.rbc_server.specs.Serving.{closed_line, IsAttended, IsCloseFault, IsServed, IsServeFault};
 ghost use Rattle.rbc_server.specs.declared.serving.ServeFault.TheVariants.{Port, Write as WriteFault};
 
 use crate::connections::{ConnectFault, connect};
@@ -88,10 +91,95 @@ impl From<CloseFault> for ServeFault {
     }
 }
 
+/// What each of these seats was told is on the desk's track.
+fn are_on_track<L: DeskName>(seats: &[Seat<L>])
+    ensures { All (λ seat. seat.told.track ≡ L.opened.track) seats.now }
+{
+    for seat in seats {
+        let _version = seat.version();
+    }
+}
+
+/// Serves so many connections from the first of these seats, sweeps with those that are left, and prints the outcomes.
+/// Gives all seats back, in their order.
+///
+/// # Errors
+///
+/// Those of [`serve`], but for `Close`.
+fn attend<
+    L: DeskName + Send + Sync,
+    S: Read + Write + Send + Drop,
+    N: OpenListener<Stream = S>,
+    W: Sink,
+    T: Threads + Wait + Sync,
+>(
+    rt: &T,
+    alloc: Global,
+    listener: &N,
+    track: &Track,
+    desk: &Desk<L>,
+    seats: Vec<Seat<L>>,
+    connections: usize,
+    writer: &mut W,
+) -> Result<Vec<Seat<L>>, ServeFault>
+    requires going { W.failed writer.old ≡ false }
+    requires track { track.now ≡ L.opened.track }
+    requires some { 1 ≤ connections }
+    requires workers { connections < vec_len seats }
+    requires few { vec_len seats ≤ 16 }
+    ensures attended { IfOk result (λ kept.
+        IsAttended L.opened.track connections seats.items kept.items (W.written writer.old) (W.written writer.new)) }
+    ensures port { result ≡ Err Port → writer.new ≡ writer.old }
+    ensures write { (result ≡ Err WriteFault) ↔ IsTrue (W.failed writer.new) }
+    ensures close { IfErr result (IsServeFault L.opened L.parts seats.items) }
+{
+    // The track is sound, so what stands beyond an end, or in the way, is of the track.
+    let _sections = track.section_count();
+    let mut seats = seats;
+    let workers = seats.split_off(connections)?;
+    are_on_track(workers.as_slice());
+    let mut served = connect(rt, alloc, listener, track, desk, seats, workers.len())?;
+    let (mut workers, outcomes) = sweep(rt, alloc, desk, workers, &OpenGate);
+    print_outcomes(track, outcomes?.as_slice(), writer)?;
+    served.append(&mut workers)?;
+    Ok(served)
+}
+
+/// Closes the desk, and prints how many entries the record has.
+///
+/// # Errors
+///
+/// - `Close`: the desk could not be closed,
+/// - `Write`: the writer failed.
+fn close_desk<L: DeskName, W: Sink, T: Wait>(
+    rt: &T,
+    desk: Desk<L>,
+    seats: Vec<Seat<L>>,
+    writer: &mut W,
+) -> Result<Record, ServeFault>
+    requires { W.failed writer.old ≡ false }
+    ensures matches { IfOk result (λ log.
+        Matches (all_receipts seats.items) log.entries (length L.opened.entries)) }
+    ensures grown { IfOk result (λ log. take (length L.opened.entries) log.entries ≡ L.opened.entries) }
+    ensures track { IfOk result (λ log. log.track ≡ L.opened.track) }
+    ensures legal { IfOk result (λ log. IsLegal log.track log.entries) }
+    ensures told { IfOk result (λ log. All (λ seat. IsLater seat.told log) seats.items) }
+    ensures text { IfOk result (λ log.
+        Appends (W.written writer.old) (W.written writer.new) (closed_line (length log.entries))) }
+    ensures handed_on { OnOk result (W.held_back writer.new ≡ []) }
+    ensures port { result ≢ Err Port }
+    ensures write { (result ≡ Err WriteFault) ↔ IsTrue (W.failed writer.new) }
+    ensures close { IfErr result (IsCloseFault L.opened L.parts seats.items) }
+{
+    let log = desk.close(rt, seats)?;
+    print_closed(log.version(), writer)?;
+    Ok(log)
+}
+
 /// Serves so many connections at a desk, each a session with a thread and a seat of its own: the first seats, in order.
 /// A fault of a session ends its connection, and no other. Once all have ended, each train is served once more in a sweep
 /// with the seats that are left; its outcomes are printed, the desk is closed, and how many entries the record has is
-/// printed. The track is that of the desk.
+/// printed. The track is that of the desk, which is ended on each way out.
 ///
 /// # Errors
 ///
@@ -127,8 +215,9 @@ pub fn serve<
     ensures track { IfOk result (λ log. log.track ≡ L.opened.track) }
     ensures legal { IfOk result (λ log. IsLegal log.track log.entries) }
 
-    // No receipt is lost. What was written tells what came of the sweep, and then how many entries the record has.
-    ensures served { IfOk result (IsServed L.opened seats.items (W.written writer.old) (W.written writer.new)) }
+    // No receipt is lost, and nothing that a seat was told. What was written tells what came of the sweep, and then how
+    // many entries the record has.
+    ensures served { IfOk result (IsServed L.opened connections seats.items (W.written writer.old) (W.written writer.new)) }
     ensures handed_on { OnOk result (W.held_back writer.new ≡ []) }
 
     // Before the sweep nothing is written. A write fault is answered just where the writer failed.
@@ -136,15 +225,20 @@ pub fn serve<
     ensures write { (result ≡ Err WriteFault) ↔ IsTrue (W.failed writer.new) }
     ensures close { IfErr result (IsServeFault L.opened L.parts seats.items) }
 {
-    // The track is sound, so what stands beyond an end, or in the way, is of the track.
-    let _sections = track.section_count();
-    let mut seats = seats;
-    let workers = seats.split_off(connections)?;
-    let mut served = connect(rt, alloc, listener, track, &desk, seats, workers.len())?;
-    let (mut workers, outcomes) = sweep(rt, alloc, &desk, workers, &OpenGate);
-    print_outcomes(track, outcomes?.as_slice(), writer)?;
-    served.append(&mut workers)?;
-    let log = desk.close(served)?;
-    print_closed(log.version(), writer)?;
-    Ok(log)
+    match attend(
+        rt,
+        alloc,
+        listener,
+        track,
+        &desk,
+        seats,
+        connections,
+        writer,
+    ) {
+        Ok(seats) => close_desk(rt, desk, seats, writer),
+        Err(fault) => {
+            desk.end(rt);
+            Err(fault)
+        }
+    }
 }

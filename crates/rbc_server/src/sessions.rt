@@ -2,9 +2,11 @@
 
 ghost use Rattle.std.specs.Prelude.{◌≡◌, ◌↔◌, ℕ, List, [], true, false, IsTrue, OnOk, Err};
 ghost use Rattle.std.specs.Io.KnownBytes.{Consumes, IsAtEnd};
+ghost use Rattle.rbc_sweep.specs.Outcomes.{AreFirst};
 ghost use Rattle.rbc_server.specs.SeatSessions.{IsSeatSession};
-ghost use Rattle.rbc_server.specs.SessionRuns.{IsSession};
-ghost use mathlib.Core.List.{IsPrefix};
+ghost use Rattle.rbc_session_laws.specs.Retelling.{IsRetold};
+ghost use Rattle.rbc_session_laws.specs.SessionRuns.{IsSession};
+ghost use Rattle.rbc_server.specs.Answered.{AnswersAll};
 
 use crate::SessionFault;
 use crate::centre::Centre;
@@ -53,16 +55,27 @@ pub fn run<R: Source, W: Sink>(
         × IsSession history.old.track history.old.entries history.new.entries input
         (W.written writer.old) (W.written writer.new) result }
 
+    // At the end of the input, where memory was never refused, what was written and the history are one function of the
+    // track, of the history before and of what was read.
+    ensures answers { OnOk result (AnswersAll history.old history.new (R.left reader.old)
+        (W.written writer.old) (W.written writer.new)) }
+
+    // The history is a session: the lines of its entries lead to them again, if those of the history before did.
+    ensures retold { IsRetold history.old.track history.old.entries → IsRetold history.new.track history.new.entries }
+
     // What was written was handed on, unless the writer failed.
     ensures handed_on { W.failed writer.new ≡ false → W.held_back writer.old ≡ [] → W.held_back writer.new ≡ [] }
 {
+    // The record's track is in form.
+    let _version = history.version();
     converse(rt, alloc, reader, writer, history, &Centre)
 }
 
 /// Answers each line of the reader at a desk, in order, up to the end of the input or the first fault. The seat gains a
-/// receipt for each line that is accepted, and none for any other. Each line is answered as after some history that the
-/// desk had: other seats may enter what they are told and asked meanwhile. Each reply is handed on before the next line
-/// is read. The track is that of the desk. Trains that ask pass the gate, outside the desk's lock.
+/// receipt for each line that is accepted, and none for any other. Each line is answered as after a history that goes on
+/// from all that the seat had been told, and the seat is told that history: other seats may enter what they are told and
+/// asked meanwhile. Each reply is handed on before the next line is read. The track is that of the desk. Trains that ask
+/// pass the gate, outside the desk's lock.
 ///
 /// # Errors
 ///
@@ -92,11 +105,11 @@ pub fn session<R: Source, W: Sink, L: DeskName, G: Gate, T: Threads + Wait + Syn
     // Ok is answered at the end of the input.
     ensures end { OnOk result (IsAtEnd (R.left reader.new)) }
 
-    // The seat loses no receipt; each line of what was read was answered as the desk may answer it, and what was gained
-    // for it is told in its reply.
-    ensures grown { IsPrefix seat.old seat.new }
+    // The seat loses no receipt, and nothing that it was told. Each line of what was read was answered after all that the
+    // seat had been told by then, and what was gained for it is told in its reply.
+    ensures grown { AreFirst seat.old seat.new }
     ensures session { (input : List ℕ) × Consumes (R.left reader.old) (R.left reader.new) input
-        × IsSeatSession L.opened seat.old seat.new input (W.written writer.old) (W.written writer.new) result }
+        × IsSeatSession seat.old seat.new input (W.written writer.old) (W.written writer.new) result }
 
     // What was written was handed on, unless the writer failed.
     ensures handed_on { W.failed writer.new ≡ false → W.held_back writer.old ≡ [] → W.held_back writer.new ≡ [] }

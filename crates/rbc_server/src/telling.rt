@@ -3,9 +3,9 @@
 ghost use Rattle.std.specs.Prelude.{◌≡◌};
 ghost use Rattle.rbc_replies.specs.Replies.{reply_text, ReplyIsWhole};
 ghost use Rattle.rbc_server.specs.Changes.{Comes};
-ghost use Rattle.rbc_server.specs.Demands.{IsToldOfTrack};
+ghost use Rattle.rbc_model.specs.HistoryText.{IsToldOfTrack};
 ghost use Rattle.rbc_server.specs.Shown.{told_refusal};
-ghost use Rattle.rbc_server.specs.Turns.{AnswersEvent};
+ghost use Rattle.rbc_session_laws.specs.Turns.{AnswersEvent};
 
 use rbc_model::{OrMemory, Told};
 use rbc_replies::{SessionRefusal, SessionReply};

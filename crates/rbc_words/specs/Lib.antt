@@ -1,3 +1,4 @@
+pub mod LineWords
 pub mod PriceText
 pub mod Replies
 pub mod SessionLines

@@ -1,7 +1,7 @@
 -- What is read of a line of a session, as the grammar has it.
-use Rattle.rbc_model.specs.SessionText.{SessionLine, Blank, Report, Lock, Free, Leave, Ask}
+use Rattle.rbc_model.specs.SessionText.{SessionLine, Blank, Report, Lock, Free, Leave, GiveBack, Ask}
 use Rattle.rbc_words.specs.declared.session_request.Request.{Request}
-use Rattle.rbc_words.specs.declared.session_request.Request.TheVariants.{Blank as ReadBlank, Report as ReadReport, Lock as ReadLock, Free as ReadFree, Leave as ReadLeave, Ask as ReadAsk}
+use Rattle.rbc_words.specs.declared.session_request.Request.TheVariants.{Blank as ReadBlank, Report as ReadReport, Lock as ReadLock, Free as ReadFree, Leave as ReadLeave, GiveBack as ReadGiveBack, Ask as ReadAsk}
 
 -- a request as the grammar has it
 abbrev pub request_view : Request → SessionLine
@@ -10,4 +10,5 @@ request_view (ReadReport report) = Report report
 request_view (ReadLock route) = Lock route
 request_view (ReadFree section) = Free section
 request_view (ReadLeave train) = Leave train
+request_view (ReadGiveBack train end) = GiveBack train end
 request_view (ReadAsk train) = Ask train

@@ -1,18 +1,22 @@
 //! What the lines of `rbc steps` and of a session say, and how replies are printed.
 #![tactic(auto)]
 
+mod line_words;
 mod price_table;
 mod printing;
+mod session_line;
 mod session_request;
 mod spelled;
 mod steps_reply;
 mod steps_request;
 mod words;
 
+pub use line_words::{Word, leg_word, print_line, print_words, section_word};
 pub use price_table::print_table;
 pub use printing::{print_hex, print_number, print_signed};
 pub use rbc_model::{LineFault, OrMemory, StepsRefusal};
 pub use rbc_streams::{Advance, LineReader, SessionFault, Sink, Source, Stream, WriteFailed};
+pub use session_line::{print_request, told_request};
 pub use session_request::{Request, parse};
 pub use spelled::Spelled;
 pub use steps_reply::{

@@ -2,7 +2,7 @@
 
 ghost use Rattle.std.specs.Prelude.{◌≡◌, [], ◌∷◌, Err, MatchResult};
 ghost use Rattle.rbc_model.specs.RequestText.{line_in};
-ghost use Rattle.rbc_model.specs.SessionText.{group_at, nominal_at, name_in, train_in, report_in};
+ghost use Rattle.rbc_model.specs.SessionText.{group_at, nominal_at, name_in, train_in, report_in, give_back_in};
 ghost use Rattle.rbc_model.specs.SessionText.{words_line, parse_session};
 ghost use Rattle.rbc_model.specs.Words.{words_of};
 ghost use Rattle.rbc_words.specs.SessionLines.{request_view};
@@ -11,7 +11,8 @@ use crate::words::{
     around, next_word, number_at, number_from_to, only_word, request_text, take_word,
 };
 use rbc_model::limits::{
-    FARTHEST_REPORT, LAST_COUNTRY, LAST_GROUP, LAST_TIME, LAST_TRAIN, LONGEST_TRAIN, MOST_DOUBT,
+    FARTHEST_KEPT, FARTHEST_REPORT, LAST_COUNTRY, LAST_GROUP, LAST_TIME, LAST_TRAIN, LONGEST_TRAIN,
+    MOST_DOUBT,
 };
 use rbc_model::{GroupName, LineFault, Report, ReportFields};
 use rbc_track::Name;
@@ -30,6 +31,8 @@ pub enum Request {
     Free(Name),
     /// The train of this number, 1 to 9,999,999, leaves.
     Leave(u32),
+    /// The train of this number, 1 to 9,999,999, gives back what lies beyond so many metres from its group, 0 to 100,000.
+    GiveBack(u32, u32),
     /// The train of this number, 1 to 9,999,999, asks for an authority.
     Ask(u32),
 }
@@ -42,8 +45,9 @@ pub enum Request {
 ///
 /// - `Overlong`: the line has more than 4,096 bytes, a carriage return counted.
 /// - `NotText`: a byte is no space and no visible character of ASCII.
-/// - `Command`: the first word is none of `report`, `lock`, `free`, `leave` and `ask`.
-/// - `Words`: behind `report` stand not just eight words, or behind another command not just one.
+/// - `Command`: the first word is none of `report`, `lock`, `free`, `leave`, `yield` and `ask`.
+/// - `Words`: behind `report` stand not just eight words, behind `yield` not just two, or behind another command not
+///   just one.
 /// - `Number` or `Name`, of the first word that is not what stands there: `Number` of a number that is none or out
 ///   of range, `Name` of a group that is none or out of range, of another word than `nominal` and `reverse`, and of a
 ///   name out of its form.
@@ -66,6 +70,7 @@ fn words_line(text: &[u8]) -> Result<Request, LineFault>
         Some((b"lock", words)) => Ok(Request::Lock(name_in(words)?)),
         Some((b"free", words)) => Ok(Request::Free(name_in(words)?)),
         Some((b"leave", words)) => Ok(Request::Leave(train_in(words)?)),
+        Some((b"yield", words)) => give_back_in(words),
         Some((b"ask", words)) => Ok(Request::Ask(train_in(words)?)),
         Some(_) => Err(LineFault::Command),
     }
@@ -83,6 +88,18 @@ fn train_in(words: &[u8]) -> Result<u32, LineFault>
     ensures { result ≡ train_in (words_of words.now) }
 {
     number_at(2, only_word(words)?, 1, LAST_TRAIN)
+}
+
+/// The request in the two words behind the command `yield`: a train, and how many metres from its group the authority
+/// ends that it keeps.
+fn give_back_in(words: &[u8]) -> Result<Request, LineFault>
+    ensures { line_in request_view result ≡ give_back_in (words_of words.now) }
+{
+    let (train, rest) = take_word(words)?;
+    let end = only_word(rest)?;
+    let train = number_at(2, train, 1, LAST_TRAIN)?;
+    let end = number_at(3, end, 0, FARTHEST_KEPT)?;
+    Ok(Request::GiveBack(train, end))
 }
 
 /// The words behind the command `report`, in their order.

@@ -6,13 +6,12 @@ use super::BRANCH;
 use super::replays::can_be_entered_again;
 use super::telling::{ask, closed, record_of, shared_track, tell};
 use rbc_model::OrMemory;
-use rbc_sweep::{Desk, DeskName, OpenGate, Record, Seat};
+use rbc_sweep::{Blank, Desk, DeskName, OpenGate, Record, Seat};
 use rbc_track::Track;
 use rbc_words::{Request, parse};
 use std::marker::Brand;
 use std::process::Abort;
 use std::sync::Wait;
-use std::sync::ledger::Blank;
 use std::thread;
 use std::thread::Threads;
 
@@ -95,12 +94,13 @@ where
 fn crowd<L: DeskName + Send + Sync, R>(rt: &R, history: Record, blank: Blank) -> Record
 where
     R: Threads + Wait + Abort + AllocGlobal + Sync,
-    requires name { blank.name ≡ L.name }
-    requires parts { (blank.parts ≡ L.parts) × (4 ≡ L.parts) }
+    requires name { blank.ledger.name ≡ L.name }
+    requires book { blank.journal ≡ L.book }
+    requires parts { (blank.ledger.parts ≡ L.parts) × (4 ≡ L.parts) }
     requires opened { history ≡ L.opened }
 {
     let shared = shared_track(rt, &history);
-    let (desk, mut seats) = Desk::<L>::new(rt.alloc(), history, 4, blank).expect(rt, "seats");
+    let (desk, mut seats) = Desk::<L>::new(rt, rt.alloc(), history, 4, blank).expect(rt, "seats");
     let track: &Track = &shared;
     thread::for_each_mut(
         rt,

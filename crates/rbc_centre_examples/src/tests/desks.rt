@@ -5,12 +5,12 @@ ghost use Rattle.std.specs.Prelude.{◌≡◌};
 use super::gates::{Tells, Waits};
 use super::telling::{ask, closed, record_of, shared_track, tell};
 use super::{BRANCH, ONE_TRAIN, PLAIN, TWO_TRAINS};
-use rbc_sweep::{Desk, DeskName, Granted, Record};
+use rbc_model::{Obstacle, OrMemory};
+use rbc_sweep::{AskFault, Blank, Desk, DeskName, Granted, OpenGate, Record};
 use rbc_track::Track;
 use std::marker::Brand;
 use std::process::Abort;
 use std::sync::atomic::{AtomicU64, Ordering};
-use std::sync::ledger::Blank;
 use std::sync::{Mutex, Wait};
 use std::thread;
 use std::thread::Threads;
@@ -19,14 +19,15 @@ use std::thread::Threads;
 fn work_goes_on<L: DeskName + Send + Sync, R>(rt: &R, history: Record, blank: Blank)
 where
     R: Threads + Wait + Abort + AllocGlobal + Sync,
-    requires name { blank.name ≡ L.name }
-    requires parts { (blank.parts ≡ L.parts) × (2 ≡ L.parts) }
+    requires name { blank.ledger.name ≡ L.name }
+    requires book { blank.journal ≡ L.book }
+    requires parts { (blank.ledger.parts ≡ L.parts) × (2 ≡ L.parts) }
     requires opened { history ≡ L.opened }
 {
     let alloc = rt.alloc();
     let shared = shared_track(rt, &history);
     let track: &Track = &shared;
-    let (desk, mut seats) = Desk::<L>::new(alloc, history, 2, blank).expect(rt, "seats");
+    let (desk, mut seats) = Desk::<L>::new(rt, alloc, history, 2, blank).expect(rt, "seats");
     let mut asks = seats.pop().expect(rt, "a seat");
     let mut tells = seats.pop().expect(rt, "a seat");
     let answered = AtomicU64::new(0);
@@ -70,11 +71,13 @@ struct Overtaken {
     passes: u64,
     place: u64,
     end: u32,
+    /// The section at whose end there is no link.
+    last: usize,
     time: u32,
 }
 
 /// The train reports again at each of three tries, and the fourth is made under the lock. A route is locked elsewhere,
-/// and the same is granted. A route is locked ahead, and more is granted.
+/// and what was computed is granted. A route is locked ahead, and more is granted.
 const OVERTAKEN: [Overtaken; 3] = [
     Overtaken {
         file: PLAIN,
@@ -86,14 +89,16 @@ const OVERTAKEN: [Overtaken; 3] = [
         passes: 3,
         place: 5,
         end: 1_000,
+        last: 0,
         time: 1_003,
     },
     Overtaken {
         file: BRANCH,
         lines: &["lock R4"],
-        passes: 2,
+        passes: 1,
         place: 3,
         end: 1_000,
+        last: 0,
         time: 1_000,
     },
     Overtaken {
@@ -102,28 +107,35 @@ const OVERTAKEN: [Overtaken; 3] = [
         passes: 2,
         place: 3,
         end: 1_500,
+        last: 1,
         time: 1_000,
     },
 ];
 
 /// What was granted is what the case says.
 fn is_grant_of(rt: &impl Abort, granted: &Granted, case: &Overtaken) {
+    let candidate = &granted.candidate;
     assert_eq!(rt; granted.receipt.place(), case.place);
-    assert_eq!(rt; granted.candidate.authority().end(), case.end);
-    assert_eq!(rt; granted.candidate.authority().time(), case.time);
+    assert_eq!(rt; candidate.from(), 305);
+    assert_eq!(rt; candidate.authority().end(), case.end);
+    assert_eq!(rt; candidate.authority().time(), case.time);
+    assert!(rt;
+        matches!(candidate.obstacle(), Obstacle::NoLink(leg) if leg.section.index() == case.last)
+    );
 }
 
 /// Asks for train 1, while another seat tells.
 fn overtake<L: DeskName, R>(rt: &R, history: Record, blank: Blank, case: &Overtaken)
 where
     R: Threads + Wait + Abort + AllocGlobal + Sync,
-    requires name { blank.name ≡ L.name }
-    requires parts { (blank.parts ≡ L.parts) × (2 ≡ L.parts) }
+    requires name { blank.ledger.name ≡ L.name }
+    requires book { blank.journal ≡ L.book }
+    requires parts { (blank.ledger.parts ≡ L.parts) × (2 ≡ L.parts) }
     requires opened { history ≡ L.opened }
 {
     let alloc = rt.alloc();
     let track = shared_track(rt, &history);
-    let (desk, mut seats) = Desk::<L>::new(alloc, history, 2, blank).expect(rt, "seats");
+    let (desk, mut seats) = Desk::<L>::new(rt, alloc, history, 2, blank).expect(rt, "seats");
     let mut asks = seats.pop().expect(rt, "a seat");
     let tells = Mutex::new(seats.pop().expect(rt, "a seat"));
     let passes = AtomicU64::new(0);
@@ -150,4 +162,50 @@ fn stale_tries_are_made_again(rt: HostRuntime) {
         let history = record_of(&rt, rt.alloc(), case.file, &ONE_TRAIN);
         overtake::<Brand, _>(&rt, history, Blank::new(2), case);
     }
+}
+
+/// The answer speaks of a history that has an entry at this place.
+fn speaks_of(answer: &Result<Granted, OrMemory<AskFault>>, place: u64) -> bool {
+    match answer {
+        Ok(granted) => granted.receipt.place() > place,
+        Err(OrMemory::Refused(AskFault::Blocked(_, _, version))) => *version > place,
+        Err(_) => false,
+    }
+}
+
+/// A report, its train, and whether the train is granted an authority then: the second one is blocked by what the first
+/// was granted.
+const REPORTED: [(&str, u32, bool); 2] = [
+    ("report 2 5/17 nominal 700 5 5 200 2001", 2, true),
+    ("report 3 5/17 nominal 1200 5 5 100 4000", 3, false),
+];
+
+/// From one seat trains report, and ask.
+fn tell_and_ask<L: DeskName, R>(rt: &R, history: Record, blank: Blank)
+where
+    R: Threads + Wait + Abort + AllocGlobal + Sync,
+    requires name { blank.ledger.name ≡ L.name }
+    requires book { blank.journal ≡ L.book }
+    requires parts { (blank.ledger.parts ≡ L.parts) × (1 ≡ L.parts) }
+    requires opened { history ≡ L.opened }
+{
+    let alloc = rt.alloc();
+    let track = shared_track(rt, &history);
+    let (desk, mut seats) = Desk::<L>::new(rt, alloc, history, 1, blank).expect(rt, "seats");
+    let mut seat = seats.pop().expect(rt, "a seat");
+    for (line, train, is_granted) in REPORTED {
+        let told = tell(rt, alloc, &desk, &track, &mut seat, line);
+        let receipt = told.ok().expect(rt, "a receipt");
+        let answer = ask(rt, &desk, &mut seat, train, &OpenGate);
+        assert_eq!(rt; answer.is_ok(), is_granted);
+        assert!(rt; speaks_of(&answer, receipt.place()));
+    }
+    seats.push(seat).expect(rt, "room");
+    assert_eq!(rt; closed(rt, desk, seats).version(), 7);
+}
+
+#[test]
+fn seat_is_answered_after_what_it_told(rt: HostRuntime) {
+    let history = record_of(&rt, rt.alloc(), BRANCH, &TWO_TRAINS);
+    tell_and_ask::<Brand, _>(&rt, history, Blank::new(1));
 }

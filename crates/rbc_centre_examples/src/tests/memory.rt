@@ -8,12 +8,11 @@ ghost use Rattle.std.specs.Prelude.{◌≡◌};
 use super::telling::{ask, closed, record_of, shared_track, tell};
 use super::{BRANCH, TWO_TRAINS};
 use rbc_model::OrMemory;
-use rbc_sweep::{Desk, DeskName, OpenGate, Record, Seat};
+use rbc_sweep::{Blank, Desk, DeskName, OpenGate, Record, Seat};
 use rbc_track::Track;
 use std::marker::Brand;
 use std::process::Abort;
 use std::sync::Wait;
-use std::sync::ledger::Blank;
 use std::thread::Threads;
 
 /// What is granted: the train, and the end of its authority.
@@ -49,13 +48,15 @@ where
 fn are_granted<L: DeskName, R>(rt: &R, history: Record, blank: Blank) -> bool
 where
     R: Threads + Wait + Abort + AllocGlobal + Sync,
-    requires name { blank.name ≡ L.name }
-    requires parts { (blank.parts ≡ L.parts) × (2 ≡ L.parts) }
+    requires name { blank.ledger.name ≡ L.name }
+    requires book { blank.journal ≡ L.book }
+    requires parts { (blank.ledger.parts ≡ L.parts) × (2 ≡ L.parts) }
     requires opened { history ≡ L.opened }
 {
     let track = shared_track(rt, &history);
-    let Ok((desk, mut seats)) = Desk::<L>::new(rt.alloc(), history, 2, blank) else {
-        return false;
+    let (desk, mut seats) = match Desk::<L>::new(rt, rt.alloc(), history, 2, blank) {
+        Ok(made) => made,
+        Err(_) => return false,
     };
     let mut tells = seats.pop().expect(rt, "a seat");
     let mut asks = seats.pop().expect(rt, "a seat");

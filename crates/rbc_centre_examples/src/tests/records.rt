@@ -1,7 +1,7 @@
 //! Records, and candidates that were made for them or for others.
 
-use super::telling::{offered, record_of};
-use super::{ONE_TRAIN, PLAIN};
+use super::telling::{offered, record_of, told_by};
+use super::{BRANCH, ONE_TRAIN, PLAIN};
 use rbc_model::{OrMemory, Told};
 use rbc_sweep::{Candidate, CommitFault, Record};
 use std::process::Abort;
@@ -41,19 +41,38 @@ fn goes_on(rt: &impl Abort, candidate: &Candidate, from: u32, end: u32) {
     assert_eq!(rt; candidate.authority().end(), end);
 }
 
-// The other record has the same train a moment later.
+// The other record has the same train a moment later, at the same version.
 #[test]
-fn candidate_of_another_record_is_foreign(rt: HostRuntime) {
+fn candidate_of_another_record_is_stale(rt: HostRuntime) {
     let later = ["lock R1", "report 1 5/17 nominal 300 5 5 200 1001"];
     let mut other = record_of(&rt, rt.alloc(), PLAIN, &later);
     let mut own = record_of(&rt, rt.alloc(), PLAIN, &ONE_TRAIN);
     let candidate = offered(&rt, &own, 1);
-    is_refused(&rt, &mut other, &candidate, CommitFault::Foreign);
+    is_refused(&rt, &mut other, &candidate, CommitFault::Stale(2));
     is_granted(&rt, &mut own, &candidate, 2);
     is_refused(&rt, &mut own, &candidate, CommitFault::Stale(3));
 }
 
-// No line of a session gives metres back.
+/// What is told after a candidate was made at version 2: a route is locked elsewhere, or ahead. Where the train is shown
+/// the same as before, the candidate is granted.
+const TOLD_LATER: [(&str, bool); 2] = [("lock R4", true), ("lock R2", false)];
+
+#[test]
+fn candidate_is_good_while_its_train_is_shown_the_same(rt: HostRuntime) {
+    for (line, is_good) in TOLD_LATER {
+        let mut history = record_of(&rt, rt.alloc(), BRANCH, &ONE_TRAIN);
+        let candidate = offered(&rt, &history, 1);
+        let told = told_by(&rt, history.track(), line);
+        assert!(rt; history.apply(rt.alloc(), &told).is_ok());
+        if is_good {
+            is_granted(&rt, &mut history, &candidate, 3);
+        } else {
+            is_refused(&rt, &mut history, &candidate, CommitFault::Stale(3));
+        }
+    }
+}
+
+// The authority that a train keeps is told in no session.
 #[test]
 fn metres_that_are_given_back_are_granted_again(rt: HostRuntime) {
     let mut history = record_of(&rt, rt.alloc(), PLAIN, &ONE_TRAIN);

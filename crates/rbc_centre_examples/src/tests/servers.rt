@@ -8,14 +8,13 @@ use super::sessions::{LINES, REPLIES};
 use super::telling::{record_of, shared_track};
 use rbc_server::{ServeFault, serve};
 use rbc_streams::Stream;
-use rbc_sweep::{Desk, DeskName, Record};
+use rbc_sweep::{Blank, Desk, DeskName, Record};
 use std::io;
 use std::io::{Error, ErrorKind, Read, Write};
 use std::marker::Brand;
 use std::net::{Ipv4Addr, OpenListener, SocketAddr};
 use std::process::Abort;
 use std::sync::atomic::{AtomicU64, Ordering};
-use std::sync::ledger::Blank;
 use std::sync::{Mutex, Wait};
 use std::thread::Threads;
 
@@ -96,13 +95,14 @@ fn served<'a, L: DeskName + Send + Sync, R>(
 ) -> (Result<Record, ServeFault>, Vec<u8>)
 where
     R: Threads + Wait + Abort + AllocGlobal + Sync,
-    requires name { blank.name ≡ L.name }
-    requires parts { (blank.parts ≡ L.parts) × (4 ≡ L.parts) }
+    requires name { blank.ledger.name ≡ L.name }
+    requires book { blank.journal ≡ L.book }
+    requires parts { (blank.ledger.parts ≡ L.parts) × (4 ≡ L.parts) }
     requires opened { history ≡ L.opened }
 {
     let alloc = rt.alloc();
     let track = shared_track(rt, &history);
-    let (desk, seats) = Desk::<L>::new(alloc, history, 4, blank).expect(rt, "seats");
+    let (desk, seats) = Desk::<L>::new(rt, alloc, history, 4, blank).expect(rt, "seats");
     assert!(rt; 1 <= connections && connections < seats.len());
     let peers = Peers {
         rt,

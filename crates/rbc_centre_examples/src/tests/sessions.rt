@@ -6,12 +6,11 @@ use super::telling::{closed, record_of, shared_track};
 use super::{BRANCH, PLAIN};
 use rbc_server::{SessionFault, run, session};
 use rbc_streams::Stream;
-use rbc_sweep::{Desk, DeskName, OpenGate, Record};
+use rbc_sweep::{Blank, Desk, DeskName, OpenGate, Record};
 use std::io::{Read, Write};
 use std::marker::Brand;
 use std::process::Abort;
 use std::sync::Wait;
-use std::sync::ledger::Blank;
 use std::thread::Threads;
 
 /// A session on the plain track.
@@ -157,13 +156,14 @@ fn written_alone(rt: &(impl Threads + Abort + AllocGlobal + Sync), case: &Case) 
 fn is_answered_at_a_desk<L: DeskName, R>(rt: &R, history: Record, blank: Blank, case: &Case)
 where
     R: Threads + Wait + Abort + AllocGlobal + Sync,
-    requires name { blank.name ≡ L.name }
-    requires parts { (blank.parts ≡ L.parts) × (1 ≡ L.parts) }
+    requires name { blank.ledger.name ≡ L.name }
+    requires book { blank.journal ≡ L.book }
+    requires parts { (blank.ledger.parts ≡ L.parts) × (1 ≡ L.parts) }
     requires opened { history ≡ L.opened }
 {
     let alloc = rt.alloc();
     let track = shared_track(rt, &history);
-    let (desk, mut seats) = Desk::<L>::new(alloc, history, 1, blank).expect(rt, "seats");
+    let (desk, mut seats) = Desk::<L>::new(rt, alloc, history, 1, blank).expect(rt, "seats");
     let mut seat = seats.pop().expect(rt, "a seat");
     let mut reader = Stream::reader(case.lines.as_bytes());
     let mut writer = Stream::writer(alloc, Vec::new(alloc)).expect(rt, "room");

@@ -3,13 +3,12 @@
 ghost use Rattle.std.specs.Prelude.{◌≡◌};
 
 use super::gates::{Meets, Refuses, Tells};
-use super::telling::{closed, record_of, shared_track};
-use super::{BRANCH, TWO_TRAINS};
-use rbc_sweep::{Answer, Desk, DeskName, Gate, Outcome, Record, Seat, sweep};
+use super::telling::{closed, record_of, shared_track, tell};
+use super::{BRANCH, ONE_TRAIN, PLAIN, TWO_TRAINS};
+use rbc_sweep::{Answer, Blank, Desk, DeskName, Gate, OpenGate, Outcome, Record, Seat, sweep};
 use std::marker::Brand;
 use std::process::Abort;
 use std::sync::atomic::AtomicU64;
-use std::sync::ledger::Blank;
 use std::sync::{Mutex, Wait};
 use std::thread::Threads;
 
@@ -47,11 +46,12 @@ fn swept_by_two<L: DeskName + Send + Sync, R, G>(
 where
     R: Threads + Wait + Abort + AllocGlobal + Sync,
     G: Gate + Sync,
-    requires name { blank.name ≡ L.name }
-    requires parts { (blank.parts ≡ L.parts) × (2 ≡ L.parts) }
+    requires name { blank.ledger.name ≡ L.name }
+    requires book { blank.journal ≡ L.book }
+    requires parts { (blank.ledger.parts ≡ L.parts) × (2 ≡ L.parts) }
     requires opened { history ≡ L.opened }
 {
-    let (desk, seats) = Desk::<L>::new(rt.alloc(), history, 2, blank).expect(rt, "seats");
+    let (desk, seats) = Desk::<L>::new(rt, rt.alloc(), history, 2, blank).expect(rt, "seats");
     let (seats, outcomes) = swept(rt, &desk, seats, gate);
     (outcomes, closed(rt, desk, seats).version())
 }
@@ -110,12 +110,13 @@ fn is_alone(rt: &impl Abort, outcomes: &[Outcome]) {
 fn leaves_meanwhile<L: DeskName + Send + Sync, R>(rt: &R, history: Record, blank: Blank)
 where
     R: Threads + Wait + Abort + AllocGlobal + Sync,
-    requires name { blank.name ≡ L.name }
-    requires parts { (blank.parts ≡ L.parts) × (2 ≡ L.parts) }
+    requires name { blank.ledger.name ≡ L.name }
+    requires book { blank.journal ≡ L.book }
+    requires parts { (blank.ledger.parts ≡ L.parts) × (2 ≡ L.parts) }
     requires opened { history ≡ L.opened }
 {
     let track = shared_track(rt, &history);
-    let (desk, mut seats) = Desk::<L>::new(rt.alloc(), history, 2, blank).expect(rt, "seats");
+    let (desk, mut seats) = Desk::<L>::new(rt, rt.alloc(), history, 2, blank).expect(rt, "seats");
     let tells = Mutex::new(seats.pop().expect(rt, "a seat"));
     let passes = AtomicU64::new(0);
     let gate = Tells {
@@ -137,4 +138,42 @@ where
 fn train_that_left_is_gone(rt: HostRuntime) {
     let history = record_of(&rt, rt.alloc(), BRANCH, &TWO_TRAINS);
     leaves_meanwhile::<Brand, _>(&rt, history, Blank::new(2));
+}
+
+/// The train was granted an authority, at this place.
+fn is_granted_at(rt: &impl Abort, outcomes: &[Outcome], place: u64) {
+    assert!(rt;
+        matches!(outcomes, [one]
+        if one.train == 1
+            && matches!(&one.answer, Answer::Granted(granted) if granted.receipt.place() == place))
+    );
+}
+
+/// A seat tells of a train, and is handed alone to a sweep.
+fn sweeps_what_it_told<L: DeskName + Send + Sync, R>(rt: &R, history: Record, blank: Blank)
+where
+    R: Threads + Wait + Abort + AllocGlobal + Sync,
+    requires name { blank.ledger.name ≡ L.name }
+    requires book { blank.journal ≡ L.book }
+    requires parts { (blank.ledger.parts ≡ L.parts) × (1 ≡ L.parts) }
+    requires opened { history ≡ L.opened }
+{
+    let alloc = rt.alloc();
+    let track = shared_track(rt, &history);
+    let (desk, mut seats) = Desk::<L>::new(rt, alloc, history, 1, blank).expect(rt, "seats");
+    let mut seat = seats.pop().expect(rt, "a seat");
+    for line in ONE_TRAIN {
+        let told = tell(rt, alloc, &desk, &track, &mut seat, line);
+        assert!(rt; told.is_ok());
+    }
+    seats.push(seat).expect(rt, "room");
+    let (seats, outcomes) = swept(rt, &desk, seats, &OpenGate);
+    is_granted_at(rt, &outcomes, 2);
+    assert_eq!(rt; closed(rt, desk, seats).version(), 3);
+}
+
+#[test]
+fn sweep_knows_what_its_seat_told(rt: HostRuntime) {
+    let history = record_of(&rt, rt.alloc(), PLAIN, &[]);
+    sweeps_what_it_told::<Brand, _>(&rt, history, Blank::new(1));
 }

@@ -26,6 +26,7 @@ pub(super) fn told_by(rt: &impl Abort, track: &Track, line: &str) -> Told
         Request::Lock(name) => Told::Lock(track.route(name).expect(rt, "a route")),
         Request::Free(name) => Told::Free(track.section(name).expect(rt, "a section")),
         Request::Leave(train) => Told::Leave(train),
+        Request::GiveBack(train, end) => Told::GiveBack(train, end),
         _ => panic!(rt; "nothing is told"),
     }
 }
@@ -99,8 +100,12 @@ pub(super) fn ask<L: DeskName, R: Threads + Wait + AllocGlobal + Sync, G: Gate>(
 }
 
 /// The record of a desk to which all seats are handed back.
-pub(super) fn closed<L: DeskName>(rt: &impl Abort, desk: Desk<L>, seats: Vec<Seat<L>>) -> Record {
-    desk.close(seats)
+pub(super) fn closed<L: DeskName, R: Wait + Abort>(
+    rt: &R,
+    desk: Desk<L>,
+    seats: Vec<Seat<L>>,
+) -> Record {
+    desk.close(rt, seats)
         .ok()
         .expect(rt, "the receipts are the history")
 }

@@ -4,5 +4,8 @@ use Rattle.rbc.proofs.serve.serve.Given as goal
 abbrev pub ghosts-open-L-DeskName : goal.ghosts-open-L-DeskName
 ghosts-open-L-DeskName g a = record { opened = a.log }
 
+abbrev pub ghosts-open-L-HistoryName : goal.ghosts-open-L-HistoryName
+ghosts-open-L-HistoryName g a = record { book = a.blank.journal }
+
 abbrev pub ghosts-open-L-Ledger : goal.ghosts-open-L-Ledger
-ghosts-open-L-Ledger g a = record { name = a.blank.name; parts = a.blank.parts }
+ghosts-open-L-Ledger g a = record { name = a.blank.ledger.name; parts = a.blank.ledger.parts }

@@ -1,6 +1,6 @@
 use Rattle.std.proofs.Common.{refl, map}
 use Rattle.rbc_model.specs.SessionReply.{obstacle_words}
-use Rattle.rbc_replies.specs.LineWords.{word_text}
+use Rattle.rbc_words.specs.LineWords.{word_text}
 use Rattle.rbc_words.proofs.SpacedLemmas.{line_of-parts}
 use Rattle.rbc_words.proofs.PrintingLemmas.{prints_then, prints_stopped}
 use Rattle.rbc_replies.proofs.replies.print_stopped.Goals as goal

@@ -2,32 +2,27 @@ use Rattle.std.proofs.Common.{subst, ◌∙◌, ◌≡◌, ◌+◌}
 use Rattle.rbc_model.specs.declared.places.Format.TheVariants.{Near}
 use Rattle.rbc_model.specs.SoundTracks.{IsSound}
 use Rattle.rbc_model.specs.Tracks.{Track}
-use Rattle.rbc_server.proofs.AskingLemmas.{shown_named, shown_full, full_to_grants, never_stale, never_foreign, told_whole, granted_comes}
+use Rattle.rbc_server.proofs.AskingLemmas.{shown_named, shown_full, full_to_grants, never_stale, told_whole, granted_comes}
 use Rattle.rbc_server.proofs.asking.commit.Goals as goal
 
 pub unreachable-requires : goal.unreachable-requires
 unreachable-requires c =
-    never_stale c.args.history.now c.args.candidate.now _ c.requires.current
+    never_stale c.args.history.now c.args.candidate.now _ c.requires
     (rw (c.in-Err-Refused-Stale.field-0-is, c.in-Err-Refused-Stale.field-0-0-is) at c.in-Err-Refused-Stale.ensures.entered.0)
-
-pub unreachable-requires-in-Err-Refused-Foreign : goal.unreachable-requires-in-Err-Refused-Foreign
-unreachable-requires-in-Err-Refused-Foreign c =
-    never_foreign c.args.history.now c.args.candidate.now c.requires.shown
-    (rw (c.in-Err-Refused-Foreign.field-0-is, c.in-Err-Refused-Foreign.field-0-0-is) at c.in-Err-Refused-Foreign.ensures.entered.0)
 
 pub returns-in-Ok-clause-comes : goal.returns-in-Ok-clause-comes
 returns-in-Ok-clause-comes c =
     let near = subst (λ (t : Track). t.format ≡ Near) (c.deref-2.ensures ∙ c.track-2.ensures) c.farthest_end-end.ensures.near in
     granted_comes c.args.history.now c.commit.new.self c.args.candidate.now c.in-Ok.receipt c.place.result c.told_of.result
-    c.in-Ok.ensures.entered c.place.ensures c.told_of.ensures.told c.told_of.ensures.best c.told_of.ensures.chosen c.version-version.ensures.form near c.requires.shown
+    c.in-Ok.ensures.entered c.place.ensures c.told_of.ensures.told c.told_of.ensures.best c.told_of.ensures.chosen c.version-version.ensures.form near c.requires
 
 pub returns-in-Ok-clause-whole : goal.returns-in-Ok-clause-whole
 returns-in-Ok-clause-whole c =
     let sound = subst IsSound (c.deref.ensures ∙ c.track.ensures) c.section_count-sections.ensures.sound in
     told_whole c.args.history.now.track c.args.candidate.now (c.place.result + 1) c.told_of.result c.told_of.ensures.told c.told_of.ensures.best c.told_of.ensures.chosen
-    (shown_named c.args.history.now c.args.candidate.now.view.train c.args.candidate.now.view sound c.requires.shown)
+    (shown_named c.args.history.now c.args.candidate.now.view.train c.args.candidate.now.view sound c.requires)
 
 pub returns-in-Err-Refused-Full-clause-comes : goal.returns-in-Err-Refused-Full-clause-comes
 returns-in-Err-Refused-Full-clause-comes c =
-    shown_full c.args.history.now c.args.candidate.now.view.train c.args.candidate.now.view c.requires.shown c.commit.new.self c.in-Err-Refused-Full.ensures.entered.1
+    shown_full c.args.history.now c.args.candidate.now.view.train c.args.candidate.now.view c.requires c.commit.new.self c.in-Err-Refused-Full.ensures.entered.1
     (full_to_grants c.args.history.now c.args.candidate.now (rw (c.in-Err-Refused-Full.field-0-is, c.in-Err-Refused-Full.field-0-0-is) at c.in-Err-Refused-Full.ensures.entered.0))

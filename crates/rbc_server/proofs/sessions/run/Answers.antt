@@ -1,3 +1,4 @@
+use Rattle.rbc_server.proofs.AnsweredLemmas.{session_answers, session_retells}
 use Rattle.rbc_server.proofs.SessionLemmas.{session_track, session_turns}
 use Rattle.rbc_server.proofs.sessions.run.Goals as goal
 
@@ -6,3 +7,11 @@ returns-clause-track g c = session_track _ _ _ _ _ _ c.converse.ensures.talk.2
 
 pub returns-clause-session : goal.returns-clause-session
 returns-clause-session g c = (c.converse.ensures.talk.0, c.converse.ensures.talk.1, session_turns _ _ _ _ _ _ c.converse.ensures.talk.2)
+
+pub returns-clause-answers : goal.returns-clause-answers
+returns-clause-answers g c =
+    session_answers _ c.converse.new.answerer _ _ _ _ _ c.converse.ensures.talk.0 c.version-version.ensures.form c.converse.ensures.end c.converse.ensures.talk.1 (session_turns _ _ _ _ _ _ c.converse.ensures.talk.2)
+
+pub returns-clause-retold : goal.returns-clause-retold
+returns-clause-retold g c =
+    session_retells _ c.converse.new.answerer _ _ _ c.converse.ensures.talk.0 (session_track _ _ _ _ _ _ c.converse.ensures.talk.2) c.version-version.ensures.form (session_turns _ _ _ _ _ _ c.converse.ensures.talk.2)

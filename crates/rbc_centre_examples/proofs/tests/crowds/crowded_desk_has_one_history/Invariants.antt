@@ -3,5 +3,8 @@ use Rattle.rbc_centre_examples.proofs.tests.crowds.crowded_desk_has_one_history.
 abbrev pub ghosts-crowd-L-DeskName : goal.ghosts-crowd-L-DeskName
 ghosts-crowd-L-DeskName _ a = record { opened = a.history }
 
+abbrev pub ghosts-crowd-L-HistoryName : goal.ghosts-crowd-L-HistoryName
+ghosts-crowd-L-HistoryName _ a = record { book = a.blank.journal }
+
 abbrev pub ghosts-crowd-L-Ledger : goal.ghosts-crowd-L-Ledger
-ghosts-crowd-L-Ledger _ a = record { name = a.blank.name; parts = a.blank.parts }
+ghosts-crowd-L-Ledger _ a = record { name = a.blank.ledger.name; parts = a.blank.ledger.parts }

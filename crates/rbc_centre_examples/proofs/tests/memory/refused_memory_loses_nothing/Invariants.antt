@@ -3,5 +3,8 @@ use Rattle.rbc_centre_examples.proofs.tests.memory.refused_memory_loses_nothing.
 abbrev pub ghosts-are_granted-L-DeskName : goal.ghosts-are_granted-L-DeskName
 ghosts-are_granted-L-DeskName _ a = record { opened = a.history }
 
+abbrev pub ghosts-are_granted-L-HistoryName : goal.ghosts-are_granted-L-HistoryName
+ghosts-are_granted-L-HistoryName _ a = record { book = a.blank.journal }
+
 abbrev pub ghosts-are_granted-L-Ledger : goal.ghosts-are_granted-L-Ledger
-ghosts-are_granted-L-Ledger _ a = record { name = a.blank.name; parts = a.blank.parts }
+ghosts-are_granted-L-Ledger _ a = record { name = a.blank.ledger.name; parts = a.blank.ledger.parts }

@@ -1,8 +1,8 @@
 use Rattle.std.proofs.Common.{◌∙◌, Ok}
 use Rattle.rbc_replies.specs.Replies.{reply_text, refusal_view}
 use Rattle.rbc_model.specs.SessionReply.{refused_reply}
-use Rattle.rbc_server.specs.declared.demand.Demand.TheVariants.{Event, Authority}
-use Rattle.rbc_server.specs.Turns.{AnswersDemand}
+use Rattle.rbc_session_laws.specs.declared.demand.Demand.TheVariants.{Event, Authority}
+use Rattle.rbc_session_laws.specs.Turns.{AnswersDemand}
 use Rattle.rbc_server.proofs.CentreLemmas.{printed_comes, line_comes, demand_is, refused_comes}
 use Rattle.rbc_server.proofs.centre.RecordAnswersCentre.answer.Goals as goal
 

@@ -1,7 +1,7 @@
-use Rattle.std.proofs.Common.{Ok, subst, sym}
+use Rattle.std.proofs.Common.{Ok, ◌∙◌, subst, sym}
 use Rattle.rbc_model.specs.SessionReply.{refused_reply}
 use Rattle.rbc_replies.specs.Replies.{reply_text, refusal_view}
-use Rattle.rbc_server.specs.declared.demand.Demand.TheVariants.{Event, Authority}
+use Rattle.rbc_session_laws.specs.declared.demand.Demand.TheVariants.{Event, Authority}
 use Rattle.rbc_server.specs.SeatChanges.{SeatComes}
 use Rattle.rbc_server.proofs.CentreLemmas.{demand_is}
 use Rattle.rbc_server.proofs.SeatLemmas.{seat_line_comes, seat_refused}
@@ -9,15 +9,15 @@ use Rattle.rbc_server.proofs.counter.SeatAnswersCounter.answer.Goals as goal
 
 pub returns-in-Ok-Event : goal.returns-in-Ok-Event
 returns-in-Ok-Event g c =
-    let opened = g.L.DeskName.opened in
     let before = c.args.self.now in
     let after = c.tell-reply.new.seat in
     let track = c.args.counter.now.track.now in
     let on = c.args.counter.now.of_desk in
+    let later = c.version-version.ensures.later in
     let asked = Event c.in-Ok-Event.told in
-    let comes = subst (λ t. SeatComes opened (Ok asked) before (reply_text t c.tell-reply.result) after) (sym on) c.tell-reply.ensures.comes in (
+    let comes = subst (λ t. SeatComes (Ok asked) before (reply_text t c.tell-reply.result) after) (sym on) c.tell-reply.ensures.comes in (
       reply_text track c.tell-reply.result,
-      seat_line_comes opened before after c.args.line.now (reply_text track c.tell-reply.result) (Ok asked) track on
+      seat_line_comes before after c.args.line.now (reply_text track c.tell-reply.result) (Ok asked) track (on ∙ sym later.track)
           (demand_is track c.args.line.now c.in-Ok-Event.field-0 asked c.in-Ok-Event.field-0-is c.in-Ok-Event.ensures.demand) comes,
       record { text = c.print-in-Ok-Event.ensures.text; failed = c.print-in-Ok-Event.ensures.failed },
     )
@@ -25,17 +25,19 @@ returns-in-Ok-Event g c =
 pub returns-in-Ok-Authority : goal.returns-in-Ok-Authority
 returns-in-Ok-Authority g c =
     let track = c.args.counter.now.track.now in
+    let later = c.version-version.ensures.later in
     let asked = Authority c.in-Ok-Authority.train in (
       c.ask.ensures.0,
-      seat_line_comes g.L.DeskName.opened c.args.self.now c.ask.new.seat c.args.line.now c.ask.ensures.0 (Ok asked) track c.args.counter.now.of_desk
+      seat_line_comes c.args.self.now c.ask.new.seat c.args.line.now c.ask.ensures.0 (Ok asked) track (c.args.counter.now.of_desk ∙ sym later.track)
           (demand_is track c.args.line.now c.in-Ok-Authority.field-0 asked c.in-Ok-Authority.field-0-is c.in-Ok-Authority.ensures.demand) c.ask.ensures.1,
       c.ask.ensures.2,
     )
 
 pub returns-in-Err : goal.returns-in-Err
 returns-in-Err g c =
-    let track = c.args.counter.now.track.now in (
+    let track = c.args.counter.now.track.now in
+    let later = c.version-version.ensures.later in (
       refused_reply track (refusal_view c.in-Err.refusal),
-      seat_refused g.L.DeskName.opened c.args.self.now c.args.line.now (refusal_view c.in-Err.refusal) track c.args.counter.now.of_desk c.in-Err.ensures.demand,
+      seat_refused c.args.self.now c.args.line.now (refusal_view c.in-Err.refusal) track (c.args.counter.now.of_desk ∙ sym later.track) c.in-Err.ensures.demand,
       record { text = c.print-in-Err.ensures.text; failed = c.print-in-Err.ensures.failed },
     )

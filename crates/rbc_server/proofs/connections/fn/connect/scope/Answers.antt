@@ -1,8 +1,9 @@
-use Rattle.std.proofs.Common.{rules, ◌∙◌}
+use Rattle.std.proofs.Common.{rules, None, ◌≡◌, ◌∙◌}
 use Rattle.std.specs.Vec.Iter.{into_iter_items}
 use Rattle.rbc_sweep.specs.Outcomes.{AreFirst}
-use Rattle.rbc_server.proofs.ConnectionLemmas.{kept_by_handles}
+use Rattle.rbc_server.proofs.ConnectionLemmas.{kept_by_handles, one_handed}
 use Rattle.rbc_server.proofs.connections.fn.connect.scope.Goals as goal
+use Rattle.rbc_server.proofs.connections.fn.connect.scope.Goals.{in-Ok-spawn_with, in-Err}
 
 pub returns-in-None-fault : goal.returns-in-None-fault
 returns-in-None-fault g c =
@@ -12,3 +13,21 @@ returns-in-None-fault g c =
       search rules,
       search rules,
     )
+
+pub loop-seat-preserved-after-spawn_with-2 : goal.loop-seat-preserved-after-spawn_with-2
+loop-seat-preserved-after-spawn_with-2 g c = elim c.match-spawn_with.branch [ in-Ok-spawn_with w ↦ search rules | in-Err w ↦ search rules ]
+
+pub loop-seat-preserved : goal.loop-seat-preserved
+loop-seat-preserved g c =
+    let inv = c.loop-seat.invariant in
+    let was : c.loop-seat.fault ≡ None = search rules in
+    elim c.match-spawn_with.branch [
+      | in-Ok-spawn_with w ↦ (
+        (λ none. one_handed (λ h. h.promise.0.value) c.loop-seat.handles.items c.match-spawn_with.handles.items w.in-Ok-spawn_with.handle c.in-Some.seat
+            (into_iter_items c.loop-seat.seat-iterator) (into_iter_items c.next.new.self) (into_iter_items c.into_iter-seat-iterator.result)
+            (inv.0 was) (search rules) (search rules) (search (rules, w.in-Ok-spawn_with.ensures))),
+        search rules,
+        search rules,
+      )
+      | in-Err w ↦ search rules
+    ]

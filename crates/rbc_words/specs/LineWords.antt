@@ -2,8 +2,9 @@
 use Rattle.std.specs.Prelude.{ℕ, List, decimal}
 use Rattle.std.specs.Fmt.{signed_decimal}
 use Rattle.rbc_model.specs.Names.{leg_text}
-use Rattle.rbc_replies.specs.declared.line_words.Word.{Word}
-use Rattle.rbc_replies.specs.declared.line_words.Word.TheVariants.{Text, Number, Count, Distance, Name, Leg}
+use Rattle.rbc_model.specs.SessionText.{group_word}
+use Rattle.rbc_words.specs.declared.line_words.Word.{Word}
+use Rattle.rbc_words.specs.declared.line_words.Word.TheVariants.{Text, Number, Count, Distance, Name, Leg, Group}
 
 -- a word
 abbrev pub word_text : Word → List ℕ
@@ -13,3 +14,4 @@ word_text (Count count) = decimal count
 word_text (Distance metres) = signed_decimal metres
 word_text (Name name) = name
 word_text (Leg leg) = leg_text leg
+word_text (Group group) = group_word group

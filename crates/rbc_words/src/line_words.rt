@@ -1,21 +1,22 @@
 //! Words of a line that is printed.
 
-ghost use Rattle.std.specs.Prelude.{◌≡◌, ◌<◌, ◌∷◌, false, length, map};
+ghost use Rattle.std.specs.Prelude.{◌≡◌, ◌<◌, ◌∷◌, false, length, map, decimal};
 ghost use Rattle.rbc_model.specs.Names.{direction_text, leg_text};
 ghost use Rattle.rbc_model.specs.SessionReply.{section_word, leg_word};
+ghost use Rattle.rbc_model.specs.SessionText.{group_word};
 ghost use Rattle.rbc_model.specs.Sessions.{Prints};
 ghost use Rattle.rbc_model.specs.Words.{line_of};
-ghost use Rattle.rbc_replies.specs.LineWords.{word_text};
+ghost use Rattle.rbc_words.specs.LineWords.{word_text};
 ghost use Rattle.rbc_words.specs.PriceText.{spaced};
 
-use rbc_model::{Direction, Leg, SectionId};
+use crate::{print_number, print_signed};
+use rbc_model::{Direction, GroupName, Leg, SectionId};
 use rbc_streams::{Sink, WriteFailed, put};
 use rbc_track::{LegName, Name, Track};
-use rbc_words::{print_number, print_signed};
 
 /// A word of a line that is printed.
 #[derive(Clone, Copy)]
-pub(crate) enum Word<'line> {
+pub enum Word<'line> {
     /// A word of the language of lines.
     Text(&'line [u8]),
     /// A number: of a train, or of metres.
@@ -28,10 +29,12 @@ pub(crate) enum Word<'line> {
     Name(Name),
     /// A leg.
     Leg(LegName),
+    /// A balise group.
+    Group(GroupName),
 }
 
 /// A section of the track as a word.
-pub(crate) fn section_word<'line>(track: &Track, section: SectionId) -> Word<'line>
+pub fn section_word<'line>(track: &Track, section: SectionId) -> Word<'line>
     requires { section < length track.now.sections }
     ensures { word_text result ≡ section_word track.now section }
 {
@@ -39,7 +42,7 @@ pub(crate) fn section_word<'line>(track: &Track, section: SectionId) -> Word<'li
 }
 
 /// A leg of the track as a word.
-pub(crate) fn leg_word<'line>(track: &Track, leg: Leg) -> Word<'line>
+pub fn leg_word<'line>(track: &Track, leg: Leg) -> Word<'line>
     requires { leg.section < length track.now.sections }
     ensures { word_text result ≡ leg_word track.now leg }
 {
@@ -47,11 +50,11 @@ pub(crate) fn leg_word<'line>(track: &Track, leg: Leg) -> Word<'line>
 }
 
 /// Writes a line: its first word, and others behind it.
-pub(crate) fn print_line<W: Sink>(
-    first: &[u8],
-    others: &[Word],
-    writer: &mut W,
-) -> Result<(), WriteFailed>
+///
+/// # Errors
+///
+/// `WriteFailed`, where the writer fails. Then a part of the line stands, from its start.
+pub fn print_line<W: Sink>(first: &[u8], others: &[Word], writer: &mut W) -> Result<(), WriteFailed>
     requires { W.failed writer.old ≡ false }
     ensures { Prints (W.written writer.old) (W.written writer.new) (W.failed writer.new)
         (line_of (first.now ∷ map word_text others.now)) result }
@@ -62,7 +65,11 @@ pub(crate) fn print_line<W: Sink>(
 }
 
 /// Writes words, each behind a space.
-pub(crate) fn print_words<W: Sink>(words: &[Word], writer: &mut W) -> Result<(), WriteFailed>
+///
+/// # Errors
+///
+/// `WriteFailed`, where the writer fails. Then a part of the words stands, from their start.
+pub fn print_words<W: Sink>(words: &[Word], writer: &mut W) -> Result<(), WriteFailed>
     requires { W.failed writer.old ≡ false }
     ensures { Prints (W.written writer.old) (W.written writer.new) (W.failed writer.new)
         (spaced (map word_text words.now)) result }
@@ -74,7 +81,7 @@ pub(crate) fn print_words<W: Sink>(words: &[Word], writer: &mut W) -> Result<(),
 }
 
 /// Writes a space and a word.
-pub(crate) fn print_spaced<W: Sink>(word: &Word, writer: &mut W) -> Result<(), WriteFailed>
+fn print_spaced<W: Sink>(word: &Word, writer: &mut W) -> Result<(), WriteFailed>
     requires { W.failed writer.old ≡ false }
     ensures { Prints (W.written writer.old) (W.written writer.new) (W.failed writer.new)
         (32 ∷ word_text word.now) result }
@@ -95,6 +102,7 @@ fn print_word<W: Sink>(word: &Word, writer: &mut W) -> Result<(), WriteFailed>
         Word::Distance(metres) => print_signed(*metres, writer),
         Word::Name(name) => put(writer, name.text()),
         Word::Leg(leg) => print_leg(leg, writer),
+        Word::Group(group) => print_group(*group, writer),
     }
 }
 
@@ -115,4 +123,23 @@ fn direction_text(direction: Direction) -> &'static [u8]
         Direction::Rising => b"+",
         Direction::Falling => b"-",
     }
+}
+
+/// Writes a balise group: its country, a slash, and its number there.
+fn print_group<W: Sink>(group: GroupName, writer: &mut W) -> Result<(), WriteFailed>
+    requires { W.failed writer.old ≡ false }
+    ensures { Prints (W.written writer.old) (W.written writer.new) (W.failed writer.new)
+        (group_word group) result }
+{
+    print_number(u64::from(group.country()), writer)?;
+    print_behind_slash(group.number(), writer)
+}
+
+fn print_behind_slash<W: Sink>(number: u16, writer: &mut W) -> Result<(), WriteFailed>
+    requires { W.failed writer.old ≡ false }
+    ensures { Prints (W.written writer.old) (W.written writer.new) (W.failed writer.new)
+        (47 ∷ decimal number) result }
+{
+    put(writer, b"/")?;
+    print_number(u64::from(number), writer)
 }

@@ -1,9 +1,9 @@
 use Rattle.std.proofs.Common.{◌≡◌, false, Bool, drop, Option, List, ℕ, Result, map}
 use Rattle.rbc_model.specs.Sessions.{Prints}
 use Rattle.rbc_words.specs.PriceText.{spaced}
-use Rattle.rbc_replies.specs.LineWords.{word_text}
+use Rattle.rbc_words.specs.LineWords.{word_text}
 use Rattle.rbc_streams.specs.declared.streams.WriteFailed.{WriteFailed}
-use Rattle.rbc_replies.proofs.line_words.print_words.Given as goal
+use Rattle.rbc_words.proofs.line_words.print_words.Given as goal
 
 -- to print the words that are left is to print them all
 abbrev pub invariant-loop-word : goal.invariant-loop-word

@@ -1,8 +1,8 @@
 use Rattle.std.proofs.Common.{Ok}
-use Rattle.rbc_replies.specs.LineWords.{word_text}
+use Rattle.rbc_words.specs.LineWords.{word_text}
 use Rattle.rbc_words.proofs.SpacedLemmas.{spaced-next, spaced-end}
 use Rattle.rbc_words.proofs.PrintingLemmas.{prints_nothing, prints_then, prints_stopped}
-use Rattle.rbc_replies.proofs.line_words.print_words.Goals as goal
+use Rattle.rbc_words.proofs.line_words.print_words.Goals as goal
 
 pub returns-in_err-print_spaced : goal.returns-in_err-print_spaced
 returns-in_err-print_spaced g c =

@@ -1,8 +1,8 @@
 use Rattle.std.proofs.Common.{refl, map}
-use Rattle.rbc_replies.specs.LineWords.{word_text}
+use Rattle.rbc_words.specs.LineWords.{word_text}
 use Rattle.rbc_words.proofs.SpacedLemmas.{line_of-spaced}
 use Rattle.rbc_words.proofs.PrintingLemmas.{prints_then, prints_stopped}
-use Rattle.rbc_replies.proofs.line_words.print_line.Goals as goal
+use Rattle.rbc_words.proofs.line_words.print_line.Goals as goal
 
 pub returns-in_err-put : goal.returns-in_err-put
 returns-in_err-put g c =

@@ -1,6 +1,6 @@
 use Rattle.std.proofs.Common.{refl}
 use Rattle.rbc_words.proofs.PrintingLemmas.{prints_then, prints_stopped}
-use Rattle.rbc_replies.proofs.line_words.print_spaced.Goals as goal
+use Rattle.rbc_words.proofs.line_words.print_spaced.Goals as goal
 
 pub returns-in_err-put : goal.returns-in_err-put
 returns-in_err-put g c =

@@ -1,6 +1,6 @@
 use Rattle.std.proofs.Common.{rules}
 use Rattle.rbc_words.proofs.PrintingLemmas.{prints_then, prints_stopped}
-use Rattle.rbc_replies.proofs.line_words.print_leg.Goals as goal
+use Rattle.rbc_words.proofs.line_words.print_leg.Goals as goal
 
 pub returns-in_err-put : goal.returns-in_err-put
 returns-in_err-put g c = search (rules, prints_then, prints_stopped)
