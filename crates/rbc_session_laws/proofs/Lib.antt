@@ -6,4 +6,5 @@ pub mod SessionLemmas
 pub mod RequestLemmas
 pub mod StepsLemmas
 pub mod RetellingLemmas
+pub mod OfTrackLemmas
 pub mod LegalRetellingLemmas

@@ -40,10 +40,10 @@ use Rattle.rbc_session_laws.proofs.SessionLemmas.{sessions_are_answered}
 -- ---- what is found by its name has the name
 
 module _ {X : Type 0} (test : X → Bool) where
-  record IsAt (xs : List X) (place : ℕ) : Type 0 where
-    x : X
-    here : slice_get xs place ≡ Some x
-    passes : test x ≡ true
+  pub record IsAt (xs : List X) (place : ℕ) : Type 0 where
+    pub x : X
+    pub here : slice_get xs place ≡ Some x
+    pub passes : test x ≡ true
 
   behind : (x : X) (xs : List X) (place : ℕ) → IsAt xs place → IsAt (x ∷ xs) (1 + place)
   behind x xs place a =
@@ -59,7 +59,7 @@ module _ {X : Type 0} (test : X → Bool) where
       by_test true e small later = record { x = x; here = refl; passes = e }
       by_test false e small later = behind x xs (position_or_len test xs) (later (omega arith))
 
-  found_at : (xs : List X) (place : ℕ) → position test xs ≡ Some place → IsAt xs place
+  pub found_at : (xs : List X) (place : ℕ) → position test xs ≡ Some place → IsAt xs place
   found_at xs place h = by_test (nat_lt (position_or_len test xs) (length xs)) refl h
     where
       the_place : (a b : ℕ) → (let o : Option ℕ = Some a in o) ≡ Some b → a ≡ b
@@ -86,10 +86,10 @@ demand_request track Nothing = Blank
 demand_request track (Event told) = told_request track told
 demand_request track (Authority train) = Ask train
 
-the_demand : (a b : Demand) → (let r : Result Demand SessionRefusal = Ok a in r) ≡ Ok b → a ≡ b
+pub the_demand : (a b : Demand) → (let r : Result Demand SessionRefusal = Ok a in r) ≡ Ok b → a ≡ b
 the_demand a b e = cc
 
-no_demand : (refusal : SessionRefusal) (b : Demand) → (let r : Result Demand SessionRefusal = Err refusal in r) ≡ Ok b → ⊥
+pub no_demand : (refusal : SessionRefusal) (b : Demand) → (let r : Result Demand SessionRefusal = Err refusal in r) ≡ Ok b → ⊥
 no_demand refusal b e = cc
 
 looked_back : (track : Track) (said : SessionLine) (demand : Demand) → looked_up track said ≡ Ok demand → demand_request track demand ≡ said
@@ -125,17 +125,17 @@ leads_by track line entry demand (Err fault) e h same = absurd (no_demand (BadLi
 the_entry : (a b : Entry) → (let o : Option Entry = Some a in o) ≡ Some b → a ≡ b
 the_entry a b e = cc
 
-no_entry : (b : Entry) → (let o : Option Entry = None in o) ≡ Some b → ⊥
+pub no_entry : (b : Entry) → (let o : Option Entry = None in o) ≡ Some b → ⊥
 no_entry b e = cc
 
 module _ (track : Track) (before : List Entry) (entry : Entry) where
-  told_entry : (told : Told) (full : Bool) (after : Result Scene Refusal)
+  pub told_entry : (told : Told) (full : Bool) (after : Result Scene Refusal)
       → (cond full (refused track before Full) (told_answer track before told after)).added ≡ Some entry → Heard told ≡ entry
   told_entry told true after h = absurd (no_entry entry h)
   told_entry told false (Ok after) h = the_entry (Heard told) entry h
   told_entry told false (Err refusal) h = absurd (no_entry entry h)
 
-  granted_entry : (shown : View) (full : Bool) → (cond full (refused track before Full) (grant_answer track before shown)).added ≡ Some entry → Granted (grant_of shown) ≡ entry
+  pub granted_entry : (shown : View) (full : Bool) → (cond full (refused track before Full) (grant_answer track before shown)).added ≡ Some entry → Granted (grant_of shown) ≡ entry
   granted_entry shown true h = absurd (no_entry entry h)
   granted_entry shown false h = the_entry (Granted (grant_of shown)) entry h
 

@@ -9,9 +9,9 @@ use Rattle.rbc_model.specs.Sessions.{lines_of}
 use Rattle.rbc_model.specs.Tracks.{Track}
 use Rattle.rbc_model.specs.SoundTracks.{IsInForm, IsSound}
 use Rattle.rbc_model.specs.Views.{View, view}
-use Rattle.rbc_model.specs.Histories.{Entry, Granted, Grants, IsLegal, replay}
+use Rattle.rbc_model.specs.Histories.{Entry, Heard, Granted, Grants, IsLegal, replay}
 use Rattle.rbc_model.specs.SessionText.{SessionLine, parse_session, said_line, IsSayable}
-use Rattle.rbc_model.specs.HistoryText.{entry_request, entry_line, history_text}
+use Rattle.rbc_model.specs.HistoryText.{IsToldOfTrack, entry_request, entry_line, history_text}
 use Rattle.rbc_session_laws.specs.SessionRuns.{IsSession}
 use Rattle.rbc_session_laws.specs.Answers.{line_answer, turns_of, entries_after}
 
@@ -37,6 +37,16 @@ EntriesAreToldAgain = (track : Track) (before : List Entry) (line : List ℕ) (e
 -- each entry is what its line adds after the entries before it
 abbrev pub IsRetold : Track → List Entry → Type 0
 IsRetold track entries = (place : ℕ) (entry : Entry) → slice_get entries place ≡ Some entry → (line_answer track (take place entries) (entry_line track entry)).added ≡ Some entry
+
+-- what was told names a route or a section of the track
+abbrev pub IsEntryOfTrack : Track → Entry → Type 0
+IsEntryOfTrack track (Heard told) = IsToldOfTrack track told
+IsEntryOfTrack track (Granted grant) = Unit {0}
+
+-- so it is with each entry of a history that is retold
+abbrev pub RetoldEntriesAreOfTrack : Type 0
+RetoldEntriesAreOfTrack = (track : Track) (entries : List Entry) → IsRetold track entries
+    → (place : ℕ) (entry : Entry) → slice_get entries place ≡ Some entry → IsEntryOfTrack track entry
 
 -- The session over the text of a history, from no entry on: each line adds its entry, so none is refused, and all of them make the history again.
 pub record IsItsSession (track : Track) (entries : List Entry) : Type 0 where

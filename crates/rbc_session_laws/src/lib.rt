@@ -7,7 +7,7 @@ mod demand;
 ghost use Rattle.rbc_session_laws.specs.Laws.{GrantsAreOne, LinesAreAnswered, SessionsAreAnswered, SessionsAreOne, WrittenIsAnswered};
 ghost use Rattle.rbc_session_laws.specs.Retelling.{EntriesAreToldAgain, HistoriesAreSessions, ReadsAreSayable};
 ghost use Rattle.rbc_session_laws.specs.Retelling.{LegalHistoriesAreRetold, RequestsAreReadBack};
-ghost use Rattle.rbc_session_laws.specs.Retelling.{RetoldHistoriesAreSessions, SessionsAreRetold};
+ghost use Rattle.rbc_session_laws.specs.Retelling.{RetoldEntriesAreOfTrack, RetoldHistoriesAreSessions, SessionsAreRetold};
 ghost use Rattle.rbc_session_laws.specs.StepsAnswers.{StepsLinesAreAnswered, StepsWrittenIsAnswered};
 
 pub use demand::Demand;
@@ -32,6 +32,7 @@ pub fn histories_are_sessions()
     ensures read { RequestsAreReadBack }
     ensures sayable { ReadsAreSayable }
     ensures lines { EntriesAreToldAgain }
+    ensures of_track { RetoldEntriesAreOfTrack }
     ensures retold { RetoldHistoriesAreSessions }
     ensures sessions { SessionsAreRetold }
     ensures histories { HistoriesAreSessions }

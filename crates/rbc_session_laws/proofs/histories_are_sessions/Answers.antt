@@ -1,5 +1,6 @@
 use Rattle.rbc_model.proofs.SaidLineLemmas.{said_line_read, read_is_sayable}
 use Rattle.rbc_session_laws.proofs.RetellingLemmas.{entries_are_told_again, retold_histories_are_sessions, sessions_are_retold, histories_are_sessions}
+use Rattle.rbc_session_laws.proofs.OfTrackLemmas.{retold_entries_are_of_track}
 use Rattle.rbc_session_laws.proofs.LegalRetellingLemmas.{legal_histories_are_retold}
 use Rattle.rbc_session_laws.proofs.histories_are_sessions.Goals as goal
 
@@ -11,6 +12,9 @@ returns-clause-sayable c = read_is_sayable
 
 pub returns-clause-lines : goal.returns-clause-lines
 returns-clause-lines c = entries_are_told_again
+
+pub returns-clause-of_track : goal.returns-clause-of_track
+returns-clause-of_track c = retold_entries_are_of_track
 
 pub returns-clause-retold : goal.returns-clause-retold
 returns-clause-retold c = retold_histories_are_sessions

@@ -1,0 +1,79 @@
+-- What an entry of a history that is retold tells is of the track: its line was looked up there.
+use Rattle.std.proofs.Common.{◌≡◌, ℕ, ◌<◌, List, length, take, Option, Some, None, Result, Ok, Err, refl, subst}
+use Rattle.std.specs.Prelude.{bytes_eq}
+use Rattle.std.specs.List.{position}
+use Rattle.std.specs.Result.{result_map_both}
+use Rattle.std.proofs.lemmas.Option.{slice_get_within}
+use Rattle.rbc_model.specs.declared.refusals.LineFault.{LineFault}
+use Rattle.rbc_model.specs.declared.refusals.ViewFault.{ViewFault}
+use Rattle.rbc_model.specs.declared.refusals.ViewFault.TheVariants.{UnknownTrain, Blocked}
+use Rattle.rbc_model.specs.declared.reports.Told.TheVariants.{Report as ToldReport, Lock as ToldLock, Free as ToldFree, Leave as ToldLeave, GiveBack as ToldGiveBack}
+use Rattle.rbc_model.specs.declared.reports.Event.TheVariants.{Tell}
+use Rattle.rbc_model.specs.Results.{◌>>=◌}
+use Rattle.rbc_model.specs.RequestText.{line_in}
+use Rattle.rbc_model.specs.Tracks.{Track, section_named, route_named}
+use Rattle.rbc_model.specs.Events.{step}
+use Rattle.rbc_model.specs.Views.{View, view}
+use Rattle.rbc_model.specs.Histories.{Entry, Granted, is_full, replay}
+use Rattle.rbc_model.specs.SessionText.{SessionLine, Blank, Report, Lock, Free, Leave, GiveBack, Ask, parse_session}
+use Rattle.rbc_model.specs.SessionReply.{SessionRefusal, BadLine, UnknownName}
+use Rattle.rbc_model.specs.HistoryText.{entry_line}
+use Rattle.rbc_session_laws.specs.declared.demand.Demand.{Demand}
+use Rattle.rbc_session_laws.specs.declared.demand.Demand.TheVariants.{Nothing, Event, Authority}
+use Rattle.rbc_session_laws.specs.Demands.{known, looked_up, demand_in, IsDemandOfTrack}
+use Rattle.rbc_session_laws.specs.Answers.{asker_answer, demand_answer, line_answer, grant_of}
+use Rattle.rbc_session_laws.specs.Retelling.{IsEntryOfTrack, RetoldEntriesAreOfTrack}
+use Rattle.rbc_session_laws.proofs.RetellingLemmas.{found_at, the_demand, no_demand, no_entry, told_entry, granted_entry}
+
+-- what is found by its name in a table stands in it
+within : {X : Type 0} (name_of : X → List ℕ) (xs : List X) (name : List ℕ) (place : ℕ) → position (λ x. bytes_eq (name_of x) name) xs ≡ Some place → place < length xs
+within name_of xs name place h =
+    let a = found_at (λ x. bytes_eq (name_of x) name) xs place h in
+    slice_get_within xs place a.x a.here
+
+looked_up_there : (track : Track) (said : SessionLine) (demand : Demand) → looked_up track said ≡ Ok demand → IsDemandOfTrack track demand
+looked_up_there track Blank demand h = subst (IsDemandOfTrack track) (the_demand Nothing demand h) tt
+looked_up_there track (Report report) demand h = subst (IsDemandOfTrack track) (the_demand (Event (ToldReport report)) demand h) tt
+looked_up_there track (Lock name) demand h = by_place (route_named track name) refl h
+  where
+    by_place : (o : Option ℕ) → route_named track name ≡ o → line_in (λ route. Event (ToldLock route)) (known name o) ≡ Ok demand → IsDemandOfTrack track demand
+    by_place None e f = absurd (no_demand (UnknownName name) demand f)
+    by_place (Some route) e f = subst (IsDemandOfTrack track) (the_demand (Event (ToldLock route)) demand f) (within (λ r. r.name) track.routes name route e)
+looked_up_there track (Free name) demand h = by_place (section_named track name) refl h
+  where
+    by_place : (o : Option ℕ) → section_named track name ≡ o → line_in (λ section. Event (ToldFree section)) (known name o) ≡ Ok demand → IsDemandOfTrack track demand
+    by_place None e f = absurd (no_demand (UnknownName name) demand f)
+    by_place (Some section) e f = subst (IsDemandOfTrack track) (the_demand (Event (ToldFree section)) demand f) (within (λ s. s.name) track.sections name section e)
+looked_up_there track (Leave train) demand h = subst (IsDemandOfTrack track) (the_demand (Event (ToldLeave train)) demand h) tt
+looked_up_there track (GiveBack train end) demand h = subst (IsDemandOfTrack track) (the_demand (Event (ToldGiveBack train end)) demand h) tt
+looked_up_there track (Ask train) demand h = subst (IsDemandOfTrack track) (the_demand (Authority train) demand h) tt
+
+read_there : (track : Track) (read : Result SessionLine LineFault) (demand : Demand) → (result_map_both (λ said. said) BadLine read >>= looked_up track) ≡ Ok demand
+    → IsDemandOfTrack track demand
+read_there track (Ok said) demand h = looked_up_there track said demand h
+read_there track (Err fault) demand h = absurd (no_demand (BadLine fault) demand h)
+
+module _ (track : Track) (before : List Entry) (entry : Entry) where
+  of_grant : (shown : View) → Granted (grant_of shown) ≡ entry → IsEntryOfTrack track entry
+  of_grant shown e = subst (IsEntryOfTrack track) e tt
+
+  of_asker : (train : ℕ) (seen : Result View ViewFault) → (asker_answer track before train seen).added ≡ Some entry → IsEntryOfTrack track entry
+  of_asker train (Ok shown) h = of_grant shown (granted_entry track before entry shown (is_full before) h)
+  of_asker train (Err (Blocked obstacle at)) h = absurd (no_entry entry h)
+  of_asker train (Err UnknownTrain) h = absurd (no_entry entry h)
+
+  of_demand : (line : List ℕ) (demand : Result Demand SessionRefusal) → demand_in track line ≡ demand → (demand_answer track before demand).added ≡ Some entry
+      → IsEntryOfTrack track entry
+  of_demand line (Ok Nothing) e h = absurd (no_entry entry h)
+  of_demand line (Ok (Event told)) e h =
+      subst (IsEntryOfTrack track) (told_entry track before entry told (is_full before) (step track (replay track before) (Tell told)) h)
+      (read_there track (parse_session line) (Event told) e)
+  of_demand line (Ok (Authority train)) e h = of_asker train (view track (replay track before) train) h
+  of_demand line (Err refusal) e h = absurd (no_entry entry h)
+
+  of_line : (line : List ℕ) → (line_answer track before line).added ≡ Some entry → IsEntryOfTrack track entry
+  unfolding line_answer
+  of_line line h = of_demand line (demand_in track line) refl h
+
+pub retold_entries_are_of_track : RetoldEntriesAreOfTrack
+retold_entries_are_of_track track entries retold place entry here = of_line track (take place entries) entry (entry_line track entry) (retold place entry here)
