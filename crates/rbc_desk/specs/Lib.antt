@@ -7,6 +7,7 @@ pub use Rattle.rbc_snap.specs.ApplyFault
 pub use Rattle.rbc_snap.specs.Candidates
 pub use Rattle.rbc_snap.specs.CommitFault
 pub use Rattle.rbc_snap.specs.Entering
+pub use Rattle.rbc_snap.specs.Entries
 pub use Rattle.rbc_snap.specs.Forms
 pub use Rattle.rbc_snap.specs.Later
 pub use Rattle.rbc_snap.specs.Records

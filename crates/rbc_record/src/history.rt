@@ -1,6 +1,6 @@
 //! The record of a track.
 
-ghost use Rattle.std.specs.Prelude.{◌≡◌, ◌++◌, ◌∷◌, ◌<◌, ◌≤◌, ℕ, [], length, take, true, false, slice_get, option_map, None, Ok, Err, IfOk, vec_len, vec_capacity};
+ghost use Rattle.std.specs.Prelude.{◌≡◌, ◌++◌, ◌∷◌, ◌<◌, ◌≤◌, ℕ, [], length, map, take, true, false, slice_get, option_map, None, Ok, Err, IfOk, vec_len, vec_capacity};
 ghost use Rattle.std.specs.Arc.{arc_value};
 ghost use Rattle.std.specs.Option.{option_copied};
 ghost use Rattle.rbc_model.specs.declared.limits.TheConstants.{MOST_ENTRIES};
@@ -119,6 +119,13 @@ impl Record {
         ensures { option_map entry_of (option_copied result) ≡ slice_get self.now.entries place }
     {
         self.entries.get(place as usize)
+    }
+
+    /// The entries, in order.
+    pub fn entries(&self) -> &[Entry]
+        ensures { map entry_of result.now ≡ self.now.entries }
+    {
+        self.entries.as_slice()
     }
 
     /// Whether the record has as many entries as it may have.

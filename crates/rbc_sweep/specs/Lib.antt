@@ -7,6 +7,7 @@ pub use Rattle.rbc_desk.specs.Candidates
 pub use Rattle.rbc_desk.specs.Closing
 pub use Rattle.rbc_desk.specs.CommitFault
 pub use Rattle.rbc_desk.specs.Entering
+pub use Rattle.rbc_desk.specs.Entries
 pub use Rattle.rbc_desk.specs.Forms
 pub use Rattle.rbc_desk.specs.Later
 pub use Rattle.rbc_desk.specs.Records
