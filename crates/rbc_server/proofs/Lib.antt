@@ -3,9 +3,11 @@ pub mod CentreLemmas
 pub mod NamingLemmas
 pub mod SeatLemmas
 pub mod SeatSessionLemmas
+pub mod SeatAnswerLemmas
 pub mod SessionLemmas
 pub mod TellingLemmas
 pub mod ConnectionLemmas
 pub mod OutcomeLemmas
 pub mod ServingLemmas
 pub mod AnsweredLemmas
+pub mod HistoryLemmas

@@ -40,6 +40,11 @@ begins_turn begun after reply receipt (Ok (Event told)) since = begins_since _ b
 begins_turn begun after reply receipt (Ok (Authority train)) since = begins_since _ begun after receipt since
 begins_turn begun after reply receipt (Err refusal) (said, (none, same)) = begins_idle begun after same
 
+-- the track is still the same
+pub turn_track : (begun after : HistoryOnTrack) (reply : List ℕ) (receipt : Option Receipt) (demand : Result Demand SessionRefusal) → AnswersDemandAtDesk begun after reply receipt demand
+    → after.track ≡ begun.track
+turn_track begun after reply receipt demand answers = let begins = begins_turn begun after reply receipt demand answers in begins.track
+
 begins_turns : (begun last : HistoryOnTrack) (turns : List SeatTurn) → AreInTurn begun turns last → Begins begun last
 begins_turns begun last [] same = begins_idle begun last same
 begins_turns begun last (turn ∷ turns) (first, more) =

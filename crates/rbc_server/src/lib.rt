@@ -7,11 +7,13 @@ mod connections;
 mod counter;
 mod demand;
 mod ends;
+mod histories;
 mod outcomes;
 mod serving;
 mod sessions;
 mod telling;
 
+pub use histories::print_history;
 pub use rbc_streams::SessionFault;
 pub use rbc_sweep::{Blank, Desk, DeskName, Record};
 pub use serving::{ServeFault, serve};

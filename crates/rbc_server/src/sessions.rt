@@ -3,6 +3,7 @@
 ghost use Rattle.std.specs.Prelude.{◌≡◌, ◌↔◌, ℕ, List, [], true, false, IsTrue, OnOk, Err};
 ghost use Rattle.std.specs.Io.KnownBytes.{Consumes, IsAtEnd};
 ghost use Rattle.rbc_sweep.specs.Outcomes.{AreFirst};
+ghost use Rattle.rbc_server.specs.SeatAnswers.{AreLineAnswers};
 ghost use Rattle.rbc_server.specs.SeatSessions.{IsSeatSession};
 ghost use Rattle.rbc_session_laws.specs.Retelling.{IsRetold};
 ghost use Rattle.rbc_session_laws.specs.SessionRuns.{IsSession};
@@ -111,9 +112,18 @@ pub fn session<R: Source, W: Sink, L: DeskName, G: Gate, T: Threads + Wait + Syn
     ensures session { (input : List ℕ) × Consumes (R.left reader.old) (R.left reader.new) input
         × IsSeatSession seat.old seat.new input (W.written writer.old) (W.written writer.new) result }
 
+    // Each reply is the one that is computed for its line, after the history that the seat was told with it, but where
+    // memory was refused, or the history was full by the time of a grant.
+    ensures answers { (input : List ℕ)
+        (session : IsSeatSession seat.old seat.new input (W.written writer.old) (W.written writer.new) result)
+        → AreLineAnswers seat.old.told session.turns }
+
     // What was written was handed on, unless the writer failed.
     ensures handed_on { W.failed writer.new ≡ false → W.held_back writer.old ≡ [] → W.held_back writer.new ≡ [] }
 {
+    // The desk's track is in form, and what the seat was told is on it.
+    let _sections = track.section_count();
+    let _version = seat.version();
     let counter = Counter {
         desk,
         track,

@@ -1,0 +1,62 @@
+//! A history as the session that leads to it again.
+
+ghost use Rattle.std.specs.Prelude.{◌≡◌, [], false, map, OnOk};
+ghost use Rattle.rbc_model.specs.HistoryText.{entry_request, history_text};
+ghost use Rattle.rbc_model.specs.SessionText.{said_words};
+ghost use Rattle.rbc_model.specs.Sessions.{Prints};
+ghost use Rattle.rbc_model.specs.Words.{line_of};
+ghost use Rattle.rbc_sweep.specs.Entries.{entry_of};
+ghost use Rattle.rbc_session_laws.specs.Retelling.{IsEntryOfTrack, IsItsSession, IsRetold};
+
+use rbc_streams::{Sink, WriteFailed};
+use rbc_sweep::{Entry, Record};
+use rbc_track::Track;
+use rbc_words::{Request, print_request, told_request};
+
+/// Writes the history of a record as lines: what was told as it is told, and for what was granted the request for it.
+/// [`run`](crate::run) over these lines, on a new record of the track, leads to the same history. It takes no memory.
+///
+/// # Errors
+///
+/// `WriteFailed`, where the writer fails. Then a part of the lines stands, from their start.
+pub fn print_history<W: Sink>(history: &Record, writer: &mut W) -> Result<(), WriteFailed>
+    requires going { W.failed writer.old ≡ false }
+    requires retold { IsRetold history.now.track history.now.entries }
+    ensures text { Prints (W.written writer.old) (W.written writer.new) (W.failed writer.new)
+        (history_text history.now.track history.now.entries) result }
+    ensures again { IsItsSession history.now.track history.now.entries }
+    ensures handed_on { OnOk result (W.held_back writer.new ≡ []) }
+{
+    print_entries(history.track(), history.entries(), writer)?;
+    writer.flush()
+}
+
+/// Writes the lines of entries, in order.
+fn print_entries<W: Sink>(
+    track: &Track,
+    entries: &[Entry],
+    writer: &mut W,
+) -> Result<(), WriteFailed>
+    requires going { W.failed writer.old ≡ false }
+    requires retold { IsRetold track.now (map entry_of entries.now) }
+    ensures { Prints (W.written writer.old) (W.written writer.new) (W.failed writer.new)
+        (history_text track.now (map entry_of entries.now)) result }
+{
+    for entry in entries {
+        print_entry(track, entry, writer)?;
+    }
+    Ok(())
+}
+
+/// Writes the line that leads to an entry.
+fn print_entry<W: Sink>(track: &Track, entry: &Entry, writer: &mut W) -> Result<(), WriteFailed>
+    requires going { W.failed writer.old ≡ false }
+    requires of_track { IsEntryOfTrack track.now (entry_of entry.now) }
+    ensures { Prints (W.written writer.old) (W.written writer.new) (W.failed writer.new)
+        (line_of (said_words (entry_request track.now (entry_of entry.now)))) result }
+{
+    match entry {
+        Entry::Heard(told) => print_request(&told_request(track, told), writer),
+        Entry::Granted(grant) => print_request(&Request::Ask(grant.train()), writer),
+    }
+}
