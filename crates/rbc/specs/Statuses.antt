@@ -10,7 +10,7 @@ use Rattle.rbc_server.specs.declared.serving.ServeFault.TheVariants.{Memory as N
 use Rattle.rbc.specs.declared.load.LoadFault.{LoadFault}
 use Rattle.rbc.specs.declared.load.LoadFault.TheVariants.{Memory as NoLoadMemory}
 use Rattle.rbc.specs.declared.failure.Failure.{Failure}
-use Rattle.rbc.specs.declared.failure.Failure.TheVariants.{CommandLine, NotText, NotCertified, Load, Session, Serve, Memory as NoMemory}
+use Rattle.rbc.specs.declared.failure.Failure.TheVariants.{CommandLine, NotText, NotCertified, Load, Session, History, Serve, Memory as NoMemory}
 
 -- after a command line that asks for help, or that is refused
 abbrev pub status_of_kind : ErrorKind → ℕ
@@ -41,5 +41,6 @@ status_of NotText = 2
 status_of NotCertified = 1
 status_of (Load fault) = status_of_load fault
 status_of (Session fault) = status_of_fault fault
+status_of History = 4
 status_of (Serve fault) = status_of_serve fault
 status_of NoMemory = 5

@@ -12,10 +12,19 @@ pub enum Task<'a> {
     Steps,
     /// Judge the certificates of the standard input.
     Check,
-    /// Run a centre on the track of this file.
-    Run(&'a str),
+    /// Run a centre.
+    Run(Centre<'a>),
     /// Serve connections.
     Serve(Service<'a>),
+}
+
+/// How a centre runs.
+#[derive(Clone, Copy, Debug, PartialEq, Eq)]
+pub struct Centre<'a> {
+    /// The track file.
+    pub track: &'a str,
+    /// The file that its history is written to, if there is one.
+    pub history: Option<&'a str>,
 }
 
 /// How a centre serves.
@@ -58,7 +67,8 @@ pub fn read<'a>(alloc: Global, words: &'a [String]) -> Result<Task<'a>, Error> {
             "Runs a centre on the track of a file: answers reports, locks and requests on standard input",
         )
         .after_help(REQUESTS)
-        .arg(track_file(alloc))?;
+        .arg(track_file(alloc))?
+        .arg(history_file(alloc))?;
     let command = Command::new(alloc, "rbc")
         .about("The deciding part of an ETCS Level 2 radio block centre")
         .subcommand_required(true)
@@ -68,7 +78,10 @@ pub fn read<'a>(alloc: Global, words: &'a [String]) -> Result<Task<'a>, Error> {
         .subcommand(serve(alloc)?)?;
     let matches = command.try_get_matches_from(words)?;
     if let Some(run) = matches.subcommand_matches("run") {
-        return Ok(Task::Run(run.get_str("TRACK").unwrap_or("")));
+        return Ok(Task::Run(Centre {
+            track: run.get_str("TRACK").unwrap_or(""),
+            history: run.get_str("history"),
+        }));
     }
     if let Some(serve) = matches.subcommand_matches("serve") {
         return Ok(Task::Serve(service_in(serve)));
@@ -84,6 +97,15 @@ fn track_file<'a>(alloc: Global) -> Arg<'a> {
     Arg::new(alloc, "TRACK")
         .help("The track file")
         .required(true)
+        .action(ArgAction::Set)
+}
+
+/// The file that a centre writes its history to.
+fn history_file<'a>(alloc: Global) -> Arg<'a> {
+    Arg::new(alloc, "history")
+        .long("history")
+        .value_name("FILE")
+        .help("Writes to this file, made anew, the lines that lead to the same history again")
         .action(ArgAction::Set)
 }
 

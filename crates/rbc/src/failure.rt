@@ -17,7 +17,7 @@ const NOT_CERTIFIED: u8 = 1;
 const REFUSED: u8 = 2;
 /// The exit status after a track that can't be had.
 const NO_TRACK: u8 = 3;
-/// The exit status after a fault of a session.
+/// The exit status after a fault of a session, of a port or of a history's file.
 const SESSION_FAULT: u8 = 4;
 /// The exit status after memory was refused.
 const NO_MEMORY: u8 = 5;
@@ -35,6 +35,8 @@ pub enum Failure {
     Load(LoadFault),
     /// A session ended before its input.
     Session(SessionFault),
+    /// The file of the history can't be written.
+    History,
     /// A centre that serves connections ended early, or could not open its port.
     Serve(ServeFault),
     /// A certificate was refused, as the output tells.
@@ -45,7 +47,7 @@ pub enum Failure {
 
 impl Failure {
     /// The program's exit status: 0 after help, 1 for a certificate, 2 for a command line, 3 for a track, 4 for a fault
-    /// of a session or a port, 5 for want of memory and 6 for receipts that are not the history.
+    /// of a session, of a port or of a history's file, 5 for want of memory and 6 for receipts that are not the history.
     pub fn status(&self) -> u8
         ensures { result ≡ status_of self.now }
     {
@@ -61,7 +63,7 @@ impl Failure {
             | Failure::Serve(ServeFault::Memory)
             | Failure::Memory => NO_MEMORY,
             Failure::Load(_) => NO_TRACK,
-            Failure::Session(_) => SESSION_FAULT,
+            Failure::Session(_) | Failure::History => SESSION_FAULT,
             Failure::Serve(ServeFault::Close(_)) => UNMATCHED,
             Failure::Serve(ServeFault::Port | ServeFault::Write) => SESSION_FAULT,
         }
@@ -76,6 +78,7 @@ impl Failure {
             ),
             Failure::Load(fault) => eprintln!(rt; "rbc: {fault}"),
             Failure::Session(fault) => eprintln!(rt; "rbc: {fault}"),
+            Failure::History => eprintln!(rt; "rbc: history: Unwritable"),
             Failure::Serve(fault) => eprintln!(rt; "rbc: {fault}"),
             Failure::NotCertified => Ok(()),
             Failure::Memory => eprintln!(rt; "rbc: out of memory"),

@@ -4,12 +4,14 @@
 mod answers;
 mod command_line;
 mod failure;
+mod history;
 mod load;
 mod serve;
 mod steps;
 
-use command_line::{Service, Task};
+use command_line::{Centre, Service, Task};
 use failure::Failure;
+use history::write_history;
 pub use load::{LoadFault, load};
 pub use rbc_checks::check;
 use rbc_model::Memory;
@@ -73,26 +75,33 @@ fn run(
                 Err(Failure::NotCertified)
             }
         }
-        Task::Run(path) => run_centre(rt, path),
+        Task::Run(centre) => run_centre(rt, &centre),
         Task::Serve(service) => serve_centre(rt, &service),
     }
 }
 
-/// Runs a centre on the track of a file: it answers the lines of the standard input.
+/// Runs a centre on the track of a file: it answers the lines of the standard input. However they end, the history that
+/// they led to is written, if a file is named for it.
 fn run_centre(
     rt: &(impl Files + Input + Print + AllocGlobal + Threads + Sync),
-    path: &str,
+    centre: &Centre,
 ) -> Result<(), Failure> {
     let alloc = rt.alloc();
-    let track = Arc::new(alloc, read_track(rt, path)?).map_err(Memory::from)?;
-    rbc_server::run(
+    let track = Arc::new(alloc, read_track(rt, centre.track)?).map_err(Memory::from)?;
+    let mut record = Record::new(alloc, track)?;
+    let ended = rbc_server::run(
         rt,
         alloc,
         &mut Stream::reader(rt.reader()),
         &mut Stream::writer(alloc, io::writer(rt))?,
-        &mut Record::new(alloc, track)?,
-    )?;
-    Ok(())
+        &mut record,
+    );
+    let kept = match centre.history {
+        Some(path) => write_history(rt, path, &record),
+        None => Ok(()),
+    };
+    ended?;
+    kept
 }
 
 /// Serves connections on a port, on the track of a file.

@@ -1,0 +1,28 @@
+//! The file of a centre's history.
+
+ghost use Rattle.rbc_session_laws.specs.Retelling.{IsRetold};
+
+use crate::failure::Failure;
+use rbc_server::{Record, print_history};
+use rbc_words::Stream;
+use std::fs;
+use std::fs::Files;
+
+/// Writes the lines of a record's history to a file, which is made anew.
+///
+/// # Errors
+///
+/// `History`, where the file can't be made, or not be written to its end. `Memory`, where there is none for the writer.
+pub(crate) fn write_history(
+    rt: &(impl Files + AllocGlobal),
+    path: &str,
+    record: &Record,
+) -> Result<(), Failure>
+    requires { IsRetold record.now.track record.now.entries }
+{
+    let Ok(file) = fs::create(rt, path) else {
+        return Err(Failure::History);
+    };
+    let mut writer = Stream::writer(rt.alloc(), file)?;
+    print_history(record, &mut writer).map_err(|_| Failure::History)
+}
