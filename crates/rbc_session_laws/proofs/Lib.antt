@@ -5,6 +5,8 @@ pub mod TextLemmas
 pub mod SessionLemmas
 pub mod RequestLemmas
 pub mod StepsLemmas
+pub mod CheckLemmas
+pub mod AllReadLemmas
 pub mod RetellingLemmas
 pub mod OfTrackLemmas
 pub mod LegalRetellingLemmas

@@ -5,3 +5,5 @@ pub mod Answers
 pub mod Laws
 pub mod Retelling
 pub mod StepsAnswers
+pub mod CheckAnswers
+pub mod AllRead

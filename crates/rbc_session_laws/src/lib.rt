@@ -4,6 +4,7 @@
 
 mod demand;
 
+ghost use Rattle.rbc_session_laws.specs.CheckAnswers.{ChecksAreAnswered};
 ghost use Rattle.rbc_session_laws.specs.Laws.{GrantsAreOne, LinesAreAnswered, SessionsAreAnswered, SessionsAreOne, WrittenIsAnswered};
 ghost use Rattle.rbc_session_laws.specs.Retelling.{EntriesAreToldAgain, HistoriesAreSessions, ReadsAreSayable};
 ghost use Rattle.rbc_session_laws.specs.Retelling.{LegalHistoriesAreRetold, RequestsAreReadBack};
@@ -25,6 +26,11 @@ pub fn sessions_are_answered()
 pub fn steps_are_answered()
     ensures lines { StepsLinesAreAnswered }
     ensures written { StepsWrittenIsAnswered }
+{}
+
+/// What `rbc check` answers, and whether it tells that each block is certified, where memory is not refused.
+pub fn checks_are_answered()
+    ensures written { ChecksAreAnswered }
 {}
 
 /// A history is a session: the lines of its entries are read back, and lead to the same entries again.
