@@ -1,11 +1,12 @@
 //! The session over a text with certificates: each block is judged where it ends.
 
-ghost use Rattle.std.specs.Prelude.{◌≡◌, ◌↔◌, ◌||◌, ℕ, List, [], true, false, IsTrue, OnOk, Ok, Err};
+ghost use Rattle.std.specs.Prelude.{◌≡◌, ◌↔◌, ◌||◌, ℕ, List, [], true, false, IsTrue, OnOk, IfOk, Ok, Err};
 ghost use Rattle.std.specs.Io.KnownBytes.{Consumes, IsAtEnd};
 ghost use Rattle.rbc_model.specs.declared.places.Format.TheVariants.{Near};
 ghost use Rattle.rbc_model.specs.declared.sessions.SessionFault.TheVariants.{Read, Write, Memory as NoMemory};
 ghost use Rattle.rbc_model.specs.CheckText.{AnswersBlock, AnswersShort, LeavesOpen, IsChecked, Checking, unchecked};
 ghost use Rattle.rbc_model.specs.Sessions.{Prints};
+ghost use Rattle.rbc_checks.specs.Answered.{AnswersAllBlocks};
 ghost use Rattle.rbc_checks.specs.Verdicts.{said_text, is_bad};
 ghost use Rattle.rbc_checks.specs.Replies.{reply_text, lost_text, Keeps};
 
@@ -189,6 +190,10 @@ pub fn check<R: Source, W: Sink>(
     // What was written tells the verdicts on the blocks of what was read, and Ok tells whether each was certified.
     ensures checked { (input : List ℕ) × Consumes (R.left reader.old) (R.left reader.new) input
         × IsChecked Near input (W.written writer.old) (W.written writer.new) result }
+
+    // At the end of the input, where memory was never refused, what was written, and whether each block was
+    // certified, is one function of what was read.
+    ensures answers { IfOk result (λ all. AnswersAllBlocks all (R.left reader.old) (W.written writer.old) (W.written writer.new)) }
 
     // And it was handed on, unless the writer failed.
     ensures handed_on { W.failed writer.new ≡ false → W.held_back writer.old ≡ [] → W.held_back writer.new ≡ [] }

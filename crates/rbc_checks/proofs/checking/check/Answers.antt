@@ -1,6 +1,10 @@
-use Rattle.std.proofs.Common.{ap, not}
+use Rattle.std.proofs.Common.{ap, not, Ok}
 use Rattle.std.proofs.lemmas.Result.{err_from_is_err_and}
-use Rattle.rbc_model.specs.CheckText.{Checking}
+use Rattle.rbc_model.specs.declared.places.Format.TheVariants.{Near}
+use Rattle.rbc_model.specs.CheckText.{Checking, IsChecked}
+use Rattle.rbc_session_laws.proofs.AllReadLemmas.{of_all_read}
+use Rattle.rbc_session_laws.proofs.CheckLemmas.{checks_are_answered}
+use Rattle.rbc_checks.specs.Answered.{AnswersBlocks}
 use Rattle.rbc_checks.specs.Verdicts.{said_text, is_bad}
 use Rattle.rbc_checks.proofs.CheckingLemmas.{over, held}
 use Rattle.rbc_checks.proofs.checking.check.Goals as goal
@@ -28,3 +32,9 @@ returns-clause-checked g c =
           (g.W.Sink.written c.print_said.new.writer) (g.W.Sink.written c.flush.new.self) c.in_ok-print_said.ensures.text c.in_ok-flush.ensures.bytes
           c.close.new.self c.close.ensures.closed (not c.checker-2.inside.refused) (ap (λ (s : Checking). not s.refused) c.checker-2.view_is),
     )
+
+pub returns-clause-answers : goal.returns-clause-answers
+returns-clause-answers g c =
+    let checked = returns-clause-checked g c in
+    of_all_read (IsChecked Near) AnswersBlocks (λ all input held text. checks_are_answered Near input held text all) _ _ _ _ (Ok (not c.checker-2.inside.refused))
+    checked.0 c.in_ok-converse.ensures.end checked.1 checked.2
