@@ -1,10 +1,12 @@
--- What a whole session answers, computed: the chosen profile and its table of prices, and the replies to four lines.
-use Rattle.std.proofs.Common.{◌≡◌, ℕ, List, [], ◌∷◌, ◌++◌, refl, codes}
+-- What a whole session answers, computed: the chosen profile and its table of prices, the replies to lines, and the verdicts on certificates.
+use Rattle.std.proofs.Common.{◌≡◌, ℕ, true, false, List, [], ◌∷◌, ◌++◌, refl, codes}
 use Rattle.std.specs.Fmt.{digits}
+use Rattle.rbc_model.specs.declared.places.Format.TheVariants.{Near}
 use Rattle.rbc_model.specs.Levels.{speed_levels}
 use Rattle.rbc_table_laws.specs.LeastTables.{least_to, made, least_price, filled, greatest_prices, break_back, steps_back, first_row, steps_read, chosen_steps}
 use Rattle.rbc_model.specs.HistoryText.{history_text}
 use Rattle.rbc_session_laws.specs.Answers.{grant_of, speed_prices_of, grade_prices_of, line_answer, turns_of, answers_of, entries_after}
+use Rattle.rbc_session_laws.specs.CheckAnswers.{check_answers_of, are_all_certified}
 use Rattle.rbc_examples.specs.Places.{single, double}
 use Rattle.rbc_examples.proofs.SpeedExamples.{track_1, steps_1, track_two_cuts, steps_two_cuts}
 
@@ -87,3 +89,44 @@ two_trains_told : history_text double (entries_after double [] two_trains)
     ++ codes "ask 2" ++ feed
 unfolding digits turns_of line_answer grant_of speed_prices_of grade_prices_of chosen_steps steps_read first_row steps_back break_back greatest_prices filled made least_price least_to
 two_trains_told = refl
+
+-- a block that is certified, as `rbc steps` says it; one whose last price is too low; and one of gradients, open at the end of the text
+abbrev certificate : List ℕ
+certificate =
+    codes "speed 2 0:160 100:120 150:160 end 300" ++ feed
+    ++ codes "steps 0:120 150:160 loss 4000" ++ feed
+    ++ codes "prices 1 0 4000 10000" ++ feed
+    ++ codes "prices 2 0 0 4000" ++ feed
+    ++ codes "packet 1b40e480003000804b200004b7f000" ++ feed
+    ++ codes "done" ++ feed
+
+abbrev forged : List ℕ
+forged =
+    codes "speed 2 0:160 100:120 150:160 end 300" ++ feed
+    ++ codes "steps 0:120 150:160 loss 4000" ++ feed
+    ++ codes "prices 1 0 4000 10000" ++ feed
+    ++ codes "prices 2 0 0 3999" ++ feed
+
+abbrev open_block : List ℕ
+open_block =
+    codes "grade 1 0:0 end 9" ++ feed
+    ++ codes "steps 0:0 loss 0" ++ feed
+    ++ codes "prices 1 0"
+
+check_computed : check_answers_of Near (certificate ++ forged ++ open_block)
+    ≡ codes "certified speed 4000" ++ feed
+    ++ codes "refused NotAttained" ++ feed
+    ++ codes "certified grade 0" ++ feed
+unfolding digits
+check_computed = refl
+
+-- the one in the midst is not certified, and without it all are
+not_all_certified : are_all_certified Near (certificate ++ forged ++ open_block) ≡ false
+not_all_certified = refl
+
+all_certified : are_all_certified Near (certificate ++ open_block) ≡ true
+all_certified = refl
+
+-- a text without a block has none that is refused
+none_certified : are_all_certified Near (codes "# none" ++ feed ++ feed ++ codes "refused Words") ≡ true
+none_certified = refl
