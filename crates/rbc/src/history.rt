@@ -16,13 +16,13 @@ use std::fs::Files;
 pub(crate) fn write_history(
     rt: &(impl Files + AllocGlobal),
     path: &str,
-    record: &Record,
+    history: &Record,
 ) -> Result<(), Failure>
-    requires { IsRetold record.now.track record.now.entries }
+    requires { IsRetold history.now.track history.now.entries }
 {
     let Ok(file) = fs::create(rt, path) else {
         return Err(Failure::History);
     };
     let mut writer = Stream::writer(rt.alloc(), file)?;
-    print_history(record, &mut writer).map_err(|_| Failure::History)
+    print_history(history, &mut writer).map_err(|_| Failure::History)
 }
