@@ -1,11 +1,11 @@
 -- A track function has one spelling: two lists of runs with the same level at each metre are one list.
-use Rattle.std.proofs.Common.{◌≡◌, ℕ, ◌<◌, ◌≤◌, ◌⊎◌, inl, inr, Bool, true, false, not, ◌&&◌, List, [], ◌∷◌, Option, Some, None, refl, arith, ap, sym, ◌∙◌, nat_le, nat_lt, if◌then◌else◌, ◌==◌}
+use Rattle.std.proofs.Common.{◌≡◌, ℕ, ◌<◌, ◌≤◌, ◌⊎◌, inl, inr, Bool, true, false, not, List, [], ◌∷◌, Option, Some, None, refl, arith, ap, sym, ◌∙◌, nat_le, nat_lt, ◌==◌}
 use Rattle.std.specs.Option.{option_or}
 use Rattle.std.specs.List.{list_all}
 use Rattle.std.proofs.lemmas.Bool.{le-leb, ltb-true}
 use Rattle.std.proofs.lemmas.Bool.Decides.{leb_tells, nat_tests}
 use Rattle.rbc_model.specs.Levels.{Levels, is_same, IsInRange, IsLawful}
-use Rattle.rbc_model.specs.Profiles.{value_at, starts_of, rises_above, rises_from_zero, is_joined, IsStepList, IsTrackFunction}
+use Rattle.rbc_model.specs.Profiles.{value_at, starts_of, rises_above, is_joined, IsTrackFunction}
 use Rattle.rbc_model.proofs.CountingLemmas.{both_of}
 
 not_le : (a b : ℕ) → b < a → nat_le a b ≡ false

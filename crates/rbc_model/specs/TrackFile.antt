@@ -1,5 +1,5 @@
 -- A track file, as the tables, texts, numbers and lists that it holds: the track that it tells, or its first fault.
-use Rattle.std.specs.Prelude.{◌≡◌, bytes_eq, codes, ℕ, suc, not, Bool, is_some, List, [], ◌∷◌, find, Option, Some, None, option_map, ℤ, pos, negsuc, int_le, Result, Ok, Err, ◌&&◌, if◌then◌else◌}
+use Rattle.std.specs.Prelude.{◌≡◌, bytes_eq, codes, ℕ, suc, not, Bool, is_some, List, [], ◌∷◌, find, Option, Some, None, option_map, ℤ, pos, negsuc, int_le, Result, Ok, Err, ◌&&◌, ◌==◌, if◌then◌else◌}
 use Rattle.std.specs.List.{AllByRecursion, list_all, list_any}
 use Rattle.std.specs.Cmp.Lexicographic.{slice_cmp}
 use Rattle.std.specs.Ordering.{nat_cmp}
@@ -7,6 +7,8 @@ use Rattle.std.proofs.Common.{Less}
 use Rattle.std.specs.Option.{option_and_then}
 use Rattle.std.specs.Result.{result_map_both}
 use Rattle.rbc_model.specs.declared.limits.TheConstants.{SLOWEST, FASTEST, LONGEST_TRACK, SHORTEST_RUN, LAST_COUNTRY, LAST_GROUP, MOST_STEPS}
+use Rattle.rbc_model.specs.declared.places.Format.{Format}
+use Rattle.rbc_model.specs.declared.places.Format.TheVariants.{Near, Far}
 use Rattle.rbc_model.specs.declared.files.FileTable.{FileTable}
 use Rattle.rbc_model.specs.declared.files.FileTable.TheVariants.{Top, Section as SectionTable, Link as LinkTable, Group as GroupTable, Route as RouteTable}
 use Rattle.rbc_model.specs.declared.files.FileFault.{FileFault}
@@ -62,8 +64,9 @@ pub record FileEntry (D : Type 0) : Type 0 where
   pub number : ℕ
   pub members : List (List ℕ × D)
 
--- What the top table's own keys tell: the step limits, and the values of the lists of tables.
+-- What the top table's own keys tell: the format, the step limits, and the values of the lists of tables.
 pub record TopKeys (D : Type 0) : Type 0 where
+  pub format : Format
   pub speed_steps : ℕ
   pub grade_steps : ℕ
   pub sections : List D
@@ -77,6 +80,10 @@ pub record TopKeys (D : Type 0) : Type 0 where
 abbrev pub number_from_to : ℕ → ℕ → ℤ → Option ℕ
 number_from_to low high (negsuc n) = None
 number_from_to low high (pos n) = if int_le (pos low) (pos n) && int_le (pos n) (pos high) then Some n else None
+
+-- the format of a number, 1 or 2
+abbrev pub format_numbered : ℕ → Format
+format_numbered number = if number == 1 then Near else Far
 
 -- a speed, and a gradient
 abbrev pub speed_in : ℤ → Option ℕ
@@ -231,14 +238,14 @@ module _ {D : Type 0} (document : Document D) where
   -- what the top table's own keys tell
   abbrev pub keys_at : FileEntry D → Result (TopKeys D) FileFault
   keys_at top = do
-    required document.as_number (number_from_to 1 1) top FormatKey
+    format ← required document.as_number (number_from_to 1 2) top FormatKey
     speed_steps ← optional document.as_number (number_from_to 1 MOST_STEPS) MOST_STEPS top SpeedSteps
     grade_steps ← optional document.as_number (number_from_to 1 MOST_STEPS) MOST_STEPS top GradeSteps
     sections ← list_at top SectionKey
     links ← list_at top LinkKey
     groups ← list_at top GroupKey
     routes ← list_at top RouteKey
-    Ok (record { speed_steps = speed_steps; grade_steps = grade_steps; sections = sections; links = links; groups = groups; routes = routes })
+    Ok (record { format = format_numbered format; speed_steps = speed_steps; grade_steps = grade_steps; sections = sections; links = links; groups = groups; routes = routes })
 
   -- the parts that the top table tells: its own keys first, then the tables in order
   abbrev pub parts_at : FileEntry D → Result Parts FileFault
@@ -249,7 +256,7 @@ module _ {D : Type 0} (document : Document D) where
     links ← entries_at link_at LinkTable top LinkKey keys.links
     groups ← entries_at group_at GroupTable top GroupKey keys.groups
     routes ← entries_at route_at RouteTable top RouteKey keys.routes
-    Ok (record { speed_steps = keys.speed_steps; grade_steps = keys.grade_steps; sections = sections; links = links; groups = groups; routes = routes })
+    Ok (record { format = keys.format; speed_steps = keys.speed_steps; grade_steps = keys.grade_steps; sections = sections; links = links; groups = groups; routes = routes })
 
   -- the track that a file tells, or its first fault: those of its tables, and then those of the track
   abbrev pub track_at : List (List ℕ × D) → Result Track FileFault

@@ -4,7 +4,7 @@ use Rattle.std.specs.Option.{unwrap_or}
 use Rattle.rbc_model.specs.declared.places.Direction.{Direction}
 use Rattle.rbc_model.specs.declared.places.Leg.{Leg}
 use Rattle.rbc_model.specs.GroupNames.{GroupName}
-use Rattle.rbc_model.specs.declared.places.Format.TheVariants.{Near}
+use Rattle.rbc_model.specs.declared.places.Format.{Format}
 use Rattle.rbc_model.specs.declared.tracks.Link.{Link}
 use Rattle.rbc_model.specs.declared.tracks.BaliseGroup.{BaliseGroup}
 use Rattle.rbc_model.specs.declared.tracks.TrackRefusal.{TrackRefusal}
@@ -31,8 +31,9 @@ pub record RoutePart : Type 0 where
   pub after : Option LegName
   pub legs : List LegName
 
--- all parts, and the greatest number of steps that a profile of speeds and one of gradients may have
+-- the format, the greatest number of steps that a profile of speeds and one of gradients may have, and all parts
 pub record Parts : Type 0 where
+  pub format : Format
   pub speed_steps : ℕ
   pub grade_steps : ℕ
   pub sections : List Section
@@ -60,7 +61,7 @@ module _ (sections : List Section) where
 -- the parts with their sections by number
 abbrev pub resolved : Parts → Track
 resolved parts = record {
-  format = Near;
+  format = parts.format;
   speed_steps = parts.speed_steps;
   grade_steps = parts.grade_steps;
   sections = parts.sections;

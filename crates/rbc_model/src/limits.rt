@@ -21,6 +21,16 @@ pub const SHORTEST_RUN: u32 = 25;
 /// How many metres from its balise group an authority may end where the message counts in metres (Q_SCALE 1).
 pub const FARTHEST_END: u32 = 32_000;
 
+/// The first end of an authority beyond [`FARTHEST_END`], in metres from its balise group: from there on the message counts
+/// in tens of metres (Q_SCALE 2).
+pub const FIRST_END_IN_TENS: u32 = 32_010;
+
+/// How many metres from its balise group an authority may end where the message counts in tens of metres.
+pub const FARTHEST_END_IN_TENS: u32 = 80_000;
+
+/// How many metres such a message counts as one.
+pub const TEN_METRES: u32 = 10;
+
 /// The greatest country or region of a balise group (NID_C).
 pub const LAST_COUNTRY: u16 = 1_023;
 

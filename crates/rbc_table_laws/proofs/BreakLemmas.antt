@@ -15,17 +15,17 @@ use Rattle.rbc_table_laws.proofs.ChainLemmas.{AreBreaksInUnits, zero_split, all_
 -- ---- multiples of the unit
 
 module _ (unit : ℕ) (some : 0 < unit) where
-  down_below : (s : ℕ) → rounded_down unit s ≤ s
+  pub down_below : (s : ℕ) → rounded_down unit s ≤ s
   down_below s = let whole = div-add-mod' s unit in omega arith
 
-  up_above : (s : ℕ) → s ≤ rounded_up unit s
+  pub up_above : (s : ℕ) → s ≤ rounded_up unit s
   up_above s =
       let whole = div-add-mod' (s + (unit - 1)) unit in
       let part = mod-lt (s + (unit - 1)) some in
       omega arith
 
   -- what is rounded down below a multiple is below it
-  above_down : (s x : ℕ) → x % unit ≡ 0 → rounded_down unit s < x → s < x
+  pub above_down : (s x : ℕ) → x % unit ≡ 0 → rounded_down unit s < x → s < x
   above_down s x e h =
       let whole = div-add-mod' x unit in
       let mine = div-add-mod' s unit in
@@ -37,7 +37,7 @@ module _ (unit : ℕ) (some : 0 < unit) where
       omega arith
 
   -- what is rounded up above a multiple is above it
-  below_up : (s x : ℕ) → x % unit ≡ 0 → x < rounded_up unit s → x < s
+  pub below_up : (s x : ℕ) → x % unit ≡ 0 → x < rounded_up unit s → x < s
   below_up s x e h =
       let whole = div-add-mod' x unit in
       let mine = div-add-mod' (s + (unit - 1)) unit in
@@ -62,16 +62,16 @@ module _ (unit : ℕ) (some : 0 < unit) where
   keeps_both z n start starts has =
       keeps_with z (rounded_down unit start) (with_number (rounded_up unit start) (breaks_of unit n starts)) (keeps_with z (rounded_up unit start) (breaks_of unit n starts) has)
 
-  has_end : (n : ℕ) (starts : List ℕ) → Has n (breaks_of unit n starts)
+  pub has_end : (n : ℕ) (starts : List ℕ) → Has n (breaks_of unit n starts)
   has_end n [] = inl refl
   has_end n (start ∷ starts) = keeps_both n n start starts (has_end n starts)
 
-  has_down : (n s : ℕ) (starts : List ℕ) → Has s starts → Has (rounded_down unit s) (breaks_of unit n starts)
+  pub has_down : (n s : ℕ) (starts : List ℕ) → Has s starts → Has (rounded_down unit s) (breaks_of unit n starts)
   has_down n s [] has = absurd has
   has_down n s (start ∷ starts) (inl e) = rw e (has_with (rounded_down unit start) (with_number (rounded_up unit start) (breaks_of unit n starts)))
   has_down n s (start ∷ starts) (inr has) = keeps_both (rounded_down unit s) n start starts (has_down n s starts has)
 
-  has_up : (n s : ℕ) (starts : List ℕ) → Has s starts → Has (rounded_up unit s) (breaks_of unit n starts)
+  pub has_up : (n s : ℕ) (starts : List ℕ) → Has s starts → Has (rounded_up unit s) (breaks_of unit n starts)
   has_up n s [] has = absurd has
   has_up n s (start ∷ starts) (inl e) =
       rw e (keeps_with (rounded_up unit start) (rounded_down unit start) (with_number (rounded_up unit start) (breaks_of unit n starts)) (has_with (rounded_up unit start) (breaks_of unit n starts)))
@@ -93,7 +93,7 @@ module _ (unit : ℕ) (some : 0 < unit) where
         up_to_with n (rounded_down unit start) (with_number (rounded_up unit start) (breaks_of unit n starts)) (omega arith)
         (up_to_with n (rounded_up unit start) (breaks_of unit n starts) (up_inside start first) (breaks_inside starts a.1))
 
-    breaks_whole : (starts : List ℕ) → AreWhole unit (breaks_of unit n starts)
+    pub breaks_whole : (starts : List ℕ) → AreWhole unit (breaks_of unit n starts)
     breaks_whole [] = (whole, tt)
     breaks_whole (start ∷ starts) =
         whole_with unit (rounded_down unit start) (with_number (rounded_up unit start) (breaks_of unit n starts)) (mul-mod_left (start / unit) unit)
@@ -157,27 +157,27 @@ module _ {V : Type 0} (levels : Levels V) where
       omega arith
 
   module _ (lawful : IsLawful levels) (unit limit n : ℕ) (some : 0 < unit) (whole : n % unit ≡ 0) (runs : List (ℕ × V)) (track : IsTrackFunction levels n runs) where
-    some_breaks : 0 < length (breaks_of unit n (starts_of runs))
+    pub some_breaks : 0 < length (breaks_of unit n (starts_of runs))
     some_breaks = has_some n (breaks_of unit n (starts_of runs)) (has_end unit some n (starts_of runs))
 
     has_zero : (runs : List (ℕ × V)) → IsTrackFunction levels n runs → Has 0 (starts_of runs)
     has_zero [] track = let none = track.starts.rising in absurd (cc)
     has_zero (run ∷ runs) track = inl (sym (zero_split run.0 (starts_of runs) track.starts.rising).0)
 
-    first_is : get_or (breaks_of unit n (starts_of runs)) 0 0 ≡ 0
+    pub first_is : get_or (breaks_of unit n (starts_of runs)) 0 0 ≡ 0
     first_is =
         let low = has_first 0 (rounded_down unit 0) (breaks_of unit n (starts_of runs)) (breaks_rise unit some n (starts_of runs)) (has_down unit some n 0 (starts_of runs) (has_zero runs track)) in
         let zero_is = down_below unit some 0 in
         omega arith
 
-    last_is : get_or (breaks_of unit n (starts_of runs)) (length (breaks_of unit n (starts_of runs)) - 1) 0 ≡ n
+    pub last_is : get_or (breaks_of unit n (starts_of runs)) (length (breaks_of unit n (starts_of runs)) - 1) 0 ≡ n
     last_is =
         let count = some_breaks in
         let low = has_last 0 n (breaks_of unit n (starts_of runs)) (length (breaks_of unit n (starts_of runs)) - 1) (omega arith) (breaks_rise unit some n (starts_of runs)) (has_end unit some n (starts_of runs)) in
         let high = up_to_at n (breaks_of unit n (starts_of runs)) (length (breaks_of unit n (starts_of runs)) - 1) (omega arith) (breaks_inside unit some n whole (starts_of runs) track.starts.inside) in
         omega arith
 
-    at_most_end : (i : ℕ) → i < length (breaks_of unit n (starts_of runs)) → get_or (breaks_of unit n (starts_of runs)) i 0 ≤ n
+    pub at_most_end : (i : ℕ) → i < length (breaks_of unit n (starts_of runs)) → get_or (breaks_of unit n (starts_of runs)) i 0 ≤ n
     at_most_end i h = up_to_at n (breaks_of unit n (starts_of runs)) i h (breaks_inside unit some n whole (starts_of runs) track.starts.inside)
 
     pub break_whole : (i : ℕ) → i < stretch_count levels unit limit n runs → break_at levels unit limit n runs i % unit ≡ 0

@@ -19,6 +19,8 @@ pub mod FloorLemmas
 pub mod ReadOffLemmas
 pub mod TableLawLemmas
 pub mod TrackBreakLemmas
+pub mod WalkedBreakLemmas
 pub mod LowestValueLemmas
+pub mod StretchLemmas
 pub mod PriceRowLemmas
 pub mod LeastTableLemmas

@@ -1,5 +1,7 @@
 -- The laws of price tables, for each lawful kind of level.
+use Rattle.std.proofs.Common.{◌∙◌}
 use Rattle.rbc_model.specs.Levels.{Levels, IsLawful}
+use Rattle.rbc_model.specs.Profiles.{starts_of}
 use Rattle.rbc_table_laws.specs.TableLaws.{SoundTablesBound, GreatestTablesAreReached}
 use Rattle.rbc_table_laws.specs.Tracebacks.{ShortestAreAtBreaks, BestHaveFloors, ChosenAreOne, SearchesAreFound, TablesAreReadable, ReadOffAreChosen}
 use Rattle.rbc_table_laws.proofs.BoundLemmas.{price_at_most_loss, row_price_at_most_loss, best_of_price}
@@ -8,6 +10,9 @@ use Rattle.rbc_table_laws.proofs.TraceLemmas.{shortest_at_breaks, chosen_of_read
 use Rattle.rbc_table_laws.proofs.FloorLemmas.{best_has_floors, chosen_are_one}
 use Rattle.rbc_table_laws.proofs.SearchLemmas.{is_found}
 use Rattle.rbc_table_laws.proofs.ReadOffLemmas.{readable}
+use Rattle.rbc_table_laws.specs.Stretches.{BreaksAreWalked}
+use Rattle.rbc_table_laws.proofs.WalkedBreakLemmas.{are_breaks_for, are_walked}
+use Rattle.rbc_table_laws.proofs.TrackBreakLemmas.{breaks_are}
 
 module _ {V : Type 0} (levels : Levels V) (lawful : IsLawful levels) where
   pub sound_tables_bound : SoundTablesBound levels
@@ -43,3 +48,10 @@ module _ {V : Type 0} (levels : Levels V) (lawful : IsLawful levels) where
 
   pub read_off_are_chosen : ReadOffAreChosen levels
   read_off_are_chosen = λ unit limit n some whole runs track rows greatest steps read. chosen_of_read levels lawful unit limit n some whole runs track rows greatest steps read
+
+  pub breaks_walked : BreaksAreWalked levels
+  breaks_walked = λ unit some track whole function edges are. (
+    are_breaks_for levels lawful unit some track.end whole track.steps function,
+    are_walked levels lawful unit some track.end whole track.steps function edges
+        (are.are ∙ breaks_are track.end (starts_of track.steps) function.starts.rising function.starts.inside),
+  )

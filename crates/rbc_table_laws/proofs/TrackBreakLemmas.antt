@@ -46,7 +46,7 @@ breaks_from n start (next ∷ starts) rises inside =
     ∙ ap (λ rest. with_number start (with_number start rest)) later
     ∙ put_before start next (starts ++ n ∷ []) r.0
 
-breaks_are : (n : ℕ) (starts : List ℕ) → rises_from_zero starts ≡ true → list_all (λ s. nat_lt s n) starts ≡ true → breaks_of 1 n starts ≡ starts ++ n ∷ []
+pub breaks_are : (n : ℕ) (starts : List ℕ) → rises_from_zero starts ≡ true → list_all (λ s. nat_lt s n) starts ≡ true → breaks_of 1 n starts ≡ starts ++ n ∷ []
 breaks_are n [] rises inside = absurd (cc)
 breaks_are n (start ∷ starts) rises inside = breaks_from n start starts (zero_split start starts rises).1 inside
 

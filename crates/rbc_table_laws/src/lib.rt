@@ -4,6 +4,7 @@
 #![tactic(auto)]
 
 ghost use Rattle.rbc_model.specs.Levels.{speed_levels, grade_levels};
+ghost use Rattle.rbc_table_laws.specs.Stretches.{BreaksAreWalked};
 ghost use Rattle.rbc_table_laws.specs.TableLaws.{SoundTablesBound, GreatestTablesAreReached};
 ghost use Rattle.rbc_table_laws.specs.Tracebacks.{ShortestAreAtBreaks, BestHaveFloors, ChosenAreOne};
 ghost use Rattle.rbc_table_laws.specs.Tracebacks.{SearchesAreFound, TablesAreReadable, ReadOffAreChosen};
@@ -46,4 +47,10 @@ pub fn tables_are_computed()
     ensures grades_greatest { LeastPricesAreGreatest grade_levels }
     ensures speeds_chosen { StepsReadAreChosen speed_levels }
     ensures grades_chosen { StepsReadAreChosen grade_levels }
+{}
+
+/// How the breaks at multiples of a unit are walked from one to the next, by the run that lies there.
+pub fn breaks_are_walked()
+    ensures speeds { BreaksAreWalked speed_levels }
+    ensures grades { BreaksAreWalked grade_levels }
 {}

@@ -1,0 +1,161 @@
+-- Ends that a message can give, in either format, and the units of their profiles.
+use Rattle.std.proofs.Common.{◌≡◌, ℕ, ℤ, ◌%◌, ◌<◌, ◌≤◌, ◌^◌, Bool, true, false, ◌&&◌, ◌||◌, ◌⊎◌, inl, inr, List, [], ◌∷◌, Some, refl, ap, ap₂, ◌∙◌, arith, subst, nat_le, ◌==◌, if◌then◌else◌}
+use Rattle.std.proofs.lemmas.Bool.{leb-true, le-leb, eqb-true, eq-eqb}
+use Rattle.rbc_model.specs.declared.limits.TheConstants.{LAST_COUNTRY, LAST_GROUP, MOST_STEPS}
+use Rattle.rbc_model.specs.declared.places.Format.{Format}
+use Rattle.rbc_model.specs.declared.places.Format.TheVariants.{Near, Far}
+use Rattle.rbc_model.specs.GroupNames.{GroupName}
+use Rattle.rbc_model.specs.Levels.{Levels, speed_levels, grade_levels}
+use Rattle.rbc_model.specs.Profiles.{StepFunction, starts_of, are_multiples, IsProfile}
+use Rattle.rbc_model.specs.Results.{is_from_to}
+use Rattle.rbc_model.specs.Scales.{farthest, is_expressible, is_in_tens, unit_of}
+use Rattle.rbc_model.specs.Messages.{Authority, IsAuthority, is_writable, authority_of}
+use Rattle.rbc_model.proofs.CountingLemmas.{both_of}
+
+from_to : (low high v : ℕ) → is_from_to low high v ≡ true → (low ≤ v) × (v ≤ high)
+from_to low high v h = let b = both_of (nat_le low v) (nat_le v high) h in (leb-true low v b.0, leb-true v high b.1)
+
+either : (a b : Bool) → (a || b) ≡ true → (a ≡ true) ⊎ (b ≡ true)
+either true b h = inl refl
+either false b h = inr h
+
+both : (a b : Bool) → a ≡ true → b ≡ true → (a && b) ≡ true
+both a b h k = rw (h, k) refl
+
+-- ---- what each format can give
+
+-- the second format gives all that the first one does
+pub expressible_far : (format : Format) (v : ℕ) → is_expressible format v ≡ true → is_expressible Far v ≡ true
+expressible_far Near v h = rw h refl
+expressible_far Far v h = h
+
+record IsEnd (format : Format) (v : ℕ) : Type 0 where
+  some : 0 < v
+  near_enough : v ≤ farthest format
+  whole : v % unit_of v ≡ 0
+
+in_metres : (format : Format) (v : ℕ) → is_from_to 1 32000 v ≡ true → IsEnd format v
+in_metres format v h =
+    let r = from_to 1 32000 v h in
+    let low = r.0 in
+    record { some = omega arith; near_enough = inside format r.1; whole = rw (le-leb v 32000 r.1) (omega arith) }
+  where
+    inside : (format : Format) → v ≤ 32000 → v ≤ farthest format
+    inside Near k = k
+    inside Far k = omega arith
+
+above : (n high : ℕ) → high < n → nat_le n high ≡ false
+above n high h = grind arith
+
+in_tens : (v : ℕ) → is_in_tens v ≡ true → IsEnd Far v
+in_tens v h =
+    let b = both_of (is_from_to 32010 80000 v) (v % 10 == 0) h in
+    let r = from_to 32010 80000 v b.0 in
+    let low = r.0 in
+    record { some = omega arith; near_enough = r.1; whole = rw (above v 32000 (omega arith)) (eqb-true (v % 10) 0 b.1) }
+
+is_end : (format : Format) (v : ℕ) → is_expressible format v ≡ true → IsEnd format v
+is_end Near v h = in_metres Near v h
+is_end Far v h = elim (either (is_from_to 1 32000 v) (is_in_tens v) h) [ inl near ↦ in_metres Far v near | inr far ↦ in_tens v far ]
+
+pub expressible_some : (format : Format) (v : ℕ) → is_expressible format v ≡ true → 0 < v
+expressible_some format v h = (is_end format v h).some
+
+pub expressible_near_enough : (format : Format) (v : ℕ) → is_expressible format v ≡ true → v ≤ farthest format
+expressible_near_enough format v h = (is_end format v h).near_enough
+
+-- an end is a multiple of its unit
+pub expressible_whole : (format : Format) (v : ℕ) → is_expressible format v ≡ true → v % unit_of v ≡ 0
+expressible_whole format v h = (is_end format v h).whole
+
+-- ---- units
+
+pub one_or_ten : (end : ℕ) → (unit_of end ≡ 1) ⊎ (unit_of end ≡ 10)
+one_or_ten end = by_test (nat_le end 32000)
+  where
+    -- the unit, by the test
+    chosen : Bool → ℕ
+    chosen test = if test then 1 else 10
+
+    by_test : (test : Bool) → (chosen test ≡ 1) ⊎ (chosen test ≡ 10)
+    by_test true = inl refl
+    by_test false = inr refl
+
+pub some_unit : (end : ℕ) → 0 < unit_of end
+some_unit end = elim (one_or_ten end) [ inl e ↦ omega arith | inr e ↦ omega arith ]
+
+-- a profile in single metres whose cuts are multiples of the unit is one in units
+pub in_units_of : {V : Type 0} (levels : Levels V) (unit limit n : ℕ) (steps : List (ℕ × V)) → IsProfile levels 1 limit n steps → are_multiples unit (starts_of steps) ≡ true
+    → IsProfile levels unit limit n steps
+in_units_of levels unit limit n steps p whole = record { starts = p.starts; in_units = whole; few = p.few; values = p.values }
+
+-- one of few enough steps is one that a packet has room for
+pub roomy_profile : {V : Type 0} (levels : Levels V) (unit limit n : ℕ) (steps : List (ℕ × V)) → limit ≤ MOST_STEPS → IsProfile levels unit limit n steps → IsProfile levels unit MOST_STEPS n steps
+roomy_profile levels unit limit n steps h p = let few = p.few in record { starts = p.starts; in_units = p.in_units; few = omega arith; values = p.values }
+
+-- ---- up to 32,000 m all is as in format 1
+
+pub unit_in_metres : (end : ℕ) → end ≤ 32000 → unit_of end ≡ 1
+unit_in_metres end h = rw (le-leb end 32000 h) refl
+
+pub all_multiples_of_one : (numbers : List ℕ) → are_multiples 1 numbers ≡ true
+all_multiples_of_one [] = refl
+all_multiples_of_one (n ∷ ns) = rw (eq-eqb (n % 1) 0 (omega arith)) (all_multiples_of_one ns)
+
+far_in_metres : (v : ℕ) → v ≤ 32000 → (b : Bool) → is_from_to 1 32000 v ≡ b → (b || is_in_tens v) ≡ b
+far_in_metres v h true e = refl
+far_in_metres v h false e =
+    let low : nat_le 32010 v ≡ false = above 32010 v (omega arith) in
+    rw low refl
+
+-- a message can give such a profile just where it can give its end
+pub writable_in_metres : {V : Type 0} (profile : StepFunction V) → profile.end ≤ 32000 → is_writable profile ≡ is_expressible Near profile.end
+writable_in_metres profile h =
+    ap₂ (λ a b. a && b) (far_in_metres profile.end h (is_from_to 1 32000 profile.end) refl)
+    (ap (λ unit. are_multiples unit (starts_of profile.steps)) (unit_in_metres profile.end h) ∙ all_multiples_of_one (starts_of profile.steps))
+    ∙ and_true (is_from_to 1 32000 profile.end)
+  where
+    and_true : (b : Bool) → (b && true) ≡ b
+    and_true true = refl
+    and_true false = refl
+
+-- ---- authorities
+
+-- a message can give a profile with an end and cuts in units
+pub writable : {V : Type 0} (levels : Levels V) (limit : ℕ) (profile : StepFunction V) → is_expressible Far profile.end ≡ true → IsProfile levels (unit_of profile.end) limit profile.end profile.steps
+    → is_writable profile ≡ true
+writable levels limit profile end p = both (is_expressible Far profile.end) (are_multiples (unit_of profile.end) (starts_of profile.steps)) end p.in_units
+
+pub writable_said : {V : Type 0} (profile : StepFunction V) → is_writable profile ≡ true → (is_expressible Far profile.end ≡ true) × (are_multiples (unit_of profile.end) (starts_of profile.steps) ≡ true)
+writable_said profile h = both_of (is_expressible Far profile.end) (are_multiples (unit_of profile.end) (starts_of profile.steps)) h
+
+module _ (time : ℕ) (group : GroupName) (nominal : Bool) (speeds : StepFunction ℕ) (grades : StepFunction ℤ) where
+  -- the authority of these parts
+  abbrev parts : Authority
+  parts = record { time = time; group = group; nominal = nominal; end = speeds.end; speeds = speeds.steps; grades = grades.steps }
+
+  -- profiles with one end that a message can give make it
+  pub makes_authority : grades.end ≡ speeds.end → is_writable speeds ≡ true → is_writable grades ≡ true → authority_of time group nominal speeds grades ≡ Some parts
+  makes_authority ends s g = let same : (grades.end == speeds.end) ≡ true = eq-eqb grades.end speeds.end ends in rw (same, s, g) refl
+
+  -- and it is an authority
+  pub authority_made : time < 2 ^ 32 → group.country ≤ LAST_COUNTRY → group.number ≤ LAST_GROUP → grades.end ≡ speeds.end → is_writable speeds ≡ true → is_writable grades ≡ true
+      → IsProfile speed_levels 1 MOST_STEPS speeds.end speeds.steps → IsProfile grade_levels 1 MOST_STEPS grades.end grades.steps → IsAuthority Far parts
+  authority_made late country number ends s g fast steep =
+      let cuts = (writable_said grades g).1 in
+      record {
+        time = late;
+        country = country;
+        number = number;
+        end = (writable_said speeds s).0;
+        speeds = in_units_of speed_levels (unit_of speeds.end) MOST_STEPS speeds.end speeds.steps fast (writable_said speeds s).1;
+        grades = subst (λ end. IsProfile grade_levels (unit_of end) MOST_STEPS end grades.steps) ends (in_units_of grade_levels (unit_of grades.end) MOST_STEPS grades.end grades.steps steep cuts);
+      }
+
+-- an authority of either format is one of the second
+pub authority_far : (format : Format) (a : Authority) → IsAuthority format a → IsAuthority Far a
+authority_far format a is = record { time = is.time; country = is.country; number = is.number; end = expressible_far format a.end is.end; speeds = is.speeds; grades = is.grades }
+
+-- and one of the second, with an end that a format gives, is one of that format
+pub authority_of_format : (format : Format) (a : Authority) → IsAuthority Far a → is_expressible format a.end ≡ true → IsAuthority format a
+authority_of_format format a is end = record { time = is.time; country = is.country; number = is.number; end = end; speeds = is.speeds; grades = is.grades }
