@@ -1,4 +1,6 @@
 //! The generic crates at all three kinds of level.
+ghost use Rattle.std.specs.Prelude.{◌≡◌, ◌%◌, ◌==◌};
+ghost use Rattle.rbc_model.specs.Scales.{unit_of};
 
 mod kinds;
 mod metres;
@@ -6,6 +8,7 @@ mod metres;
 use crate::Power;
 use kinds::{Kind, level, rows_of, track_of};
 use rbc_model::limits::MOST_STEPS;
+use rbc_model::scales::unit_of;
 use rbc_price::check;
 use rbc_reduce::{Reduced, reduce};
 use rbc_steps::{Grade, Level, Runs, Speed, one_spelling};
@@ -156,6 +159,14 @@ const POWERS: &[Reduction] = &[
     },
 ];
 
+/// Whether the track ends at a multiple of the unit in which a message counts its metres.
+fn is_whole<V: Kind>(track: &Runs<V>) -> bool
+    ensures { result ≡ track.now.end % unit_of track.now.end == 0 }
+{
+    let end = track.end();
+    end % unit_of(end) == 0
+}
+
 /// Reduces the track of the numbers, and checks the table that shows that no profile loses less.
 fn reduced<V: Kind>(
     rt: &(impl Abort + AllocGlobal + Threads + Sync),
@@ -165,6 +176,7 @@ fn reduced<V: Kind>(
 ) -> Reduced<V> {
     assert!(rt; 1 <= limit && limit <= MOST_STEPS);
     let track = track_of(rt, runs, end);
+    assert!(rt; is_whole(&track));
     let reduced = reduce(rt, rt.alloc(), &track, limit).expect(rt, "memory");
     assert!(rt; check(&track, limit, &reduced.profile, &reduced.prices) == Ok(()));
     reduced
@@ -197,6 +209,32 @@ fn tracks_are_reduced(rt: HostRuntime) {
     }
 }
 
+/// A message counts an end behind 32,000 m in tens, so cuts are at tens: a fall begins where it does or before, and a
+/// rise where it does or behind.
+#[test]
+fn long_tracks_are_cut_at_tens(rt: HostRuntime) {
+    const CASES: &[Reduction] = &[
+        Reduction {
+            limit: 2,
+            runs: &[(0, 160), (10_003, 120)],
+            end: 40_000,
+            steps: &[(0, 160), (10_000, 120)],
+            loss: 120,
+        },
+        Reduction {
+            limit: 2,
+            runs: &[(0, 120), (10_003, 160)],
+            end: 40_000,
+            steps: &[(0, 120), (10_010, 160)],
+            loss: 280,
+        },
+    ];
+    for case in CASES {
+        let speeds: Reduced<Speed> = reduced(&rt, case.runs, case.end, case.limit);
+        compare(&rt, &speeds, case);
+    }
+}
+
 /// Single metres, level and rising in turn, in rows that are long enough for threads. Two steps keep the last metre
 /// alone.
 #[test]
@@ -219,6 +257,7 @@ fn memory_or_the_answer(rt: HostRuntime) {
         let _ = rows.push((start, level::<Speed>(&rt, kmh)));
     }
     if let Ok(track) = Runs::new(rows, 300) {
+        assert!(rt; is_whole(&track));
         if let Ok(reduced) = reduce(&rt, rt.alloc(), &track, 2) {
             assert!(rt; check(&track, 2, &reduced.profile, &reduced.prices) == Ok(()));
         }

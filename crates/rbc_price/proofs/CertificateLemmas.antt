@@ -11,9 +11,11 @@ use Rattle.rbc_model.specs.Levels.{Levels, IsLawful}
 use Rattle.rbc_model.specs.Profiles.{StepFunction, value_at, is_within, IsStepList, IsProfile, IsTrackFunction, Fits, IsBestProfile}
 use Rattle.rbc_model.specs.PriceTables.{table_at, step_cost, break_at, IsSoundTable}
 use Rattle.rbc_model.specs.PriceChecks.{first_from, unless_some, above_at, first_above, columns, steps_of_use, too_high_at, starts_before, first_too_high, last_price, has_shape, lost, price_check, IsCertificate}
-use Rattle.rbc_model.proofs.CountingLemmas.{both_of}
 use Rattle.rbc_table_laws.proofs.TableLawLemmas.{sound_tables_bound}
+use Rattle.rbc_model.specs.Scales.{unit_of}
+use Rattle.rbc_price.proofs.ColumnLemmas.{some_unit}
 use Rattle.rbc_price.proofs.SearchLemmas.{first_from-none, none_at, or_none, test_of_none}
+use Rattle.rbc_price.proofs.ShapeLemmas.{IsShaped, shaped, has_shape_of}
 
 no_steps : (rows : List (List ℕ)) (i : ℕ) → table_at rows 0 i ≡ 0
 no_steps rows zero = refl
@@ -40,10 +42,6 @@ no_reason (Some reason) e = absurd (cc)
 refused : (reason : Reason) (found : Option Reason) (rest : Result (Unit {0}) Reason) → Err reason ≡ unless_some found → Err reason ≡ unless_some found >> rest
 refused reason None rest e = absurd (cc)
 refused reason (Some found) rest e = e
-
-both : (a b : Bool) → a ≡ true → b ≡ true → (a && b) ≡ true
-both true b e f = f
-both false b e f = e
 
 -- the tests of a check, by what each says
 module _ (shape : Bool) (above high : Option Reason) (attained steps : Bool) where
@@ -81,20 +79,20 @@ module _ {V : Type 0} (levels : Levels V) (limit : ℕ) (track profile : StepFun
   -- ---- no reason: a certificate
 
   prices_are_low : 1 ≤ limit → length rows ≡ steps_of_use levels limit track rows → IsTrue (list_all (λ row. length row == columns levels limit track rows) rows)
-      → first_too_high levels limit track rows ≡ None → IsSoundTable levels 1 limit track.end track.steps rows
+      → first_too_high levels limit track rows ≡ None → IsSoundTable levels (unit_of track.end) limit track.end track.steps rows
   prices_are_low some shape widths none = record { shape = shape; widths = widths; one_step = one_step; more_steps = more_steps }
     where
       low : (j i' i : ℕ) → j < steps_of_use levels limit track rows → 1 ≤ i' → i' ≤ columns levels limit track rows → i < starts_before levels limit track rows j i'
-          → table_at rows (suc j) i' ≤ table_at rows j i + step_cost levels 1 limit track.end track.steps i i'
+          → table_at rows (suc j) i' ≤ table_at rows j i + step_cost levels (unit_of track.end) limit track.end track.steps i i'
       low j i' i row from column start =
           let in_row = none_at 0 (steps_of_use levels limit track rows) (λ j. first_from 1 (columns levels limit track rows) (λ i'. first_from 0 (starts_before levels limit track rows j i') (too_high_at levels limit track rows j i'))) none j (omega arith) (omega arith) in
           let in_column = none_at 1 (columns levels limit track rows) (λ i'. first_from 0 (starts_before levels limit track rows j i') (too_high_at levels limit track rows j i')) in_row i' from (omega arith) in
           let here = none_at 0 (starts_before levels limit track rows j i') (too_high_at levels limit track rows j i') in_column i (omega arith) (omega arith) in
-          leb-true (table_at rows (suc j) i') (table_at rows j i + step_cost levels 1 limit track.end track.steps i i')
-          (test_of_none (nat_le (table_at rows (suc j) i') (table_at rows j i + step_cost levels 1 limit track.end track.steps i i'))
-          (Inequality (suc j) (break_at levels 1 limit track.end track.steps i) (break_at levels 1 limit track.end track.steps i')) here)
+          leb-true (table_at rows (suc j) i') (table_at rows j i + step_cost levels (unit_of track.end) limit track.end track.steps i i')
+          (test_of_none (nat_le (table_at rows (suc j) i') (table_at rows j i + step_cost levels (unit_of track.end) limit track.end track.steps i i'))
+          (Inequality (suc j) (break_at levels (unit_of track.end) limit track.end track.steps i) (break_at levels (unit_of track.end) limit track.end track.steps i')) here)
 
-      one_step : (i : ℕ) → i ≤ columns levels limit track rows → table_at rows 1 i ≤ step_cost levels 1 limit track.end track.steps 0 i
+      one_step : (i : ℕ) → i ≤ columns levels limit track rows → table_at rows 1 i ≤ step_cost levels (unit_of track.end) limit track.end track.steps 0 i
       one_step zero column = omega arith
       one_step (suc i) column =
           let here = low 0 (suc i) 0 (omega arith) (omega arith) column (omega arith) in
@@ -102,14 +100,14 @@ module _ {V : Type 0} (levels : Levels V) (limit : ℕ) (track profile : StepFun
           omega arith
 
       more_steps : (j i i' : ℕ) → 1 ≤ j → j < steps_of_use levels limit track rows → i < i' → i' ≤ columns levels limit track rows
-          → table_at rows (suc j) i' ≤ table_at rows j i + step_cost levels 1 limit track.end track.steps i i'
+          → table_at rows (suc j) i' ≤ table_at rows j i + step_cost levels (unit_of track.end) limit track.end track.steps i i'
       more_steps zero i i' first row on column = absurd (omega arith)
       more_steps (suc j) i i' first row on column = low (suc j) i' i row (omega arith) column on
 
-  profile_fits : IsProfile levels 1 MOST_STEPS profile.end profile.steps → track.end ≡ profile.end → length profile.steps ≤ limit → first_above levels track profile ≡ None
-      → Fits levels 1 limit track.end (value_at track.steps) profile.steps
-  profile_fits is end few none = record {
-    profile = record { starts = subst (λ n. IsStepList n profile.steps) (sym end) is.starts; in_units = is.in_units; few = few; values = is.values };
+  profile_fits : IsProfile levels 1 MOST_STEPS profile.end profile.steps → IsShaped levels limit track profile rows → length profile.steps ≤ limit → first_above levels track profile ≡ None
+      → Fits levels (unit_of track.end) limit track.end (value_at track.steps) profile.steps
+  profile_fits is s few none = record {
+    profile = record { starts = subst (λ n. IsStepList n profile.steps) (sym s.end) is.starts; in_units = s.in_units; few = few; values = is.values };
     below = λ x h. test_of_none (is_within levels (value_at track.steps x) (value_at profile.steps x)) (Above x)
         (none_at 0 track.end (above_at levels track profile) none x (omega arith) (omega arith));
   }
@@ -121,18 +119,14 @@ module _ {V : Type 0} (levels : Levels V) (limit : ℕ) (track profile : StepFun
       let high = passed (first_too_high levels limit track rows) _ above.1 in
       let attained = demanded (lost levels limit track profile rows == last_price levels limit track rows) NotAttained _ high.1 in
       let steps = last_demanded (nat_le (length profile.steps) limit) Steps attained.1 in
-      let counts = both_of (is_from_to 1 MOST_STEPS limit && (track.end == profile.end) && (length rows == steps_of_use levels limit track rows)) (list_all (λ row. length row == columns levels limit track rows) rows) shape.0 in
-      let ends = both_of (is_from_to 1 MOST_STEPS limit && (track.end == profile.end)) (length rows == steps_of_use levels limit track rows) counts.0 in
-      let range = both_of (is_from_to 1 MOST_STEPS limit) (track.end == profile.end) ends.0 in
-      let limits = both_of (nat_le 1 limit) (nat_le limit MOST_STEPS) range.0 in
-      let some = leb-true 1 limit limits.0 in
-      let end = eqb-true track.end profile.end range.1 in
+      let s = shaped levels limit track profile rows shape.0 in
       record {
-        some = some;
-        few = leb-true limit MOST_STEPS limits.1;
-        end = end;
-        fits = profile_fits is end (leb-true (length profile.steps) limit steps) above.0;
-        sound = prices_are_low some (eqb-true (length rows) (steps_of_use levels limit track rows) ends.1) counts.1 high.0;
+        some = s.some;
+        few = s.few;
+        end = s.end;
+        whole = s.whole;
+        fits = profile_fits is s (leb-true (length profile.steps) limit steps) above.0;
+        sound = prices_are_low s.some s.count s.wide high.0;
         attained = eqb-true (lost levels limit track profile rows) (last_price levels limit track rows) attained.0;
       }
 
@@ -145,15 +139,15 @@ module _ {V : Type 0} (levels : Levels V) (limit : ℕ) (track profile : StepFun
         let first : i ≡ 0 = omega arith in
         let sound = c.sound.one_step i' column in
         let none : table_at rows 0 i ≡ 0 = no_steps rows i in
-        let same : step_cost levels 1 limit track.end track.steps i i' ≡ step_cost levels 1 limit track.end track.steps 0 i' = ap (λ k. step_cost levels 1 limit track.end track.steps k i') first in
-        or_none (nat_le (table_at rows 1 i') (table_at rows 0 i + step_cost levels 1 limit track.end track.steps i i'))
-        (Inequality 1 (break_at levels 1 limit track.end track.steps i) (break_at levels 1 limit track.end track.steps i'))
-        (le-leb (table_at rows 1 i') (table_at rows 0 i + step_cost levels 1 limit track.end track.steps i i') (omega arith))
+        let same : step_cost levels (unit_of track.end) limit track.end track.steps i i' ≡ step_cost levels (unit_of track.end) limit track.end track.steps 0 i' = ap (λ k. step_cost levels (unit_of track.end) limit track.end track.steps k i') first in
+        or_none (nat_le (table_at rows 1 i') (table_at rows 0 i + step_cost levels (unit_of track.end) limit track.end track.steps i i'))
+        (Inequality 1 (break_at levels (unit_of track.end) limit track.end track.steps i) (break_at levels (unit_of track.end) limit track.end track.steps i'))
+        (le-leb (table_at rows 1 i') (table_at rows 0 i + step_cost levels (unit_of track.end) limit track.end track.steps i i') (omega arith))
     low_at (suc j) i' i row from column start =
         let sound = c.sound.more_steps (suc j) i i' (omega arith) row start column in
-        or_none (nat_le (table_at rows (suc (suc j)) i') (table_at rows (suc j) i + step_cost levels 1 limit track.end track.steps i i'))
-        (Inequality (suc (suc j)) (break_at levels 1 limit track.end track.steps i) (break_at levels 1 limit track.end track.steps i'))
-        (le-leb (table_at rows (suc (suc j)) i') (table_at rows (suc j) i + step_cost levels 1 limit track.end track.steps i i') sound)
+        or_none (nat_le (table_at rows (suc (suc j)) i') (table_at rows (suc j) i + step_cost levels (unit_of track.end) limit track.end track.steps i i'))
+        (Inequality (suc (suc j)) (break_at levels (unit_of track.end) limit track.end track.steps i) (break_at levels (unit_of track.end) limit track.end track.steps i'))
+        (le-leb (table_at rows (suc (suc j)) i') (table_at rows (suc j) i + step_cost levels (unit_of track.end) limit track.end track.steps i i') sound)
 
     none_high : first_too_high levels limit track rows ≡ None
     none_high =
@@ -167,18 +161,23 @@ module _ {V : Type 0} (levels : Levels V) (limit : ℕ) (track profile : StepFun
 
     pub check_of_certificate : price_check levels limit track profile rows ≡ Ok tt
     check_of_certificate =
-        let limits = both (nat_le 1 limit) (nat_le limit MOST_STEPS) (le-leb 1 limit c.some) (le-leb limit MOST_STEPS c.few) in
-        let ends = both (is_from_to 1 MOST_STEPS limit) (track.end == profile.end) limits (eq-eqb track.end profile.end c.end) in
-        let counts = both (is_from_to 1 MOST_STEPS limit && (track.end == profile.end)) (length rows == steps_of_use levels limit track rows) ends (eq-eqb (length rows) (steps_of_use levels limit track rows) c.sound.shape) in
-        let shape = both (is_from_to 1 MOST_STEPS limit && (track.end == profile.end) && (length rows == steps_of_use levels limit track rows)) (list_all (λ row. length row == columns levels limit track rows) rows) counts c.sound.widths in
+        let shape = has_shape_of levels limit track profile rows (record {
+          some = c.some;
+          few = c.few;
+          end = c.end;
+          whole = c.whole;
+          in_units = c.fits.profile.in_units;
+          count = c.sound.shape;
+          wide = c.sound.widths;
+        }) in
         sym (all_pass (has_shape levels limit track profile rows) (first_above levels track profile) (first_too_high levels limit track rows) (lost levels limit track profile rows == last_price levels limit track rows) (nat_le (length profile.steps) limit)
         shape (ap unless_some (sym none_above)) (ap unless_some (sym none_high))
         (eq-eqb (lost levels limit track profile rows) (last_price levels limit track rows) c.attained) (le-leb (length profile.steps) limit c.fits.profile.few))
 
     -- and the profile is best
-    pub best_of_certificate : IsLawful levels → IsTrackFunction levels track.end track.steps → IsBestProfile levels 1 limit track.end (value_at track.steps) profile.steps
+    pub best_of_certificate : IsLawful levels → IsTrackFunction levels track.end track.steps → IsBestProfile levels (unit_of track.end) limit track.end (value_at track.steps) profile.steps
     best_of_certificate lawful function =
-        (sound_tables_bound levels lawful 1 limit track.end (omega arith) (omega arith) track.steps function rows c.sound).best profile.steps c.fits c.attained
+        (sound_tables_bound levels lawful (unit_of track.end) limit track.end (some_unit track.end) c.whole track.steps function rows c.sound).best profile.steps c.fits c.attained
 
   -- what a check that gives this verdict shows
   pub certified_of : (verdict : Result (Unit {0}) Reason) → verdict ≡ price_check levels limit track profile rows

@@ -1,7 +1,9 @@
-pub mod LowestRunLemmas
+pub mod CertificateLemmas
+pub mod ColumnLemmas
 pub mod CostLemmas
-pub mod TableLemmas
+pub mod LowestStretchLemmas
 pub mod MetreLemmas
 pub mod PlaceLemmas
 pub mod SearchLemmas
-pub mod CertificateLemmas
+pub mod ShapeLemmas
+pub mod TableLemmas

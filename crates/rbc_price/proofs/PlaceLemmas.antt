@@ -4,7 +4,9 @@ use Rattle.std.proofs.lemmas.Bool.Decides.{nat_tests}
 use Rattle.rbc_model.specs.Levels.{Levels}
 use Rattle.rbc_model.specs.Profiles.{StepFunction}
 use Rattle.rbc_model.specs.PriceTables.{table_at}
-use Rattle.rbc_table_laws.specs.Breaks.{cost_between}
+use Rattle.rbc_model.specs.Scales.{unit_of}
+use Rattle.rbc_table_laws.specs.Stretches.{cost_of_step}
+use Rattle.rbc_price.specs.Columns.{stretches_of}
 use Rattle.rbc_price.specs.declared.places.Place.{Place}
 use Rattle.rbc_price.specs.Places.{IsDearer, IsFirstRow, IsFirst, comes_before, earlier}
 
@@ -25,7 +27,7 @@ below_or_not a b = grind arith
 
 module _ {V : Type 0} (levels : Levels V) (track : StepFunction V) (rows : List (List ℕ)) where
   -- of fewer pairs
-  pub first_of_fewer : (Judged Fewer : ℕ → ℕ → Type 0) (first : Option Place) → ((from to : ℕ) → from < to → to ≤ length track.steps → Fewer from to → Judged from to)
+  pub first_of_fewer : (Judged Fewer : ℕ → ℕ → Type 0) (first : Option Place) → ((from to : ℕ) → from < to → to ≤ stretches_of track → Fewer from to → Judged from to)
       → IsFirst levels track rows Judged first → IsFirst levels track rows Fewer first
   first_of_fewer Judged Fewer None of f = λ other judged high. f other (of other.from other.to high.on high.column judged) high
   first_of_fewer Judged Fewer (Some place) of f = (f.0, λ other judged high. f.1 other (of other.from other.to high.on high.column judged) high)
@@ -34,7 +36,7 @@ module _ {V : Type 0} (levels : Levels V) (track : StepFunction V) (rows : List 
   pub first_of_none : (Judged : ℕ → ℕ → Type 0) → ((from to : ℕ) → Judged from to → ⊥) → IsFirst levels track rows Judged None
   first_of_none Judged none = λ other judged. absurd (none other.from other.to judged)
 
-  earlier_of : (One Other Both : ℕ → ℕ → Type 0) (a b : Place) (test : Bool) → comes_before b a ≡ test → ((from to : ℕ) → from < to → to ≤ length track.steps → Both from to → One from to ⊎ Other from to)
+  earlier_of : (One Other Both : ℕ → ℕ → Type 0) (a b : Place) (test : Bool) → comes_before b a ≡ test → ((from to : ℕ) → from < to → to ≤ stretches_of track → Both from to → One from to ⊎ Other from to)
       → IsFirst levels track rows One (Some a) → IsFirst levels track rows Other (Some b) → IsFirst levels track rows Both (Some (if test then b else a))
   earlier_of One Other Both a b true e of f g = (
     g.0,
@@ -52,7 +54,7 @@ module _ {V : Type 0} (levels : Levels V) (track : StepFunction V) (rows : List 
   )
 
   -- of the pairs of both
-  pub first_of_both : (One Other Both : ℕ → ℕ → Type 0) (a b : Option Place) → ((from to : ℕ) → from < to → to ≤ length track.steps → Both from to → One from to ⊎ Other from to)
+  pub first_of_both : (One Other Both : ℕ → ℕ → Type 0) (a b : Option Place) → ((from to : ℕ) → from < to → to ≤ stretches_of track → Both from to → One from to ⊎ Other from to)
       → IsFirst levels track rows One a → IsFirst levels track rows Other b → IsFirst levels track rows Both (earlier a b)
   first_of_both One Other Both None None of f g =
       λ other judged high. elim (of other.from other.to high.on high.column judged) [ inl one ↦ f other one high | inr two ↦ g other two high ]
@@ -68,17 +70,17 @@ module _ {V : Type 0} (levels : Levels V) (track : StepFunction V) (rows : List 
   abbrev pub Pair : ℕ → ℕ → ℕ → ℕ → Type 0
   Pair from to f t = (f ≡ from) × (t ≡ to)
 
-  dearer_here : (other : Place) (from to cost : ℕ) → other.from ≡ from → other.to ≡ to → cost ≡ cost_between levels track from to
-      → IsDearer rows (cost_between levels track other.from other.to) other → IsDearer rows cost (record { row = other.row; from = from; to = to })
+  dearer_here : (other : Place) (from to cost : ℕ) → other.from ≡ from → other.to ≡ to → cost ≡ cost_of_step levels (unit_of track.end) track from to
+      → IsDearer rows (cost_of_step levels (unit_of track.end) track other.from other.to) other → IsDearer rows cost (record { row = other.row; from = from; to = to })
   dearer_here other from to cost e f is d =
       let above = d.above in
       let before : table_at rows other.row other.from ≡ table_at rows other.row from = ap (table_at rows other.row) e in
       let price : table_at rows (suc other.row) other.to ≡ table_at rows (suc other.row) to = ap (table_at rows (suc other.row)) f in
-      let cost_is : cost_between levels track other.from other.to ≡ cost_between levels track from to =
-      ap (λ k. cost_between levels track k other.to) e ∙ ap (cost_between levels track from) f in
+      let cost_is : cost_of_step levels (unit_of track.end) track other.from other.to ≡ cost_of_step levels (unit_of track.end) track from to =
+      ap (λ k. cost_of_step levels (unit_of track.end) track k other.to) e ∙ ap (cost_of_step levels (unit_of track.end) track from) f in
       record { start = λ z. sym e ∙ d.start z; above = omega arith }
 
-  pub first_of_row : (from to cost : ℕ) (first : Option Place) → from < to → to ≤ length track.steps → cost ≡ cost_between levels track from to
+  pub first_of_row : (from to cost : ℕ) (first : Option Place) → from < to → to ≤ stretches_of track → cost ≡ cost_of_step levels (unit_of track.end) track from to
       → IsFirstRow rows from to cost first → IsFirst levels track rows (Pair from to) first
   first_of_row from to cost None on column is f =
       λ other judged high. f other.row high.inside (dearer_here other from to cost judged.0 judged.1 is high.dearer)
@@ -86,8 +88,8 @@ module _ {V : Type 0} (levels : Levels V) (track : StepFunction V) (rows : List 
       let there = f.0 in
       let up_to = f.1 in
       let above = f.3.above in
-      let cost_is : cost_between levels track place.from place.to ≡ cost_between levels track from to =
-      ap (λ k. cost_between levels track k place.to) there ∙ ap (cost_between levels track from) up_to in (
+      let cost_is : cost_of_step levels (unit_of track.end) track place.from place.to ≡ cost_of_step levels (unit_of track.end) track from to =
+      ap (λ k. cost_of_step levels (unit_of track.end) track k place.to) there ∙ ap (cost_of_step levels (unit_of track.end) track from) up_to in (
         record { inside = f.2; on = omega arith; column = omega arith; dearer = record { start = f.3.start; above = omega arith } },
         λ other judged high. elim (below_or_not other.row place.row) [
           | inl less ↦ absurd (f.4 other.row less (dearer_here other from to cost judged.0 judged.1 is high.dearer))

@@ -9,6 +9,8 @@ use Rattle.rbc_model.specs.Levels.{Levels}
 use Rattle.rbc_model.specs.Profiles.{StepFunction}
 use Rattle.rbc_model.specs.PriceTables.{table_at, break_at, step_cost}
 use Rattle.rbc_model.specs.PriceChecks.{first_from, columns, steps_of_use, too_high_at, starts_before, first_too_high, unless_some}
+use Rattle.rbc_model.specs.Scales.{unit_of}
+use Rattle.rbc_price.specs.Columns.{stretches_of}
 use Rattle.rbc_price.specs.declared.places.Place.{Place}
 use Rattle.rbc_price.specs.Places.{IsTooHigh, comes_before}
 
@@ -78,15 +80,15 @@ module _ {V : Type 0} (levels : Levels V) (limit : ℕ) (track : StepFunction V)
   -- the reason that a place is
   abbrev pub reason_at : Place → Reason
   reason_at place =
-      Inequality (suc place.row) (break_at levels 1 limit track.end track.steps place.from) (break_at levels 1 limit track.end track.steps place.to)
+      Inequality (suc place.row) (break_at levels (unit_of track.end) limit track.end track.steps place.from) (break_at levels (unit_of track.end) limit track.end track.steps place.to)
 
   -- the refusal that it is
-  pub refused_at : (place : Place) (row from to : ℕ) → row ≡ suc place.row → from ≡ break_at levels 1 limit track.end track.steps place.from
-      → to ≡ break_at levels 1 limit track.end track.steps place.to → first_too_high levels limit track rows ≡ Some (reason_at place)
+  pub refused_at : (place : Place) (row from to : ℕ) → row ≡ suc place.row → from ≡ break_at levels (unit_of track.end) limit track.end track.steps place.from
+      → to ≡ break_at levels (unit_of track.end) limit track.end track.steps place.to → first_too_high levels limit track rows ≡ Some (reason_at place)
       → Err (Inequality row from to) ≡ unless_some (first_too_high levels limit track rows)
   refused_at place row from to e f g found =
       ap (λ k. Err (Inequality k from to)) e ∙ ap (λ k. Err (Inequality (suc place.row) k to)) f
-      ∙ ap (λ k. Err (Inequality (suc place.row) (break_at levels 1 limit track.end track.steps place.from) k)) g ∙ ap unless_some (sym found)
+      ∙ ap (λ k. Err (Inequality (suc place.row) (break_at levels (unit_of track.end) limit track.end track.steps place.from) k)) g ∙ ap unless_some (sym found)
 
   starts_low : (j i i' : ℕ) → 1 ≤ i' → i < starts_before levels limit track rows j i' → (i < i') × (j ≡ 0 → i ≡ 0)
   starts_low zero i i' some h = (omega arith, λ e. omega arith)
@@ -99,28 +101,28 @@ module _ {V : Type 0} (levels : Levels V) (limit : ℕ) (track : StepFunction V)
   high_at : (place : Place) → IsTooHigh levels track rows place → too_high_at levels limit track rows place.row place.to place.from ≡ Some (reason_at place)
   high_at place high =
       let above = high.dearer.above in
-      or_some (nat_le (table_at rows (suc place.row) place.to) (table_at rows place.row place.from + step_cost levels 1 limit track.end track.steps place.from place.to)) (reason_at place)
-      (not_le (table_at rows (suc place.row) place.to) (table_at rows place.row place.from + step_cost levels 1 limit track.end track.steps place.from place.to) above)
+      or_some (nat_le (table_at rows (suc place.row) place.to) (table_at rows place.row place.from + step_cost levels (unit_of track.end) limit track.end track.steps place.from place.to)) (reason_at place)
+      (not_le (table_at rows (suc place.row) place.to) (table_at rows place.row place.from + step_cost levels (unit_of track.end) limit track.end track.steps place.from place.to) above)
 
-  low_at : (place : Place) → place.row < length rows → 1 ≤ place.to → place.to ≤ length track.steps
+  low_at : (place : Place) → place.row < length rows → 1 ≤ place.to → place.to ≤ stretches_of track
       → place.from < starts_before levels limit track rows place.row place.to → (IsTooHigh levels track rows place → ⊥)
       → too_high_at levels limit track rows place.row place.to place.from ≡ None
   low_at place row some column start low =
       let s = starts_low place.row place.from place.to some start in
-      or_none (nat_le (table_at rows (suc place.row) place.to) (table_at rows place.row place.from + step_cost levels 1 limit track.end track.steps place.from place.to)) (reason_at place)
-      (elim (more_or_not (table_at rows (suc place.row) place.to) (table_at rows place.row place.from + step_cost levels 1 limit track.end track.steps place.from place.to)) [
-        | inl h ↦ le-leb (table_at rows (suc place.row) place.to) (table_at rows place.row place.from + step_cost levels 1 limit track.end track.steps place.from place.to) h
+      or_none (nat_le (table_at rows (suc place.row) place.to) (table_at rows place.row place.from + step_cost levels (unit_of track.end) limit track.end track.steps place.from place.to)) (reason_at place)
+      (elim (more_or_not (table_at rows (suc place.row) place.to) (table_at rows place.row place.from + step_cost levels (unit_of track.end) limit track.end track.steps place.from place.to)) [
+        | inl h ↦ le-leb (table_at rows (suc place.row) place.to) (table_at rows place.row place.from + step_cost levels (unit_of track.end) limit track.end track.steps place.from place.to) h
         | inr h ↦ absurd (low (record { inside = row; on = s.0; column = column; dearer = record { start = s.1; above = h } }))
       ])
 
-  module _ (rows_are : length rows ≡ steps_of_use levels limit track rows) (columns_are : columns levels limit track rows ≡ length track.steps) where
+  module _ (rows_are : length rows ≡ steps_of_use levels limit track rows) where
     abbrev in_row : ℕ → ℕ → Option Reason
     in_row j i' = first_from 0 (starts_before levels limit track rows j i') (too_high_at levels limit track rows j i')
 
     abbrev in_rows : ℕ → Option Reason
     in_rows j = first_from 1 (columns levels limit track rows) (in_row j)
 
-    none_in : (j i' : ℕ) → j < length rows → 1 ≤ i' → i' ≤ length track.steps
+    none_in : (j i' : ℕ) → j < length rows → 1 ≤ i' → i' ≤ stretches_of track
         → ((i : ℕ) → IsTooHigh levels track rows (record { row = j; from = i; to = i' }) → ⊥) → in_row j i' ≡ None
     none_in j i' row some column low =
         first_from-none 0 (starts_before levels limit track rows j i') (too_high_at levels limit track rows j i')

@@ -1,3 +1,4 @@
+pub mod Columns
 pub mod Costs
 pub mod Metres
 pub mod Places

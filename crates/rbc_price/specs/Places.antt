@@ -3,7 +3,9 @@ use Rattle.std.specs.Prelude.{◌≡◌, ℕ, suc, ◌+◌, ◌<◌, ◌≤◌, 
 use Rattle.rbc_model.specs.Levels.{Levels}
 use Rattle.rbc_model.specs.Profiles.{StepFunction}
 use Rattle.rbc_model.specs.PriceTables.{table_at}
-use Rattle.rbc_table_laws.specs.Breaks.{cost_between}
+use Rattle.rbc_model.specs.Scales.{unit_of}
+use Rattle.rbc_table_laws.specs.Stretches.{cost_of_step}
+use Rattle.rbc_price.specs.Columns.{stretches_of}
 use Rattle.rbc_price.specs.declared.places.Place.{Place}
 
 -- by the row, then by the break that the step leads to, then by the one that it starts at
@@ -34,8 +36,8 @@ module _ {V : Type 0} (levels : Levels V) (track : StepFunction V) (rows : List 
   pub record IsTooHigh (place : Place) : Type 0 where
     pub inside : place.row < length rows
     pub on : place.from < place.to
-    pub column : place.to ≤ length track.steps
-    pub dearer : IsDearer rows (cost_between levels track place.from place.to) place
+    pub column : place.to ≤ stretches_of track
+    pub dearer : IsDearer rows (cost_of_step levels (unit_of track.end) track place.from place.to) place
 
   -- The price at this place is too high, and none before it is, of those between breaks that were judged; or none is.
   abbrev pub IsFirst : (ℕ → ℕ → Type 0) → Option Place → Type 0

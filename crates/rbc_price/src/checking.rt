@@ -3,16 +3,19 @@ ghost use Rattle.std.specs.Prelude.{◌≡◌, ◌↔◌, Ok, OnOk};
 ghost use Rattle.rbc_model.specs.declared.limits.TheConstants.{MOST_STEPS};
 ghost use Rattle.rbc_model.specs.Profiles.{IsBestProfile, IsProfile, IsTrackFunction, value_at};
 ghost use Rattle.rbc_model.specs.PriceChecks.{price_check, IsCertificate};
+ghost use Rattle.rbc_model.specs.Scales.{unit_of};
 ghost use Rattle.rbc_table_laws.specs.PriceRows.{prices_of};
 
 use crate::above::stays_below;
+use crate::columns::column_count;
 use crate::inequalities::has_no_high_price;
 use crate::shape::{has_shape, price_at};
 use rbc_model::Reason;
 use rbc_steps::{Level, Profile, Runs};
 
 /// A table of prices: a row for each number of steps from 1, and in it a price for each break of the track but the
-/// first: what so many steps lose at least up to there.
+/// first: what so many steps lose at least up to there. The breaks are where runs start and where the track ends; where it
+/// ends beyond 32,000 m each start gives two, rounded down and up to a multiple of ten.
 pub type Prices = Vec<Vec<u64>>;
 
 /// The first reason against the profile, test by test.
@@ -26,10 +29,10 @@ fn judge<V: Level>(
     ensures track { OnOk result (IsTrackFunction V.levels track.now.end track.now.steps) }
     ensures profile { OnOk result (IsProfile V.levels 1 MOST_STEPS profile.now.end profile.now.steps) }
 {
-    let columns = track.runs().len();
     if !has_shape(track, limit, profile, rows) {
         return Err(Reason::Shape);
     }
+    let columns = column_count(track);
     stays_below(track, profile)?;
     has_no_high_price(track, rows)?;
     if profile.loss(track) != price_at(rows, rows.len(), columns) {
@@ -44,12 +47,13 @@ fn judge<V: Level>(
 /// Whether the prices show that the profile is a best one for the track, of at most `limit` steps. It takes no memory.
 ///
 /// Where it answers Ok no profile of at most `limit` steps that is above the track at no metre loses less than this
-/// one, wherever it is cut.
+/// one, wherever it is cut: at any metre up to an end of 32,000 m, and at multiples of ten metres beyond.
 ///
 /// # Errors
 ///
-/// - `Shape`: `limit` is not 1 to 31, the two end at two metres, or there is not a row for each number of steps up to
-///   `limit` and up to the number of the track's runs, each with a price for each break but the first.
+/// - `Shape`: `limit` is not 1 to 31, the two end at two metres, they end beyond 32,000 m and the end or a start of the
+///   profile is no multiple of ten, or there is not a row for each number of steps up to `limit` and up to the number of
+///   the track's stretches from break to break, each with a price for each break but the first.
 /// - `Above`: the profile is above the track at this metre, the first such one.
 /// - `Inequality`: this price is too high, the first such one by row, then by break, then by the break before.
 /// - `NotAttained`: the profile does not lose what the last price of the last row says.
@@ -64,7 +68,7 @@ pub fn check<V: Level>(
     ensures certified { result ≡ Ok tt
         ↔ IsCertificate V.levels limit track.now profile.now (prices_of prices.now.items) }
     ensures best { OnOk result
-        (IsBestProfile V.levels 1 limit track.now.end (value_at track.now.steps) profile.now.steps) }
+        (IsBestProfile V.levels (unit_of track.now.end) limit track.now.end (value_at track.now.steps) profile.now.steps) }
 {
     judge(track, limit, profile, prices.as_slice())
 }

@@ -1,20 +1,24 @@
 //! Whether a price is too high: above one with one step less, and what that step costs.
 //!
-//! Each pair of breaks belongs to the run that is the lowest between them, the last one if there are several. What
-//! one step costs over such pairs is lost by the floor of that run, and grows run by run: so it is found once for each
-//! pair, at the price of one run more, and is compared in all rows.
-ghost use Rattle.std.specs.Prelude.{◌≡◌, ◌↔◌, ℕ, ◌+◌, ◌<◌, ◌≤◌, length, Some, IsTrue};
-ghost use Rattle.rbc_model.specs.Profiles.{IsTrackFunction};
+//! Each pair of breaks belongs to the stretch that is the lowest between them, the last one if there are several. What
+//! one step costs over such pairs is lost by the floor of that stretch, and grows stretch by stretch: so it is found
+//! once for each pair, at the price of one stretch more, and is compared in all rows.
+ghost use Rattle.std.specs.Prelude.{◌≡◌, ◌↔◌, ℕ, ◌%◌, ◌<◌, ◌≤◌, length, IsTrue};
+ghost use Rattle.rbc_model.specs.Scales.{unit_of};
 ghost use Rattle.rbc_model.specs.PriceChecks.{steps_of_use, first_too_high, unless_some};
 ghost use Rattle.rbc_table_laws.specs.PriceRows.{prices_of, AreWide, AreAsWideAs};
+ghost use Rattle.rbc_table_laws.specs.Breaks.{IsLowest};
+ghost use Rattle.rbc_price.specs.Columns.{IsColumn, stretches_of};
 ghost use Rattle.rbc_price.specs.Places.{IsDearer, IsFirst, IsFirstRow};
-ghost use Rattle.rbc_price.specs.Costs.{run_value, IsCostAt, IsLowestRun};
+ghost use Rattle.rbc_price.specs.Costs.{IsCostAt, IsLowestStretch};
 
-use crate::costs::{is_at_most, metre_of, price_on};
+use crate::columns::{Column, column_before, column_behind, first_column, metre_of};
+use crate::costs::is_at_most;
 use crate::places::{Place, earlier};
 use crate::shape::price_at;
 use rbc_model::Reason;
 use rbc_steps::{Level, Runs};
+use rbc_stretches::{least_on, price_on};
 
 /// Whether the price in this row up to the break `to` is above that of the row before, up to the break `from`, with
 /// so much for one step more. The first step starts at break 0.
@@ -44,75 +48,89 @@ fn first_row(rows: &[Vec<u64>], from: usize, to: usize, cost: u64) -> Option<Pla
     None
 }
 
-/// The first price that is too high for a step from this break, over whose metres the run `lowest` is the lowest one,
-/// and the last such one. Up to the break behind that run such a step costs so much.
+/// The first price that is too high for a step from this break, over whose metres the stretch of `lowest` is the lowest
+/// one, of this value, and the last such one. Up to the break behind that stretch such a step costs so much.
 fn first_from_break<V: Level>(
     track: &Runs<V>,
     rows: &[Vec<u64>],
-    lowest: usize,
-    from: usize,
+    from: Column,
+    lowest: Column,
+    level: V,
     cost: u64,
 ) -> Option<Place>
-    requires wide { AreWide (length track.now.steps) rows.now }
-    requires inside { lowest < length track.now.steps }
-    requires on { from ≤ lowest }
-    requires cost { (level : V) → run_value track.now lowest ≡ Some level
-        → IsCostAt V.levels track.now from (lowest + 1) level cost }
+    requires whole { track.now.end % unit_of track.now.end ≡ 0 }
+    requires wide { AreWide (stretches_of track.now) rows.now }
+    requires from { IsColumn track.now from }
+    requires lowest { IsColumn track.now lowest }
+    requires on { from.index ≤ lowest.index }
+    requires level { IsLowest V.levels track.now lowest.stretch.from lowest.stretch.to level }
+    requires cost { IsCostAt V.levels track.now from.stretch.from lowest.stretch.to level cost }
     ensures { IsFirst V.levels track.now (prices_of rows.now)
-        (λ f to. (f ≡ from) × IsLowestRun V.levels track.now f to lowest) result }
+        (λ f to. (f ≡ from.index) × IsLowestStretch V.levels track.now f to lowest.index) result }
 {
-    let runs = track.runs();
-    let level = runs[lowest].1;
+    let _end = track.end();
     let mut cost = cost;
-    let mut first = first_row(rows, from, lowest + 1, cost);
-    for index in lowest + 1..runs.len() {
-        if is_at_most(runs[index].1, level) {
+    let mut last = lowest;
+    let mut first = first_row(rows, from.index, lowest.index + 1, cost);
+    while let Some(next) = column_behind(track, last) {
+        if is_at_most(least_on(track, next.stretch), level) {
             return first;
         }
-        cost += price_on(track, index, level.floor());
-        first = earlier(first, first_row(rows, from, index + 1, cost));
+        cost += price_on(track, next.stretch, level.floor());
+        first = earlier(first, first_row(rows, from.index, next.index + 1, cost));
+        last = next;
     }
     first
 }
 
-/// The first price that is too high for a step over whose metres the run `lowest` is the lowest one, and the last
-/// such one.
-fn first_over<V: Level>(track: &Runs<V>, rows: &[Vec<u64>], lowest: usize) -> Option<Place>
-    requires wide { AreWide (length track.now.steps) rows.now }
-    requires inside { lowest < length track.now.steps }
+/// The first price that is too high for a step over whose metres the stretch of `lowest` is the lowest one, and the
+/// last such one.
+fn first_over<V: Level>(track: &Runs<V>, rows: &[Vec<u64>], lowest: Column) -> Option<Place>
+    requires whole { track.now.end % unit_of track.now.end ≡ 0 }
+    requires wide { AreWide (stretches_of track.now) rows.now }
+    requires lowest { IsColumn track.now lowest }
     ensures { IsFirst V.levels track.now (prices_of rows.now)
-        (λ from to. IsLowestRun V.levels track.now from to lowest) result }
+        (λ from to. IsLowestStretch V.levels track.now from to lowest.index) result }
 {
-    let runs = track.runs();
-    let level = runs[lowest].1;
-    let mut cost = price_on(track, lowest, level.floor());
-    let mut first = first_from_break(track, rows, lowest, lowest, cost);
-    for from in (0..lowest).rev() {
-        if !is_at_most(level, runs[from].1) {
+    let _end = track.end();
+    let level = least_on(track, lowest.stretch);
+    let mut cost = price_on(track, lowest.stretch, level.floor());
+    let mut from = lowest;
+    let mut first = first_from_break(track, rows, from, lowest, level, cost);
+    while let Some(before) = column_before(track, from) {
+        if !is_at_most(level, least_on(track, before.stretch)) {
             return first;
         }
-        cost += price_on(track, from, level.floor());
-        first = earlier(first, first_from_break(track, rows, lowest, from, cost));
+        cost += price_on(track, before.stretch, level.floor());
+        first = earlier(
+            first,
+            first_from_break(track, rows, before, lowest, level, cost),
+        );
+        from = before;
     }
     first
 }
 
 /// The first price that is too high.
 fn first_of_all<V: Level>(track: &Runs<V>, rows: &[Vec<u64>]) -> Option<Place>
-    requires wide { AreWide (length track.now.steps) rows.now }
-    ensures first { IsFirst V.levels track.now (prices_of rows.now) (λ from to. Unit {0}) result }
-    ensures track { IsTrackFunction V.levels track.now.end track.now.steps }
+    requires whole { track.now.end % unit_of track.now.end ≡ 0 }
+    requires wide { AreWide (stretches_of track.now) rows.now }
+    ensures { IsFirst V.levels track.now (prices_of rows.now) (λ from to. Unit {0}) result }
 {
-    let mut first = None;
-    for lowest in 0..track.runs().len() {
-        first = earlier(first, first_over(track, rows, lowest));
+    let _end = track.end();
+    let mut lowest = first_column(track);
+    let mut first = first_over(track, rows, lowest);
+    while let Some(next) = column_behind(track, lowest) {
+        first = earlier(first, first_over(track, rows, next));
+        lowest = next;
     }
     first
 }
 
 /// A refusal at the first price that is too high.
 pub(crate) fn has_no_high_price<V: Level>(track: &Runs<V>, rows: &[Vec<u64>]) -> Result<(), Reason>
-    requires wide { AreWide (length track.now.steps) rows.now }
+    requires whole { track.now.end % unit_of track.now.end ≡ 0 }
+    requires wide { AreWide (stretches_of track.now) rows.now }
     ensures { (limit : ℕ) → length rows.now ≡ steps_of_use V.levels limit track.now (prices_of rows.now)
         → result ≡ unless_some (first_too_high V.levels limit track.now (prices_of rows.now)) }
 {

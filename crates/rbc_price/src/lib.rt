@@ -7,10 +7,12 @@
 
 mod above;
 mod checking;
+mod columns;
 mod costs;
 mod inequalities;
 mod places;
 mod shape;
 
 pub use checking::{Prices, check};
+pub use columns::column_count;
 pub use rbc_model::Reason;

@@ -1,11 +1,14 @@
 //! The shape of a table, and its prices.
-ghost use Rattle.std.specs.Prelude.{◌≡◌, ℕ, ◌≤◌, length, ◌==◌};
+ghost use Rattle.std.specs.Prelude.{◌≡◌, ℕ, ◌<◌, ◌≤◌, length, ◌==◌};
 ghost use Rattle.std.specs.List.{list_all};
+ghost use Rattle.rbc_model.specs.Profiles.{are_multiples, starts_of};
 ghost use Rattle.rbc_model.specs.PriceTables.{table_at};
 ghost use Rattle.rbc_model.specs.PriceChecks.{has_shape};
 ghost use Rattle.rbc_table_laws.specs.PriceRows.{prices_of, AreAsWideAs};
 
+use crate::columns::column_count;
 use rbc_model::limits::MOST_STEPS;
+use rbc_model::scales::unit_of;
 use rbc_steps::{Level, Profile, Runs};
 
 /// Whether each row has so many prices.
@@ -20,7 +23,21 @@ fn are_wide(rows: &[Vec<u64>], width: usize) -> bool
     true
 }
 
-/// Whether the limit is one, the two have one end, and the rows and their prices are as many as they have to be.
+/// Whether each step starts at a multiple of the unit.
+fn are_in_units<V: Level>(profile: &Profile<V>, unit: u32) -> bool
+    requires { 0 < unit }
+    ensures { result ≡ are_multiples unit (starts_of profile.now.steps) }
+{
+    for step in profile.steps() {
+        if step.0 % unit != 0 {
+            return false;
+        }
+    }
+    true
+}
+
+/// Whether the limit is one, the two have one end, it and the profile's cuts are multiples of the unit, and the rows and
+/// their prices are as many as they have to be.
 pub(crate) fn has_shape<V: Level>(
     track: &Runs<V>,
     limit: usize,
@@ -29,11 +46,16 @@ pub(crate) fn has_shape<V: Level>(
 ) -> bool
     ensures { result ≡ has_shape V.levels limit track.now profile.now (prices_of rows.now) }
 {
-    let runs = track.runs().len();
-    if limit < 1 || limit > MOST_STEPS || track.end() != profile.end() {
+    let end = track.end();
+    if limit < 1 || limit > MOST_STEPS || end != profile.end() {
         return false;
     }
-    rows.len() == limit.min(runs) && are_wide(rows, runs)
+    let unit = unit_of(end);
+    if end % unit != 0 || !are_in_units(profile, unit) {
+        return false;
+    }
+    let columns = column_count(track);
+    rows.len() == limit.min(columns) && are_wide(rows, columns)
 }
 
 /// The price in the row of so many steps and in this column; nothing is lost by no steps, or up to break 0.

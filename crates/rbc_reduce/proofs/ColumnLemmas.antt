@@ -6,13 +6,12 @@ use Rattle.rbc_model.specs.declared.limits.TheConstants.{LONGEST_TRACK}
 use Rattle.rbc_model.specs.Levels.{Levels, IsLawful}
 use Rattle.rbc_model.specs.Profiles.{StepFunction, IsTrackFunction, value_at, price_at}
 use Rattle.rbc_model.specs.PriceTables.{cost}
-use Rattle.rbc_table_laws.specs.Breaks.{AreBreaks, cost_between}
+use Rattle.rbc_table_laws.specs.Stretches.{AreBreaksFor, breaks_for, cost_of_step}
 use Rattle.rbc_table_laws.proofs.SumLemmas.{sum_rises}
 use Rattle.rbc_table_laws.proofs.BreakLemmas.{covered_of}
 use Rattle.rbc_table_laws.proofs.LeastLemmas.{least_between, floor_given, cost_is, cost_lowest}
-use Rattle.rbc_table_laws.proofs.TrackBreakLemmas.{rises_to, up_to_end}
-use Rattle.rbc_table_laws.proofs.LowestValueLemmas.{cost_at}
-use Rattle.rbc_reduce.specs.Columns.{IsColumn}
+use Rattle.rbc_table_laws.proofs.StretchLemmas.{breaks_rise_to, breaks_to_end}
+use Rattle.rbc_reduce.specs.Columns.{IsColumn, stretches_in}
 use Rattle.rbc_reduce.proofs.RowLemmas.{take_small}
 
 module _ {V : Type 0} (levels : Levels V) (lawful : IsLawful levels) (track : StepFunction V) (function : IsTrackFunction levels track.end track.steps) where
@@ -28,31 +27,30 @@ module _ {V : Type 0} (levels : Levels V) (lawful : IsLawful levels) (track : St
       (record { in_range = given.in_range; expressible = given.expressible; under = λ x low high. given.under x (omega arith) high }) in
       omega arith
 
-  module _ (breaks : List ℕ) (are : AreBreaks track breaks) where
-    cost_falls : (i later to : ℕ) → i ≤ later → later < to → to ≤ length track.steps → cost_between levels track later to ≤ cost_between levels track i to
+  module _ (unit : ℕ) (are : AreBreaksFor unit track (breaks_for unit track)) where
+    cost_falls : (i later to : ℕ) → i ≤ later → later < to → to ≤ stretches_in unit track → cost_of_step levels unit track later to ≤ cost_of_step levels unit track i to
     cost_falls i later to h some inside =
-        let up = rises_to track breaks are i later h (omega arith) in
+        let two = are.some in
+        let up = breaks_rise_to unit track (breaks_for unit track) are i later h (omega arith) in
         let rise = are.rise later (omega arith) in
-        let on = rises_to track breaks are (later + 1) to (omega arith) inside in
-        let end = up_to_end track breaks are to inside in
-        let falls = cost_shrinks (get_or breaks i 0) (get_or breaks later 0) (get_or breaks to 0) up (omega arith) end in
-        let long = cost_at levels lawful track function breaks are i to in
-        let short = cost_at levels lawful track function breaks are later to in
-        omega arith
+        let on = breaks_rise_to unit track (breaks_for unit track) are (later + 1) to (omega arith) (omega arith) in
+        let end = breaks_to_end unit track (breaks_for unit track) are to (omega arith) in
+        cost_shrinks (get_or (breaks_for unit track) i 0) (get_or (breaks_for unit track) later 0) (get_or (breaks_for unit track) to 0) up (omega arith) end
 
     -- the costs up to a break are a column
-    pub column_of : (costs : List ℕ) (to : ℕ) → 0 < to → to ≤ length track.steps → to ≤ length costs → track.end ≤ LONGEST_TRACK
-        → ((i : ℕ) → i < to → get_or costs i 0 ≡ cost_between levels track i to) → ((i : ℕ) → i < to → get_or costs i 0 ≤ get_or breaks to 0 * 1000000)
-        → IsColumn levels track to (take to costs)
+    pub column_of : (costs : List ℕ) (to : ℕ) → 0 < to → to ≤ stretches_in unit track → to ≤ length costs → track.end ≤ LONGEST_TRACK
+        → ((i : ℕ) → i < to → get_or costs i 0 ≡ cost_of_step levels unit track i to) → ((i : ℕ) → i < to → get_or costs i 0 ≤ get_or (breaks_for unit track) to 0 * 1000000)
+        → IsColumn levels unit track to (take to costs)
     column_of costs to some inside room near is bound =
+        let two = are.some in
         let width = length-take-le to costs room in
-        let there : (i : ℕ) → i < to → get_or (take to costs) i 0 ≡ cost_between levels track i to = λ i h. get_or-take to costs i 0 h ∙ is i h in
+        let there : (i : ℕ) → i < to → get_or (take to costs) i 0 ≡ cost_of_step levels unit track i to = λ i h. get_or-take to costs i 0 h ∙ is i h in
         record {
           count = width;
           are = there;
           costs = record {
             some = omega arith;
-            small = take_small costs to 100000000000 (λ i h. let b = bound i h in let end = up_to_end track breaks are to inside in omega arith);
+            small = take_small costs to 100000000000 (λ i h. let b = bound i h in let end = breaks_to_end unit track (breaks_for unit track) are to (omega arith) in omega arith);
             fall = λ i later h k.
                 let a = there i (omega arith) in
                 let b = there later (omega arith) in

@@ -18,8 +18,8 @@ all_second first second (x ∷ xs) e =
     let here = both_of (first x && second x) (list_all (λ y. first y && second y) xs) e in
     both (second x) (list_all second xs) (both_of (first x) (second x) here.0).1 (all_second first second xs here.1)
 
-module _ {V : Type 0} (levels : Levels V) (limit end : ℕ) where
-  no_fault : (steps : List (ℕ × V)) → IsProfile levels 1 limit end steps → limit ≤ MOST_STEPS → end ≤ LONGEST_TRACK → profile_fault levels end steps ≡ None
+module _ {V : Type 0} (levels : Levels V) (unit limit end : ℕ) where
+  no_fault : (steps : List (ℕ × V)) → IsProfile levels unit limit end steps → limit ≤ MOST_STEPS → end ≤ LONGEST_TRACK → profile_fault levels end steps ≡ None
   no_fault [] p few near = let none = p.starts.rising in absurd (cc)
   no_fault (step ∷ later) p few near =
       let rising = p.starts.rising in
@@ -30,7 +30,7 @@ module _ {V : Type 0} (levels : Levels V) (limit end : ℕ) where
       let expressible = all_second (λ (s : ℕ × V). levels.in_range s.1) (λ (s : ℕ × V). levels.is_expressible s.1) (step ∷ later) p.values in
       rw (rising, room, expressible) refl
 
-  pub made_of : (steps rows : List (ℕ × V)) (made : Result (StepFunction V) ProfileFault) → IsProfile levels 1 limit end steps → limit ≤ MOST_STEPS → end ≤ LONGEST_TRACK
+  pub made_of : (steps rows : List (ℕ × V)) (made : Result (StepFunction V) ProfileFault) → IsProfile levels unit limit end steps → limit ≤ MOST_STEPS → end ≤ LONGEST_TRACK
       → rows ≡ steps → made ≡ profile_of levels end rows → made ≡ Ok (record { steps = steps; end = end })
   made_of steps rows made p few near same is =
       let none = no_fault steps p few near in

@@ -10,11 +10,10 @@ use Rattle.rbc_model.specs.Levels.{Levels}
 use Rattle.rbc_model.specs.Profiles.{StepFunction, value_at, starts_of}
 use Rattle.rbc_model.specs.PriceTables.{breaks_of, cost, stretch_count, row_count, IsSoundTable, IsGreatestSoundTable}
 use Rattle.rbc_model.proofs.TableLemmas.{greatest_of_reached}
-use Rattle.rbc_table_laws.specs.Breaks.{AreBreaks, cost_between}
+use Rattle.rbc_table_laws.specs.Stretches.{cost_of_step}
 use Rattle.rbc_table_laws.specs.PriceRows.{prices_of, AreWide}
-use Rattle.rbc_table_laws.proofs.TrackBreakLemmas.{stretches_are}
 use Rattle.rbc_table_laws.proofs.PriceRowLemmas.{row_at, same_read}
-use Rattle.rbc_reduce.specs.Columns.{IsColumn, AreColumns}
+use Rattle.rbc_reduce.specs.Columns.{IsColumn, AreColumns, stretches_in}
 use Rattle.rbc_reduce.specs.Rows.{AreCosts, AreSmall, IsCheapest, price_in, price_up_to}
 
 -- ---- a price that stands in a row
@@ -176,15 +175,15 @@ small_row (price ∷ row) small (suc i) = small_row row (λ k h. small (suc k) (
 
 -- ---- the rows so far
 
-module _ {V : Type 0} (levels : Levels V) (track : StepFunction V) (rows : List (Vec ℕ)) where
+module _ {V : Type 0} (levels : Levels V) (unit : ℕ) (track : StepFunction V) (rows : List (Vec ℕ)) where
   -- The prices of the rows are the least.
   pub record IsFilled : Type 0 where
-    pub one_step : (i : ℕ) → 1 ≤ i → i ≤ length track.steps → price_in rows 1 i ≡ cost_between levels track 0 i
-    pub lowest : (j i i' : ℕ) → 1 ≤ j → j < length rows → i < i' → i' ≤ length track.steps → price_in rows (suc j) i' ≤ price_in rows j i + cost_between levels track i i'
-    pub reached : (j i' : ℕ) → 1 ≤ j → j < length rows → 1 ≤ i' → i' ≤ length track.steps
-        → (i : ℕ) × (i < i') × (price_in rows (suc j) i' ≡ price_in rows j i + cost_between levels track i i')
+    pub one_step : (i : ℕ) → 1 ≤ i → i ≤ stretches_in unit track → price_in rows 1 i ≡ cost_of_step levels unit track 0 i
+    pub lowest : (j i i' : ℕ) → 1 ≤ j → j < length rows → i < i' → i' ≤ stretches_in unit track → price_in rows (suc j) i' ≤ price_in rows j i + cost_of_step levels unit track i i'
+    pub reached : (j i' : ℕ) → 1 ≤ j → j < length rows → 1 ≤ i' → i' ≤ stretches_in unit track
+        → (i : ℕ) × (i < i') × (price_in rows (suc j) i' ≡ price_in rows j i + cost_of_step levels unit track i i')
 
-module _ {V : Type 0} (levels : Levels V) (track : StepFunction V) (columns : List (Vec ℕ)) (are : AreColumns levels track columns) where
+module _ {V : Type 0} (levels : Levels V) (unit : ℕ) (track : StepFunction V) (columns : List (Vec ℕ)) (are : AreColumns levels unit track columns) where
   some_of : (xs : List (Vec ℕ)) (i : ℕ) → i < length xs → Vec ℕ
   some_of [] i h = absurd (omega arith)
   some_of (x ∷ xs) i h = x
@@ -196,8 +195,8 @@ module _ {V : Type 0} (levels : Levels V) (track : StepFunction V) (columns : Li
   zip_at R (x ∷ xs) (price ∷ row) (suc i) d zip h = zip_at R xs row i d zip.1 (omega arith)
 
   -- a price of a row stands beside its column
-  beside : (R : Vec ℕ → ℕ → Type 0) (row : List ℕ) → AllZip R columns row → (i : ℕ) → i < length track.steps
-      → (column : Vec ℕ) × IsColumn levels track (suc i) column.items × R column (get_or row i 0)
+  beside : (R : Vec ℕ → ℕ → Type 0) (row : List ℕ) → AllZip R columns row → (i : ℕ) → i < stretches_in unit track
+      → (column : Vec ℕ) × IsColumn levels unit track (suc i) column.items × R column (get_or row i 0)
   beside R row zip i h =
       let count = are.count in
       let d = some_of columns i (omega arith) in
@@ -206,19 +205,19 @@ module _ {V : Type 0} (levels : Levels V) (track : StepFunction V) (columns : Li
   pub columns_are_costs : (k : ℕ) (d : Vec ℕ) → k < length columns → AreCosts (get_or columns k d).items
   columns_are_costs k d h = (are.each k (get_or columns k d) (slice_get-get_or columns k d h)).costs
 
-  pub columns_fit : (before : List ℕ) → length before ≡ length track.steps → (k : ℕ) (d : Vec ℕ) → k < length columns → length (get_or columns k d).items ≤ length before + 1
+  pub columns_fit : (before : List ℕ) → length before ≡ stretches_in unit track → (k : ℕ) (d : Vec ℕ) → k < length columns → length (get_or columns k d).items ≤ length before + 1
   columns_fit before width k d h =
       let count = (are.each k (get_or columns k d) (slice_get-get_or columns k d h)).count in
       let all = are.count in
       omega arith
 
-  pub row_width : (R : Vec ℕ → ℕ → Type 0) (row : List ℕ) → AllZip R columns row → length row ≡ length track.steps
+  pub row_width : (R : Vec ℕ → ℕ → Type 0) (row : List ℕ) → AllZip R columns row → length row ≡ stretches_in unit track
   row_width R row zip = AllZip-long R columns row zip ∙ are.count
 
   -- ---- the first row
 
   module _ (row : Vec ℕ) (prices : AllZip (λ column price. price ≡ get_or column.items 0 0) columns row.items) where
-    first_price : (i : ℕ) → i < length track.steps → get_or row.items i 0 ≡ cost_between levels track 0 (suc i)
+    first_price : (i : ℕ) → i < stretches_in unit track → get_or row.items i 0 ≡ cost_of_step levels unit track 0 (suc i)
     first_price i h =
         let b = beside (λ column price. price ≡ get_or column.items 0 0) row.items prices i h in
         b.2 ∙ b.1.are 0 (omega arith)
@@ -231,14 +230,14 @@ module _ {V : Type 0} (levels : Levels V) (track : StepFunction V) (columns : Li
         let small = b.1.costs.small 0 in
         omega arith)
 
-    pub first_filled : IsFilled levels track (row ∷ [])
+    pub first_filled : IsFilled levels unit track (row ∷ [])
     first_filled = record {
       one_step = λ i some h. one i some h;
       lowest = λ j i i' low high below column. absurd (omega arith);
       reached = λ j i' low high some column. absurd (omega arith);
     }
       where
-        one : (i : ℕ) → 1 ≤ i → i ≤ length track.steps → price_in (row ∷ []) 1 i ≡ cost_between levels track 0 i
+        one : (i : ℕ) → 1 ≤ i → i ≤ stretches_in unit track → price_in (row ∷ []) 1 i ≡ cost_of_step levels unit track 0 i
         one zero some h = absurd (omega arith)
         one (suc i) some h = first_price i (omega arith)
 
@@ -254,7 +253,7 @@ module _ {V : Type 0} (levels : Levels V) (track : StepFunction V) (columns : Li
         let small = b.1.costs.small 0 in
         omega arith)
 
-    lowest_price : (i i' : ℕ) → i < i' → i' ≤ length track.steps → price_up_to row.items i' ≤ price_up_to before i + cost_between levels track i i'
+    lowest_price : (i i' : ℕ) → i < i' → i' ≤ stretches_in unit track → price_up_to row.items i' ≤ price_up_to before i + cost_of_step levels unit track i i'
     lowest_price i zero h column = absurd (omega arith)
     lowest_price i (suc i') h column =
         let b = beside (λ column price. IsCheapest (price_up_to before) column.items (length column.items) price) row.items prices i' (omega arith) in
@@ -263,8 +262,8 @@ module _ {V : Type 0} (levels : Levels V) (track : StepFunction V) (columns : Li
         let is = b.1.are i h in
         omega arith
 
-    reached_price : (i' : ℕ) → 1 ≤ i' → i' ≤ length track.steps
-        → (i : ℕ) × (i < i') × (price_up_to row.items i' ≡ price_up_to before i + cost_between levels track i i')
+    reached_price : (i' : ℕ) → 1 ≤ i' → i' ≤ stretches_in unit track
+        → (i : ℕ) × (i < i') × (price_up_to row.items i' ≡ price_up_to before i + cost_of_step levels unit track i i')
     reached_price zero some column = absurd (omega arith)
     reached_price (suc i') some column =
         let b = beside (λ column price. IsCheapest (price_up_to before) column.items (length column.items) price) row.items prices i' (omega arith) in
@@ -275,7 +274,7 @@ module _ {V : Type 0} (levels : Levels V) (track : StepFunction V) (columns : Li
         (b.2.from, omega arith, omega arith)
 
     pub next_filled : (rows : List (Vec ℕ)) → 0 < length rows → ((i : ℕ) → price_up_to before i ≡ price_in rows (length rows) i)
-        → IsFilled levels track rows → IsFilled levels track (rows ++ row ∷ [])
+        → IsFilled levels unit track rows → IsFilled levels unit track (rows ++ row ∷ [])
     next_filled rows some last f =
         let count : length (rows ++ row ∷ []) ≡ length rows + 1 = length-append rows (row ∷ []) in
         record {
@@ -320,13 +319,13 @@ small_last rows before small last i = let at = last i in let low = small (length
 
 -- ---- the whole table
 
-module _ {V : Type 0} (levels : Levels V) (track : StepFunction V) where
+module _ {V : Type 0} (levels : Levels V) (unit : ℕ) (track : StepFunction V) where
   cost_of_none : (track : ℕ → Option V) (x : ℕ) → cost levels track x x ≡ 0
   cost_of_none track x = let e : x - x ≡ 0 = omega arith in rw e refl
 
   -- a table that is filled to the end is the greatest sound one
-  module _ (limit : ℕ) (breaks : List ℕ) (are : AreBreaks track breaks) (rows : List (Vec ℕ)) where
-    widths : (rows : List (Vec ℕ)) → AreWide (length track.steps) rows → (m : ℕ) → m ≡ length track.steps → list_all (λ row. length row == m) (prices_of rows) ≡ true
+  module _ (limit : ℕ) (rows : List (Vec ℕ)) where
+    widths : (rows : List (Vec ℕ)) → AreWide (stretches_in unit track) rows → (m : ℕ) → m ≡ stretches_in unit track → list_all (λ row. length row == m) (prices_of rows) ≡ true
     widths [] wide m e = refl
     widths (row ∷ rows) wide m e = both (length row.items == m) (list_all (λ row. length row == m) (prices_of rows)) (equal (length row.items) m (wide 0 row refl ∙ sym e)) (widths rows (λ j. wide (suc j)) m e)
       where
@@ -337,23 +336,23 @@ module _ {V : Type 0} (levels : Levels V) (track : StepFunction V) where
         equal : (a b : ℕ) → a ≡ b → (a == b) ≡ true
         equal a b h = grind (arith, nat_tests)
 
-    first_row : IsFilled levels track rows → (i : ℕ) → i ≤ length track.steps → price_in rows 1 i ≡ cost_between levels track 0 i
-    first_row f zero h = sym (cost_of_none (value_at track.steps) (get_or (breaks_of 1 track.end (starts_of track.steps)) 0 0))
+    first_row : IsFilled levels unit track rows → (i : ℕ) → i ≤ stretches_in unit track → price_in rows 1 i ≡ cost_of_step levels unit track 0 i
+    first_row f zero h = sym (cost_of_none (value_at track.steps) (get_or (breaks_of unit track.end (starts_of track.steps)) 0 0))
     first_row f (suc i) h = f.one_step (suc i) (omega arith) h
 
-    pub filled_is_greatest : length rows ≡ min limit (length track.steps) → AreWide (length track.steps) rows → IsFilled levels track rows
-        → IsGreatestSoundTable levels 1 limit track.end track.steps (prices_of rows)
+    pub filled_is_greatest : length rows ≡ min limit (stretches_in unit track) → AreWide (stretches_in unit track) rows → IsFilled levels unit track rows
+        → IsGreatestSoundTable levels unit limit track.end track.steps (prices_of rows)
     filled_is_greatest count wide f =
-        let m = stretches_are track breaks are levels limit in
+        let m : stretch_count levels unit limit track.end track.steps ≡ stretches_in unit track = refl in
         let same_count : length (prices_of rows) ≡ length rows = length-map rows (λ row. row.items) in
-        let shape : length (prices_of rows) ≡ row_count levels 1 limit track.end track.steps = same_count ∙ count ∙ ap (min limit) (sym m) in
-        let sound : IsSoundTable levels 1 limit track.end track.steps (prices_of rows) = record {
+        let shape : length (prices_of rows) ≡ row_count levels unit limit track.end track.steps = same_count ∙ count ∙ ap (min limit) (sym m) in
+        let sound : IsSoundTable levels unit limit track.end track.steps (prices_of rows) = record {
           shape = shape;
-          widths = widths rows wide (stretch_count levels 1 limit track.end track.steps) m;
+          widths = widths rows wide (stretch_count levels unit limit track.end track.steps) m;
           one_step = λ i column. let e = first_row f i (omega arith) in omega arith;
           more_steps = λ j i i' low high below column. f.lowest j i i' low (omega arith) below (omega arith);
         } in
-        greatest_of_reached levels 1 limit track.end track.steps (prices_of rows) sound (record {
+        greatest_of_reached levels unit limit track.end track.steps (prices_of rows) sound (record {
           one_step = λ i column. first_row f i (omega arith);
           more_steps = λ j i' low high some column. f.reached j i' low (omega arith) some (omega arith);
         })

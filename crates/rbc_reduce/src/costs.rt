@@ -1,9 +1,13 @@
 //! What one step costs from a break up to another.
-ghost use Rattle.std.specs.Prelude.{◌≡◌, ℕ, ◌+◌, ◌-◌, ◌*◌, ◌<◌, ◌≤◌, length, slice_index, if◌then◌else◌};
-ghost use Rattle.rbc_model.specs.Levels.{IsInRange};
-ghost use Rattle.rbc_table_laws.specs.Breaks.{AreBreaks, IsLowest, IsBelowAll, lost_below, cost_between};
+ghost use Rattle.std.specs.Prelude.{◌≡◌, ℕ, ◌+◌, ◌-◌, ◌*◌, ◌<◌, ◌≤◌, length, slice_index};
+ghost use Rattle.rbc_model.specs.Scales.{unit_of};
+ghost use Rattle.rbc_table_laws.specs.Breaks.{IsLowest};
+ghost use Rattle.rbc_table_laws.specs.Stretches.{breaks_for, cost_of_step};
+ghost use Rattle.rbc_stretches.specs.OnTracks.{IsOnTrack};
+ghost use Rattle.rbc_reduce.specs.Stretches.{AreStretches, IsLostByFloor};
 
 use rbc_steps::{Level, Runs};
+use rbc_stretches::{Stretch, price_on};
 
 /// Whether the one value is no higher than the other.
 pub(crate) fn is_at_most<V: Level>(a: V, b: V) -> bool
@@ -14,24 +18,23 @@ pub(crate) fn is_at_most<V: Level>(a: V, b: V) -> bool
     a <= b
 }
 
-/// The lower of two values.
-fn lower<V: Level>(a: V, b: V) -> V
-    ensures { result ≡ (if V.levels.at_most a b then a else b) }
-{
-    if is_at_most(a, b) { a } else { b }
-}
-
 /// The least value from one break up to another.
-pub(crate) fn least_of<V: Level>(track: &Runs<V>, breaks: &[u32], from: usize, to: usize) -> V
-    requires breaks { AreBreaks track.now breaks.now }
+pub(crate) fn least_of<V: Level>(
+    track: &Runs<V>,
+    stretches: &[(Stretch, V)],
+    from: usize,
+    to: usize,
+) -> V
+    requires stretches { AreStretches V.levels (unit_of track.now.end) track.now stretches.now }
     requires rises { from < to }
-    requires inside { to ≤ length track.now.steps }
-    ensures { IsLowest V.levels track.now (slice_index breaks.now from) (slice_index breaks.now to) result }
+    requires inside { to ≤ length stretches.now }
+    ensures { IsLowest V.levels track.now (slice_index (breaks_for (unit_of track.now.end) track.now) from)
+        (slice_index (breaks_for (unit_of track.now.end) track.now) to) result }
 {
-    let runs = track.runs();
-    let mut least = runs[to - 1].1;
+    let _runs = track.runs();
+    let mut least = stretches[to - 1].1;
     for i in (from..to - 1).rev() {
-        let here = runs[i].1;
+        let here = stretches[i].1;
         if !is_at_most(least, here) {
             least = here;
         }
@@ -39,46 +42,68 @@ pub(crate) fn least_of<V: Level>(track: &Runs<V>, breaks: &[u32], from: usize, t
     least
 }
 
-/// What is lost on the run of this index where `given` is given.
-fn price_on<V: Level>(track: &Runs<V>, breaks: &[u32], index: usize, given: V) -> u64
-    requires breaks { AreBreaks track.now breaks.now }
-    requires inside { index < length track.now.steps }
-    requires given_in_range { IsInRange V.levels given }
-    requires below { IsBelowAll V.levels track.now
-        (slice_index breaks.now index) (slice_index breaks.now (index + 1)) given }
-    ensures price { lost_below V.levels track.now given (slice_index breaks.now index) + result
-        ≡ lost_below V.levels track.now given (slice_index breaks.now (index + 1)) }
-    ensures bound { slice_index breaks.now index * 1000000 + result ≤ slice_index breaks.now (index + 1) * 1000000 }
+/// The least value where one stretch more stands in front, and what its floor loses on the stretch `last`; `least` and
+/// `lost` are both from the stretch behind on.
+fn lowered<V: Level>(
+    track: &Runs<V>,
+    last: Stretch,
+    least: V,
+    lost: u64,
+    front: (Stretch, V),
+) -> (V, u64)
+    requires last { IsOnTrack track.now last }
+    requires before { front.0.to ≤ last.from }
+    requires front { IsLowest V.levels track.now front.0.from front.0.to front.1 }
+    requires least { IsLowest V.levels track.now front.0.to last.to least }
+    requires lost { IsLostByFloor V.levels track.now last.from last.to least lost }
+    ensures least { IsLowest V.levels track.now front.0.from last.to result.0 }
+    ensures lost { IsLostByFloor V.levels track.now last.from last.to result.0 result.1 }
 {
-    let metres = breaks[index + 1] - breaks[index];
-    u64::from(metres) * track.runs()[index].1.price(given)
+    let _runs = track.runs();
+    if is_at_most(least, front.1) {
+        return (least, lost);
+    }
+    (front.1, price_on(track, last, front.1.floor()))
 }
 
 /// Goes on to the next break: where `costs` has what one step costs up to the break before `to`, writes what one costs
-/// up to `to`. As far back as no run is lower than the last one the step has that one's floor; before, the least value
-/// stays as it was, and the step costs what it cost and what its floor loses on the last run.
-pub(crate) fn costs_on<V: Level>(track: &Runs<V>, breaks: &[u32], to: usize, costs: &mut [u64])
-    requires breaks { AreBreaks track.now breaks.now }
+/// up to `to`. As far back as no stretch is lower than the last one the step has that one's floor; before, the least
+/// value stays as it was, and the step costs what it cost and what its floor loses on the last stretch.
+pub(crate) fn costs_on<V: Level>(
+    track: &Runs<V>,
+    stretches: &[(Stretch, V)],
+    to: usize,
+    costs: &mut [u64],
+)
+    requires stretches { AreStretches V.levels (unit_of track.now.end) track.now stretches.now }
     requires some { 0 < to }
-    requires inside { to ≤ length track.now.steps }
+    requires inside { to ≤ length stretches.now }
     requires room { to ≤ length costs.old }
-    requires costs { (i : ℕ) → i < to - 1 → slice_index costs.old i ≡ cost_between V.levels track.now i (to - 1) }
-    requires bound { (i : ℕ) → i < to - 1 → slice_index costs.old i ≤ slice_index breaks.now (to - 1) * 1000000 }
-    ensures costs { (i : ℕ) → i < to → slice_index costs.new i ≡ cost_between V.levels track.now i to }
-    ensures bound { (i : ℕ) → i < to → slice_index costs.new i ≤ slice_index breaks.now to * 1000000 }
+    requires costs { (i : ℕ) → i < to - 1
+        → slice_index costs.old i ≡ cost_of_step V.levels (unit_of track.now.end) track.now i (to - 1) }
+    requires bound { (i : ℕ) → i < to - 1
+        → slice_index costs.old i ≤ slice_index (breaks_for (unit_of track.now.end) track.now) (to - 1) * 1000000 }
+    ensures costs { (i : ℕ) → i < to
+        → slice_index costs.new i ≡ cost_of_step V.levels (unit_of track.now.end) track.now i to }
+    ensures bound { (i : ℕ) → i < to
+        → slice_index costs.new i ≤ slice_index (breaks_for (unit_of track.now.end) track.now) to * 1000000 }
 {
-    let runs = track.runs();
-    let new = runs[to - 1].1;
+    let _runs = track.runs();
+    let last = stretches[to - 1].0;
+    let new = stretches[to - 1].1;
+    let mut price = price_on(track, last, new.floor());
     let mut least = new;
-    let mut price = price_on(track, breaks, to - 1, new.floor());
+    let mut lost = price;
     costs[to - 1] = price;
     for i in (0..to - 1).rev() {
-        least = lower(least, runs[i].1);
+        let lowest = lowered(track, last, least, lost, stretches[i]);
+        least = lowest.0;
+        lost = lowest.1;
         if is_at_most(new, least) {
-            price += price_on(track, breaks, i, new.floor());
+            price += price_on(track, stretches[i].0, new.floor());
             costs[i] = price;
         } else {
-            costs[i] += price_on(track, breaks, to - 1, least.floor());
+            costs[i] += lost;
         }
     }
 }

@@ -1,11 +1,13 @@
 //! The chosen profile of few steps.
-ghost use Rattle.std.specs.Prelude.{◌≡◌, ℕ, ◌≤◌, List, IfOk, length};
+ghost use Rattle.std.specs.Prelude.{◌≡◌, ℕ, ◌%◌, ◌≤◌, List, IfOk, length};
 ghost use Rattle.rbc_model.specs.Profiles.{IsBestProfile, IsChosenProfile, loss, value_at};
 ghost use Rattle.rbc_model.specs.PriceTables.{IsGreatestSoundTable};
+ghost use Rattle.rbc_model.specs.Scales.{unit_of};
 ghost use Rattle.rbc_model.specs.declared.limits.TheConstants.{MOST_STEPS};
 ghost use Rattle.rbc_table_laws.specs.PriceRows.{prices_of};
 
 use crate::columns::columns_of;
+use crate::stretches::stretches_of;
 use crate::table::fill;
 use crate::traceback::steps_of;
 use rbc_model::Memory;
@@ -26,11 +28,13 @@ pub struct Reduced<V: Level> {
 }
 
 /// The profile of 1 to `limit` steps that the rules choose for the track: no profile of at most `limit` steps that is
-/// above the track at no metre loses less, with cuts at any metre. Of the profiles that lose as little it has the
-/// fewest steps, and of those that have as few, its starts, read from the last one backwards, come first.
+/// above the track at no metre loses less, with cuts at any metre that a message can give. Of the profiles that lose as
+/// little it has the fewest steps, and of those that have as few, its starts, read from the last one backwards, come
+/// first. A message counts the metres of a track that ends behind 32,000 m in tens, so such a track has to end at a ten.
 ///
 /// Long rows of prices are computed in threads, as many as there are processors. While it works it holds a cost for each
-/// two breaks: some 4 `m`² bytes for a track of `m` runs, 40 MB for 3,100 of them.
+/// two breaks: some 4 `m`² bytes for a track of `m` runs, 40 MB for 3,100 of them, and up to four times as much where
+/// it cuts at tens.
 ///
 /// # Errors
 /// `Memory` is the only one.
@@ -42,24 +46,25 @@ pub fn reduce<V: Level>(
 ) -> Result<Reduced<V>, Memory>
     requires some { 1 ≤ limit }
     requires few { limit ≤ MOST_STEPS }
+    requires whole { track.now.end % unit_of track.now.end ≡ 0 }
     ensures best { IfOk result
-        (λ r. IsBestProfile V.levels 1 limit track.now.end (value_at track.now.steps) r.profile.steps) }
+        (λ r. IsBestProfile V.levels (unit_of track.now.end) limit track.now.end (value_at track.now.steps) r.profile.steps) }
     ensures fewest { IfOk result
-        (λ r. (other : List (ℕ × V)) → IsBestProfile V.levels 1 limit track.now.end (value_at track.now.steps) other
+        (λ r. (other : List (ℕ × V)) → IsBestProfile V.levels (unit_of track.now.end) limit track.now.end (value_at track.now.steps) other
         → length r.profile.steps ≤ length other) }
     ensures chosen { IfOk result
-        (λ r. IsChosenProfile V.levels 1 limit track.now.end (value_at track.now.steps) r.profile.steps) }
+        (λ r. IsChosenProfile V.levels (unit_of track.now.end) limit track.now.end (value_at track.now.steps) r.profile.steps) }
     ensures end { IfOk result (λ r. r.profile.end ≡ track.now.end) }
     ensures loss { IfOk result
         (λ r. r.loss ≡ loss V.levels track.now.end (value_at track.now.steps) r.profile.steps) }
     ensures prices { IfOk result
-        (λ r. IsGreatestSoundTable V.levels 1 limit track.now.end track.now.steps (prices_of r.prices.items)) }
+        (λ r. IsGreatestSoundTable V.levels (unit_of track.now.end) limit track.now.end track.now.steps (prices_of r.prices.items)) }
 {
     let end = track.end();
-    let breaks = track.breaks(alloc)?;
-    let columns = columns_of(alloc, track, &breaks)?;
+    let stretches = stretches_of(alloc, track)?;
+    let columns = columns_of(alloc, track, &stretches)?;
     let prices = fill(rt, alloc, track, &columns, limit)?;
-    let steps = steps_of(alloc, track, &breaks, &columns, &prices, limit)?;
+    let steps = steps_of(alloc, track, &stretches, &columns, &prices, limit)?;
     match Profile::new(&steps, end) {
         Ok(profile) => {
             let loss = profile.loss(track);

@@ -2,8 +2,9 @@
 ghost use Rattle.std.specs.Prelude.{◌≡◌, ℕ, ◌+◌, ◌≤◌, IfOk, length, slice_index};
 ghost use Rattle.std.specs.List.{All, AllZip};
 ghost use Rattle.rbc_model.specs.PriceTables.{IsGreatestSoundTable};
+ghost use Rattle.rbc_model.specs.Scales.{unit_of};
 ghost use Rattle.rbc_table_laws.specs.PriceRows.{prices_of, AreWide};
-ghost use Rattle.rbc_reduce.specs.Columns.{AreColumns};
+ghost use Rattle.rbc_reduce.specs.Columns.{AreColumns, stretches_in};
 ghost use Rattle.rbc_reduce.specs.Rows.{AreCosts, AreSmall, IsCheapest, price_in, price_up_to};
 
 use rayon::prelude::*;
@@ -75,8 +76,8 @@ fn next_row(
     Ok(row)
 }
 
-/// The table of prices: a row for each number of steps from 1 to `limit`, but no more rows than there are runs, and in
-/// it a price for each break but the first.
+/// The table of prices: a row for each number of steps from 1 to `limit`, but no more rows than there are stretches,
+/// and in it a price for each break but the first.
 pub(crate) fn fill<V: Level>(
     rt: &(impl Threads + Sync),
     alloc: Global,
@@ -84,14 +85,15 @@ pub(crate) fn fill<V: Level>(
     columns: &[Vec<u64>],
     limit: usize,
 ) -> Result<Vec<Vec<u64>>, Memory>
-    requires columns { AreColumns V.levels track.now columns.now }
+    requires columns { AreColumns V.levels (unit_of track.now.end) track.now columns.now }
     requires limit { 1 ≤ limit }
     ensures table { IfOk result
-        (λ rows. IsGreatestSoundTable V.levels 1 limit track.now.end track.now.steps (prices_of rows.items)) }
-    ensures wide { IfOk result (λ rows. AreWide (length track.now.steps) rows.items) }
+        (λ rows. IsGreatestSoundTable V.levels (unit_of track.now.end) limit track.now.end track.now.steps (prices_of rows.items)) }
+    ensures wide { IfOk result (λ rows. AreWide (stretches_in (unit_of track.now.end) track.now) rows.items) }
     ensures small { IfOk result (λ rows. (j : ℕ) → AreSmall (price_in rows.items j)) }
 {
-    let count = limit.min(track.runs().len());
+    let _runs = track.runs();
+    let count = limit.min(columns.len());
     let mut rows = Vec::with_capacity(alloc, count)?;
     rows.push(first_row(alloc, columns)?)?;
     for steps in 1..count {

@@ -1,15 +1,17 @@
 //! The profile that is read off the table, from its last column backwards.
-ghost use Rattle.std.specs.Prelude.{◌≡◌, ◌≢◌, ℕ, ◌+◌, ◌<◌, ◌≤◌, IfOk, length, slice_index};
+ghost use Rattle.std.specs.Prelude.{◌≡◌, ◌≢◌, ℕ, ◌+◌, ◌%◌, ◌<◌, ◌≤◌, IfOk, length, slice_index};
 ghost use Rattle.rbc_model.specs.PriceTables.{IsGreatestSoundTable};
+ghost use Rattle.rbc_model.specs.Scales.{unit_of};
 ghost use Rattle.rbc_table_laws.specs.Tracebacks.{IsReadOff};
-ghost use Rattle.rbc_table_laws.specs.Breaks.{AreBreaks};
 ghost use Rattle.rbc_table_laws.specs.PriceRows.{prices_of, AreAsWideAs};
 ghost use Rattle.rbc_reduce.specs.Columns.{AreColumns};
 ghost use Rattle.rbc_reduce.specs.Rows.{AreSmall, price_in};
+ghost use Rattle.rbc_reduce.specs.Stretches.{AreStretches};
 
 use crate::costs::least_of;
 use rbc_model::Memory;
 use rbc_steps::{Level, Runs};
+use rbc_stretches::Stretch;
 use std::alloc::Global;
 
 /// The price in the row of so many steps and in this column; nothing is lost by no steps, or up to break 0.
@@ -72,27 +74,29 @@ fn first_break(rows: &[Vec<u64>], costs: &[u64], steps: usize, column: usize) ->
 pub(crate) fn steps_of<V: Level>(
     alloc: Global,
     track: &Runs<V>,
-    breaks: &[u32],
+    stretches: &[(Stretch, V)],
     columns: &[Vec<u64>],
     rows: &[Vec<u64>],
     limit: usize,
 ) -> Result<Vec<(u32, V)>, Memory>
-    requires breaks { AreBreaks track.now breaks.now }
-    requires columns { AreColumns V.levels track.now columns.now }
+    requires whole { track.now.end % unit_of track.now.end ≡ 0 }
+    requires stretches { AreStretches V.levels (unit_of track.now.end) track.now stretches.now }
+    requires columns { AreColumns V.levels (unit_of track.now.end) track.now columns.now }
     requires some { 1 ≤ limit }
-    requires table { IsGreatestSoundTable V.levels 1 limit track.now.end track.now.steps (prices_of rows.now) }
-    requires wide { AreAsWideAs (length track.now.steps) rows.now }
+    requires table { IsGreatestSoundTable V.levels (unit_of track.now.end) limit track.now.end track.now.steps (prices_of rows.now) }
+    requires wide { AreAsWideAs (length stretches.now) rows.now }
     requires small { (j : ℕ) → AreSmall (price_in rows.now j) }
     ensures { IfOk result
-        (λ steps. IsReadOff V.levels 1 limit track.now.end track.now.steps (prices_of rows.now) steps.items) }
+        (λ steps. IsReadOff V.levels (unit_of track.now.end) limit track.now.end track.now.steps (prices_of rows.now) steps.items) }
 {
-    let mut to = track.runs().len();
+    let _runs = track.runs();
+    let mut to = stretches.len();
     let mut steps = Vec::with_capacity(alloc, limit)?;
     let count = fewest(rows, to);
     for before in (0..count).rev() {
         let from = first_break(rows, columns[to - 1].as_slice(), before, to);
-        let least = least_of(track, breaks, from, to);
-        steps.push((breaks[from], least.floor()))?;
+        let least = least_of(track, stretches, from, to);
+        steps.push((stretches[from].0.from, least.floor()))?;
         to = from;
     }
     steps.reverse();

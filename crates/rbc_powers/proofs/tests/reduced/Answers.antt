@@ -1,4 +1,4 @@
-use Rattle.std.proofs.Common.{arith}
+use Rattle.std.proofs.Common.{arith, sym, ◌∙◌, eqb-true}
 use denote.Memory.{lone}
 use Rattle.rbc_powers.proofs.LayoutLemmas.{align_few}
 use Rattle.rbc_powers.proofs.tests.reduced.Goals as goal
@@ -13,7 +13,7 @@ pub reduce-requires-sync-typeof-rt : goal.reduce-requires-sync-typeof-rt
 reduce-requires-sync-typeof-rt g c κs within = c.type_bounds.sync-typeof-rt
 
 pub reduce-requires-after_bounds : goal.reduce-requires-after_bounds
-reduce-requires-after_bounds g c κs within = (omega (arith, align_few (lone g.row.V.mir)), (omega arith, omega arith))
+reduce-requires-after_bounds g c κs within = (omega (arith, align_few (lone g.row.V.mir)), (omega arith, (omega arith, eqb-true _ _ (sym c.is_whole.ensures ∙ c.if-assert-2.false))))
 
 pub check-requires-send-V : goal.check-requires-send-V
 check-requires-send-V g c κs within = c.type_bounds.send-V

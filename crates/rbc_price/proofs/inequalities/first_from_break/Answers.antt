@@ -1,9 +1,9 @@
-use Rattle.std.proofs.Common.{arith, ◌≡◌, ℕ, ◌+◌, ◌<◌, ◌≤◌, ◌⊎◌, inl, inr, true, ap, sym, ◌∙◌, length, slice_index_or}
-use Rattle.rbc_price.specs.Costs.{IsCostAt, IsLowestRun, is_run_at_most}
+use Rattle.std.proofs.Common.{arith, ◌≡◌, ℕ, ◌+◌, ◌≤◌, ◌<◌, ◌⊎◌, inl, inr, true, false, refl, subst, sym, ◌∙◌}
 use Rattle.rbc_table_laws.specs.PriceRows.{prices_of}
-use Rattle.rbc_table_laws.proofs.TrackBreakLemmas.{run_at}
-use Rattle.rbc_price.proofs.LowestRunLemmas.{higher, run_order}
-use Rattle.rbc_price.proofs.CostLemmas.{at_most_end, cost_is, value_of_run, behind, behind_range, behind_below}
+use Rattle.rbc_price.specs.Columns.{stretches_of}
+use Rattle.rbc_price.specs.Costs.{IsCostAt, IsLowestStretch, is_stretch_at_most}
+use Rattle.rbc_price.proofs.ColumnLemmas.{adjacent, index_small, inside, stretch_order, higher, cost_of}
+use Rattle.rbc_price.proofs.CostLemmas.{behind, behind_range, behind_below}
 use Rattle.rbc_price.proofs.PlaceLemmas.{Pair, first_of_fewer, first_of_both, first_of_row}
 use Rattle.rbc_price.proofs.inequalities.first_from_break.Given.{Over}
 use Rattle.rbc_price.proofs.inequalities.first_from_break.Goals as goal
@@ -13,107 +13,146 @@ up_to_or_past : (a b : ℕ) → (a ≤ b) ⊎ (b < a)
 up_to_or_past a b = grind arith
 
 pub first_row-first-requires-clause-wide : goal.first_row-first-requires-clause-wide
-first_row-first-requires-clause-wide g c = record { width = length c.args.track.now.steps; wide = c.requires.wide; room = omega arith }
-
-pub loop-index-init : goal.loop-index-init
-loop-index-init g c =
+first_row-first-requires-clause-wide g c =
     let level = g.met.V.Level g.world.𝓛 g.world.𝓜 g.world.𝓡 ((λ s x. x), (λ x. x), (λ x. x), λ x. x) in
-    let there = run_at c.runs-runs.result.now c.args.track.now.steps c.args.lowest c.index-runs-lowest.result c.runs-runs.ensures.runs c.requires.inside in
-    let cost = c.requires.cost _ (value_of_run g.V.Level.levels level.lawful c.args.track.now c.runs-runs.ensures.track c.args.lowest _ there) in
-    let is = cost_is g.V.Level.levels level.lawful c.args.track.now c.runs-runs.ensures.track c.args.from (c.args.lowest + 1) _ c.args.cost (omega arith) cost in
+    let room = inside g.V.Level.levels level.lawful c.args.track.now c.end-end.ensures.track c.requires.whole c.args.lowest c.requires.lowest in
+    record { width = stretches_of c.args.track.now; wide = c.requires.wide; room = omega arith }
+
+pub loop-next-init : goal.loop-next-init
+loop-next-init g c =
+    let level = g.met.V.Level g.world.𝓛 g.world.𝓜 g.world.𝓡 ((λ s x. x), (λ x. x), (λ x. x), λ x. x) in
+    let room = inside g.V.Level.levels level.lawful c.args.track.now c.end-end.ensures.track c.requires.whole c.args.lowest c.requires.lowest in
+    let is = cost_of g.V.Level.levels level.lawful c.args.track.now c.end-end.ensures.track c.requires.whole c.args.from c.args.lowest c.args.level c.args.cost c.requires.from c.requires.lowest c.requires.cost in
     record {
+      last = c.requires.lowest;
       behind = omega arith;
-      cost = cost;
-      first = first_of_fewer g.V.Level.levels c.args.track.now (prices_of c.args.rows.now) (Pair g.V.Level.levels c.args.track.now (prices_of c.args.rows.now) c.args.from (c.args.lowest + 1))
-          (λ f to. (f ≡ c.args.from) × (to ≤ c.args.lowest + 1) × IsLowestRun g.V.Level.levels c.args.track.now f to c.args.lowest) c.first_row-first.result
-          (λ f to on column j. (j.0, let high = j.2.high in omega arith))
-          (first_of_row g.V.Level.levels c.args.track.now (prices_of c.args.rows.now) c.args.from (c.args.lowest + 1) c.args.cost c.first_row-first.result (omega arith) (omega arith) is c.first_row-first.ensures);
+      cost = c.requires.cost;
+      first = first_of_fewer g.V.Level.levels c.args.track.now (prices_of c.args.rows.now) (Pair g.V.Level.levels c.args.track.now (prices_of c.args.rows.now) c.args.from.index (c.args.lowest.index + 1))
+          (λ f to. (f ≡ c.args.from.index) × (to ≤ c.args.lowest.index + 1) × IsLowestStretch g.V.Level.levels c.args.track.now f to c.args.lowest.index) c.first_row-first.result
+          (λ f to on column j. (j.0, let high = j.2.high in omega (arith, j.1)))
+          (first_of_row g.V.Level.levels c.args.track.now (prices_of c.args.rows.now) c.args.from.index (c.args.lowest.index + 1) c.args.cost c.first_row-first.result (omega arith) (omega arith) is c.first_row-first.ensures);
     }
 
 pub returns-then-is_at_most : goal.returns-then-is_at_most
 returns-then-is_at_most g c =
     let level = g.met.V.Level g.world.𝓛 g.world.𝓜 g.world.𝓡 ((λ s x. x), (λ x. x), (λ x. x), λ x. x) in
-    let there = run_at c.runs-runs.result.now c.args.track.now.steps c.args.lowest c.index-runs-lowest.result c.runs-runs.ensures.runs c.requires.inside in
-    let here = run_at c.runs-runs.result.now c.args.track.now.steps c.loop-index.index c.index-runs-index.result c.runs-runs.ensures.runs (omega (arith, ap length c.runs-runs.ensures.runs)) in
-    let lower : is_run_at_most g.V.Level.levels c.args.track.now c.loop-index.index c.args.lowest ≡ true =
-    run_order g.V.Level.levels level.lawful c.args.track.now c.runs-runs.ensures.track c.loop-index.index c.args.lowest _ _ here there ∙ sym c.is_at_most.ensures ∙ c.if-is_at_most.true in
-    first_of_fewer g.V.Level.levels c.args.track.now (prices_of c.args.rows.now)
-    (λ f to. (f ≡ c.args.from) × (to ≤ c.loop-index.index) × IsLowestRun g.V.Level.levels c.args.track.now f to c.args.lowest)
-    (λ f to. (f ≡ c.args.from) × IsLowestRun g.V.Level.levels c.args.track.now f to c.args.lowest) c.loop-index.first
+    let next = c.in-Some.ensures.behind c.in-Some.next refl in
+    let index = c.in-Some.ensures.index c.in-Some.next refl in
+    let lower : is_stretch_at_most g.V.Level.levels c.args.track.now c.in-Some.next.index c.args.lowest.index ≡ true =
+    stretch_order g.V.Level.levels level.lawful c.args.track.now c.end-end.ensures.track c.requires.whole c.in-Some.next c.args.lowest c.least_on.result c.args.level next c.requires.lowest c.least_on.ensures c.requires.level
+    ∙ sym c.is_at_most.ensures ∙ c.if-is_at_most.true in
+    first_of_fewer g.V.Level.levels c.args.track.now (prices_of c.args.rows.now) (λ f to. (f ≡ c.args.from.index) × (to ≤ c.loop-next.last.index + 1) × IsLowestStretch g.V.Level.levels c.args.track.now f to c.args.lowest.index)
+    (λ f to. (f ≡ c.args.from.index) × IsLowestStretch g.V.Level.levels c.args.track.now f to c.args.lowest.index) c.loop-next.first
     (λ f to on column j. (
       j.0,
-      elim (up_to_or_past to c.loop-index.index) [
+      elim (up_to_or_past to (c.loop-next.last.index + 1)) [
         | inl h ↦ h
-        | inr past ↦ let not = j.1.behind c.loop-index.index c.loop-index.invariant.behind past in absurd (cc (lower, not))
+        | inr past ↦ let not = j.1.behind c.in-Some.next.index (let order = c.loop-next.invariant.behind in omega (arith, index)) (omega (arith, past, index)) in absurd (cc (lower, not))
       ],
       j.1,
-    )) c.loop-index.invariant.first
+    )) c.loop-next.invariant.first
 
 pub price_on-cost-requires-clause-given_in_range : goal.price_on-cost-requires-clause-given_in_range
 price_on-cost-requires-clause-given_in_range g c κs within =
     let level = g.met.V.Level g.world.𝓛 g.world.𝓜 g.world.𝓡 ((λ s x. x), (λ x. x), (λ x. x), λ x. x) in
-    let there = run_at c.runs-runs.result.now c.args.track.now.steps c.args.lowest c.index-runs-lowest.result c.runs-runs.ensures.runs c.requires.inside in
-    let here = run_at c.runs-runs.result.now c.args.track.now.steps c.loop-index.index c.index-runs-index.result c.runs-runs.ensures.runs (omega (arith, ap length c.runs-runs.ensures.runs)) in
-    let low = higher g.V.Level.levels level.lawful c.args.track.now c.runs-runs.ensures.track c.loop-index.index c.args.lowest _ _ here there (sym c.is_at_most.ensures ∙ c.if-is_at_most.false) in
-    rw c.floor.ensures (behind_range g.V.Level.levels level.lawful c.args.track.now c.runs-runs.ensures.track c.loop-index.index _ here c.args.from _ c.loop-index.cost
-    (let order = c.loop-index.invariant.behind in omega arith) c.loop-index.invariant.cost low)
+    let next = c.in-Some.ensures.behind c.in-Some.next refl in
+    let index = c.in-Some.ensures.index c.in-Some.next refl in
+    let joined = adjacent g.V.Level.levels level.lawful c.args.track.now c.end-end.ensures.track c.requires.whole c.loop-next.last c.in-Some.next c.loop-next.invariant.last next index in
+    let before = subst (λ x. IsCostAt g.V.Level.levels c.args.track.now c.args.from.stretch.from x c.args.level c.loop-next.cost) joined c.loop-next.invariant.cost in
+    let low = higher g.V.Level.levels level.lawful c.args.track.now c.end-end.ensures.track c.requires.whole c.in-Some.next c.args.lowest c.least_on.result c.args.level next c.requires.lowest c.least_on.ensures c.requires.level
+    (sym c.is_at_most.ensures ∙ c.if-is_at_most.false) in
+    rw c.floor.ensures (behind_range g.V.Level.levels level.lawful c.args.track.now c.end-end.ensures.track c.args.from.stretch.from c.in-Some.next.stretch.from c.in-Some.next.stretch.to c.args.level c.least_on.result c.loop-next.cost next.on_track.inside before c.least_on.ensures low)
 
 pub price_on-cost-requires-clause-below : goal.price_on-cost-requires-clause-below
 price_on-cost-requires-clause-below g c κs within = λ x v from_low to_high at.
     let level = g.met.V.Level g.world.𝓛 g.world.𝓜 g.world.𝓡 ((λ s x. x), (λ x. x), (λ x. x), λ x. x) in
-    let there = run_at c.runs-runs.result.now c.args.track.now.steps c.args.lowest c.index-runs-lowest.result c.runs-runs.ensures.runs c.requires.inside in
-    let here = run_at c.runs-runs.result.now c.args.track.now.steps c.loop-index.index c.index-runs-index.result c.runs-runs.ensures.runs (omega (arith, ap length c.runs-runs.ensures.runs)) in
-    let low = higher g.V.Level.levels level.lawful c.args.track.now c.runs-runs.ensures.track c.loop-index.index c.args.lowest _ _ here there (sym c.is_at_most.ensures ∙ c.if-is_at_most.false) in
-    rw c.floor.ensures (behind_below g.V.Level.levels level.lawful c.args.track.now c.runs-runs.ensures.track c.loop-index.index _ here c.args.from _ c.loop-index.cost
-    (let order = c.loop-index.invariant.behind in omega arith) c.loop-index.invariant.cost low x v from_low to_high at)
+    let next = c.in-Some.ensures.behind c.in-Some.next refl in
+    let index = c.in-Some.ensures.index c.in-Some.next refl in
+    let joined = adjacent g.V.Level.levels level.lawful c.args.track.now c.end-end.ensures.track c.requires.whole c.loop-next.last c.in-Some.next c.loop-next.invariant.last next index in
+    let before = subst (λ x. IsCostAt g.V.Level.levels c.args.track.now c.args.from.stretch.from x c.args.level c.loop-next.cost) joined c.loop-next.invariant.cost in
+    let low = higher g.V.Level.levels level.lawful c.args.track.now c.end-end.ensures.track c.requires.whole c.in-Some.next c.args.lowest c.least_on.result c.args.level next c.requires.lowest c.least_on.ensures c.requires.level
+    (sym c.is_at_most.ensures ∙ c.if-is_at_most.false) in
+    rw c.floor.ensures (behind_below g.V.Level.levels level.lawful c.args.track.now c.end-end.ensures.track c.args.from.stretch.from c.in-Some.next.stretch.from c.in-Some.next.stretch.to c.args.level c.least_on.result c.loop-next.cost next.on_track.inside before c.least_on.ensures low x v from_low to_high at)
 
 cost_here : (g : Over) (c : After-price_on-cost g)
-    → IsCostAt g.V.Level.levels c.args.track.now c.args.from (c.loop-index.index + 1) (slice_index_or c.runs-runs.result.now c.args.lowest c.index-runs-lowest.result).1 (c.loop-index.cost + c.price_on-cost.result)
+    → IsCostAt g.V.Level.levels c.args.track.now c.args.from.stretch.from c.in-Some.next.stretch.to c.args.level (c.loop-next.cost + c.price_on-cost.result)
 cost_here g c =
     let level = g.met.V.Level g.world.𝓛 g.world.𝓜 g.world.𝓡 ((λ s x. x), (λ x. x), (λ x. x), λ x. x) in
-    let there = run_at c.runs-runs.result.now c.args.track.now.steps c.args.lowest c.index-runs-lowest.result c.runs-runs.ensures.runs c.requires.inside in
-    let here = run_at c.runs-runs.result.now c.args.track.now.steps c.loop-index.index c.index-runs-index.result c.runs-runs.ensures.runs (omega (arith, ap length c.runs-runs.ensures.runs)) in
-    let low = higher g.V.Level.levels level.lawful c.args.track.now c.runs-runs.ensures.track c.loop-index.index c.args.lowest _ _ here there (sym c.is_at_most.ensures ∙ c.if-is_at_most.false) in
-    behind g.V.Level.levels level.lawful c.args.track.now c.runs-runs.ensures.track c.loop-index.index _ here c.args.from _ c.loop-index.cost
-    (let order = c.loop-index.invariant.behind in omega arith) c.loop-index.invariant.cost low c.price_on-cost.result (rw c.floor.ensures at c.price_on-cost.ensures.price) c.price_on-cost.ensures.bound
+    let next = c.in-Some.ensures.behind c.in-Some.next refl in
+    let index = c.in-Some.ensures.index c.in-Some.next refl in
+    let joined = adjacent g.V.Level.levels level.lawful c.args.track.now c.end-end.ensures.track c.requires.whole c.loop-next.last c.in-Some.next c.loop-next.invariant.last next index in
+    let before = subst (λ x. IsCostAt g.V.Level.levels c.args.track.now c.args.from.stretch.from x c.args.level c.loop-next.cost) joined c.loop-next.invariant.cost in
+    let low = higher g.V.Level.levels level.lawful c.args.track.now c.end-end.ensures.track c.requires.whole c.in-Some.next c.args.lowest c.least_on.result c.args.level next c.requires.lowest c.least_on.ensures c.requires.level
+    (sym c.is_at_most.ensures ∙ c.if-is_at_most.false) in
+    behind g.V.Level.levels level.lawful c.args.track.now c.end-end.ensures.track c.args.from.stretch.from c.in-Some.next.stretch.from c.in-Some.next.stretch.to c.args.level c.least_on.result c.loop-next.cost next.on_track.inside before c.least_on.ensures low
+    c.price_on-cost.result (rw c.floor.ensures at c.price_on-cost.ensures.price) c.price_on-cost.ensures.bound
 
 pub overflow_add-cost : goal.overflow_add-cost
 overflow_add-cost g c =
-    let level = g.met.V.Level g.world.𝓛 g.world.𝓜 g.world.𝓡 ((λ s x. x), (λ x. x), (λ x. x), λ x. x) in
     let bound = (cost_here g (goal.at.overflow_add-cost g c).After-price_on-cost).bound in
-    let end = at_most_end g.V.Level.levels level.lawful c.args.track.now c.runs-runs.ensures.track (c.loop-index.index + 1) (omega (arith, ap length c.runs-runs.ensures.runs)) in
-    let near = c.runs-runs.ensures.within_limit in
+    let next = c.in-Some.ensures.behind c.in-Some.next refl in
+    let end = next.on_track.inside in
+    let near = c.end-end.ensures.within_limit in
     omega arith
 
 pub first_row-requires-clause-wide : goal.first_row-requires-clause-wide
-first_row-requires-clause-wide g c = record { width = length c.args.track.now.steps; wide = c.requires.wide; room = omega (arith, ap length c.runs-runs.ensures.runs) }
-
-pub loop-index-preserved : goal.loop-index-preserved
-loop-index-preserved g c =
+first_row-requires-clause-wide g c =
     let level = g.met.V.Level g.world.𝓛 g.world.𝓜 g.world.𝓡 ((λ s x. x), (λ x. x), (λ x. x), λ x. x) in
-    let order = c.loop-index.invariant.behind in
-    let cost = cost_here g (goal.at.loop-index-preserved g c).After-price_on-cost in
-    let inside : c.loop-index.index + 1 ≤ length c.args.track.now.steps = omega (arith, ap length c.runs-runs.ensures.runs) in
-    let is = cost_is g.V.Level.levels level.lawful c.args.track.now c.runs-runs.ensures.track c.args.from (c.loop-index.index + 1) _ _ inside cost in
+    let next = c.in-Some.ensures.behind c.in-Some.next refl in
+    let room = inside g.V.Level.levels level.lawful c.args.track.now c.end-end.ensures.track c.requires.whole c.in-Some.next next in
+    record { width = stretches_of c.args.track.now; wide = c.requires.wide; room = omega arith }
+
+pub loop-next-preserved : goal.loop-next-preserved
+loop-next-preserved g c =
+    let level = g.met.V.Level g.world.𝓛 g.world.𝓜 g.world.𝓡 ((λ s x. x), (λ x. x), (λ x. x), λ x. x) in
+    let next = c.in-Some.ensures.behind c.in-Some.next refl in
+    let index = c.in-Some.ensures.index c.in-Some.next refl in
+    let order = c.loop-next.invariant.behind in
+    let cost = cost_here g (goal.at.loop-next-preserved g c).After-price_on-cost in
+    let room = inside g.V.Level.levels level.lawful c.args.track.now c.end-end.ensures.track c.requires.whole c.in-Some.next next in
+    let is = cost_of g.V.Level.levels level.lawful c.args.track.now c.end-end.ensures.track c.requires.whole c.args.from c.in-Some.next c.args.level _ c.requires.from next cost in
     record {
-      behind = omega arith;
+      last = next;
+      behind = omega (arith, index);
       cost = cost;
       first = rw c.earlier-first.ensures (first_of_both g.V.Level.levels c.args.track.now (prices_of c.args.rows.now)
-          (λ f to. (f ≡ c.args.from) × (to ≤ c.loop-index.index) × IsLowestRun g.V.Level.levels c.args.track.now f to c.args.lowest)
-          (Pair g.V.Level.levels c.args.track.now (prices_of c.args.rows.now) c.args.from (c.loop-index.index + 1))
-          (λ f to. (f ≡ c.args.from) × (to ≤ c.loop-index.index + 1) × IsLowestRun g.V.Level.levels c.args.track.now f to c.args.lowest)
-          c.loop-index.first c.first_row.result
-          (λ f to on column j. elim (up_to_or_past to c.loop-index.index) [
+          (λ f to. (f ≡ c.args.from.index) × (to ≤ c.loop-next.last.index + 1) × IsLowestStretch g.V.Level.levels c.args.track.now f to c.args.lowest.index)
+          (Pair g.V.Level.levels c.args.track.now (prices_of c.args.rows.now) c.args.from.index (c.in-Some.next.index + 1))
+          (λ f to. (f ≡ c.args.from.index) × (to ≤ c.in-Some.next.index + 1) × IsLowestStretch g.V.Level.levels c.args.track.now f to c.args.lowest.index)
+          c.loop-next.first c.first_row.result
+          (λ f to on column j. elim (up_to_or_past to (c.loop-next.last.index + 1)) [
             | inl h ↦ inl (j.0, h, j.2)
-            | inr past ↦ inr (j.0, let last = j.1 in omega arith)
+            | inr past ↦ inr (j.0, let last = j.1 in omega (arith, index))
           ])
-          c.loop-index.invariant.first
-          (first_of_row g.V.Level.levels c.args.track.now (prices_of c.args.rows.now) c.args.from (c.loop-index.index + 1) _ c.first_row.result (omega arith) inside is c.first_row.ensures));
+          c.loop-next.invariant.first
+          (first_of_row g.V.Level.levels c.args.track.now (prices_of c.args.rows.now) c.args.from.index (c.in-Some.next.index + 1) _ c.first_row.result (omega (arith, index)) (omega arith) is c.first_row.ensures));
     }
 
 pub returns : goal.returns
 returns g c =
-    first_of_fewer g.V.Level.levels c.args.track.now (prices_of c.args.rows.now)
-    (λ f to. (f ≡ c.args.from) × (to ≤ c.loop-index.index) × IsLowestRun g.V.Level.levels c.args.track.now f to c.args.lowest)
-    (λ f to. (f ≡ c.args.from) × IsLowestRun g.V.Level.levels c.args.track.now f to c.args.lowest) c.loop-index.first
-    (λ f to on column j. (j.0, omega (arith, ap length c.runs-runs.ensures.runs), j.1)) c.loop-index.invariant.first
+    let last = c.column_behind.ensures.last c.in_default.is in
+    first_of_fewer g.V.Level.levels c.args.track.now (prices_of c.args.rows.now) (λ f to. (f ≡ c.args.from.index) × (to ≤ c.loop-next.last.index + 1) × IsLowestStretch g.V.Level.levels c.args.track.now f to c.args.lowest.index)
+    (λ f to. (f ≡ c.args.from.index) × IsLowestStretch g.V.Level.levels c.args.track.now f to c.args.lowest.index) c.loop-next.first
+    (λ f to on column j. (j.0, omega (arith, last, column), j.1)) c.loop-next.invariant.first
+
+pub loop-next-smaller : goal.loop-next-smaller
+loop-next-smaller g c =
+    let level = g.met.V.Level g.world.𝓛 g.world.𝓜 g.world.𝓡 ((λ s x. x), (λ x. x), (λ x. x), λ x. x) in
+    let next = c.in-Some.ensures.behind c.in-Some.next refl in
+    let index = c.in-Some.ensures.index c.in-Some.next refl in
+    let room = inside g.V.Level.levels level.lawful c.args.track.now c.end-end.ensures.track c.requires.whole c.in-Some.next next in
+    omega arith
+
+pub overflow_add-lowest : goal.overflow_add-lowest
+overflow_add-lowest g c =
+    let level = g.met.V.Level g.world.𝓛 g.world.𝓜 g.world.𝓡 ((λ s x. x), (λ x. x), (λ x. x), λ x. x) in
+    let small = index_small g.V.Level.levels level.lawful c.args.track.now c.end-end.ensures.track c.requires.whole c.args.lowest c.requires.lowest in
+    let near = c.end-end.ensures.within_limit in
+    omega arith
+
+pub overflow_add-next : goal.overflow_add-next
+overflow_add-next g c =
+    let level = g.met.V.Level g.world.𝓛 g.world.𝓜 g.world.𝓡 ((λ s x. x), (λ x. x), (λ x. x), λ x. x) in
+    let small = index_small g.V.Level.levels level.lawful c.args.track.now c.end-end.ensures.track c.requires.whole c.in-Some.next (c.in-Some.ensures.behind c.in-Some.next refl) in
+    let near = c.end-end.ensures.within_limit in
+    omega arith

@@ -1,12 +1,13 @@
 use Rattle.std.proofs.Common.{arith, ◌≡◌, ◌≢◌, ℕ, suc, ◌+◌, ◌-◌, ◌<◌, ◌++◌, ◌∷◌, [], refl, ap, sym, ◌∙◌, subst, length, get_or}
 use Rattle.std.proofs.lemmas.Option.{slice_get-get_or}
 use Rattle.rbc_model.specs.PriceTables.{stretch_count}
+use Rattle.rbc_model.specs.Scales.{unit_of}
 use Rattle.rbc_table_laws.specs.Tracebacks.{IsOnWay, IsTracedTo}
-use Rattle.rbc_table_laws.specs.Breaks.{cost_between}
+use Rattle.rbc_table_laws.specs.Stretches.{breaks_for, cost_of_step}
 use Rattle.rbc_table_laws.specs.PriceRows.{prices_of}
 use Rattle.rbc_reduce.specs.Columns.{IsColumn}
 use Rattle.rbc_reduce.specs.Rows.{price_in}
-use Rattle.rbc_reduce.proofs.ReadBackLemmas.{some_row, begun, read_off, some_column, some_break, one_back}
+use Rattle.rbc_reduce.proofs.ReadBackLemmas.{some_unit, some_row, begun, read_off, some_column, some_break, one_back}
 use Rattle.rbc_reduce.proofs.traceback.steps_of.Given.{Over}
 use Rattle.rbc_reduce.proofs.traceback.steps_of.Goals as goal
 use Rattle.rbc_reduce.proofs.traceback.steps_of.Goals.{After-as_slice}
@@ -14,31 +15,29 @@ use Rattle.rbc_reduce.proofs.traceback.steps_of.Goals.{After-as_slice}
 pub fewest-count-requires-clause-some : goal.fewest-count-requires-clause-some
 fewest-count-requires-clause-some g c =
     let level = g.met.V.Level g.world.𝓛 g.world.𝓜 g.world.𝓡 ((λ s x. x), (λ x. x), (λ x. x), λ x. x) in
-    some_row g.V.Level.levels level.lawful c.args.track.now c.runs-to.ensures.track c.args.breaks.now c.requires.breaks c.args.limit c.args.rows.now c.requires.table c.requires.some
-
-pub fewest-count-requires-clause-wide : goal.fewest-count-requires-clause-wide
-fewest-count-requires-clause-wide g c = rw c.runs-to.ensures.runs c.requires.wide
+    some_row g.V.Level.levels level.lawful c.args.track.now c.runs-runs.ensures.track (unit_of c.args.track.now.end) (some_unit c.args.track.now.end) c.requires.whole (breaks_for (unit_of c.args.track.now.end) c.args.track.now) c.requires.stretches.breaks c.args.limit c.args.rows.now c.requires.table c.requires.some
 
 pub loop-before-init : goal.loop-before-init
 loop-before-init g c =
     let level = g.met.V.Level g.world.𝓛 g.world.𝓜 g.world.𝓡 ((λ s x. x), (λ x. x), (λ x. x), λ x. x) in
-    let runs : length c.runs-to.result.now ≡ length c.args.track.now.steps = ap length c.runs-to.ensures.runs in
-    let price = rw c.runs-to.ensures.runs at c.fewest-count.ensures.price in
-    let first = rw c.runs-to.ensures.runs at c.fewest-count.ensures.first in
-    let begun = begun g.V.Level.levels level.lawful c.args.track.now c.runs-to.ensures.track c.args.breaks.now c.requires.breaks c.args.limit c.args.rows.now c.requires.table
-    c.fewest-count.result c.fewest-count.ensures.some c.fewest-count.ensures.inside price first (length c.runs-to.result.now) runs in
+    let count = c.requires.stretches.count in
+    let columns : length c.args.stretches.now ≡ length (breaks_for (unit_of c.args.track.now.end) c.args.track.now) - 1 = omega arith in
+    let price = rw columns at c.fewest-count.ensures.price in
+    let first = rw columns at c.fewest-count.ensures.first in
+    let begun = begun g.V.Level.levels level.lawful c.args.track.now c.runs-runs.ensures.track (unit_of c.args.track.now.end) (some_unit c.args.track.now.end) c.requires.whole (breaks_for (unit_of c.args.track.now.end) c.args.track.now) c.requires.stretches.breaks c.args.limit c.args.rows.now c.requires.table
+    c.fewest-count.result c.fewest-count.ensures.some c.fewest-count.ensures.inside price first (length c.args.stretches.now) columns in
     (omega arith, rw c.in_ok-steps.ensures.items begun.0, begun.1)
 
 -- the row from which a step is looked for
-on_here : (g : Over) (c : After-as_slice g) → IsOnWay g.V.Level.levels 1 c.args.limit c.args.track.now.end c.args.track.now.steps (prices_of c.args.rows.now) (suc (c.loop-before.before - 1)) c.loop-before.to
+on_here : (g : Over) (c : After-as_slice g) → IsOnWay g.V.Level.levels (unit_of c.args.track.now.end) c.args.limit c.args.track.now.end c.args.track.now.steps (prices_of c.args.rows.now) (suc (c.loop-before.before - 1)) c.loop-before.to
 on_here g c =
     let next : c.loop-before.before ≡ suc (c.loop-before.before - 1) = omega arith in
-    subst (λ j. IsOnWay g.V.Level.levels 1 c.args.limit c.args.track.now.end c.args.track.now.steps (prices_of c.args.rows.now) j c.loop-before.to) next c.loop-before.invariant.2
+    subst (λ j. IsOnWay g.V.Level.levels (unit_of c.args.track.now.end) c.args.limit c.args.track.now.end c.args.track.now.steps (prices_of c.args.rows.now) j c.loop-before.to) next c.loop-before.invariant.2
 
 some_here : (g : Over) (c : After-as_slice g) → 0 < c.loop-before.to
 some_here g c =
     let level = g.met.V.Level g.world.𝓛 g.world.𝓜 g.world.𝓡 ((λ s x. x), (λ x. x), (λ x. x), λ x. x) in
-    some_column g.V.Level.levels level.lawful c.args.track.now c.runs-to.ensures.track c.args.breaks.now c.requires.breaks c.args.limit c.args.rows.now c.requires.table (c.loop-before.before - 1) c.loop-before.to
+    some_column g.V.Level.levels level.lawful c.args.track.now c.runs-runs.ensures.track (unit_of c.args.track.now.end) (some_unit c.args.track.now.end) c.requires.whole (breaks_for (unit_of c.args.track.now.end) c.args.track.now) c.requires.stretches.breaks c.args.limit c.args.rows.now c.requires.table (c.loop-before.before - 1) c.loop-before.to
     (on_here g c)
 
 pub first_break-from-requires-clause-wide : goal.first_break-from-requires-clause-wide
@@ -48,14 +47,15 @@ first_break-from-requires-clause-wide g c =
     record { width = wide.width; wide = wide.wide; room = omega (arith, c.loop-before.invariant.0) }
 
 -- the costs that are handed on
-column_here : (g : Over) (c : After-as_slice g) → IsColumn g.V.Level.levels c.args.track.now c.loop-before.to c.as_slice.result.now
+column_here : (g : Over) (c : After-as_slice g) → IsColumn g.V.Level.levels (unit_of c.args.track.now.end) c.args.track.now c.loop-before.to c.as_slice.result.now
 column_here g c =
     let some = some_here g c in
     let width = c.requires.columns.count in
+    let count = c.requires.stretches.count in
     let inside = c.loop-before.invariant.0 in
     let there = slice_get-get_or c.args.columns.now (c.loop-before.to - 1) c.index-columns-to.result (omega arith) in
     let next : suc (c.loop-before.to - 1) ≡ c.loop-before.to = omega arith in
-    subst (λ k. IsColumn g.V.Level.levels c.args.track.now k c.as_slice.result.now) next
+    subst (λ k. IsColumn g.V.Level.levels (unit_of c.args.track.now.end) c.args.track.now k c.as_slice.result.now) next
     (rw (c.as_slice.ensures.value ∙ ap (λ column. column.items) c.index-columns-to.is) (c.requires.columns.each (c.loop-before.to - 1) _ there))
 
 pub first_break-from-requires-clause-room : goal.first_break-from-requires-clause-room
@@ -72,8 +72,8 @@ first_break-from-requires-clause-some g c =
     let level = g.met.V.Level g.world.𝓛 g.world.𝓜 g.world.𝓡 ((λ s x. x), (λ x. x), (λ x. x), λ x. x) in
     let at = goal.at.first_break-from-requires-clause-some g c in
     let next : c.loop-before.before - 1 + 1 ≡ suc (c.loop-before.before - 1) = omega arith in
-    let some = some_break g.V.Level.levels level.lawful c.args.track.now c.runs-to.ensures.track c.args.breaks.now c.requires.breaks c.args.limit c.args.rows.now c.requires.table
-    (c.loop-before.before - 1) c.loop-before.to (omega arith) c.loop-before.invariant.0 (on_here g at.After-as_slice) in
+    let some = some_break g.V.Level.levels level.lawful c.args.track.now c.runs-runs.ensures.track (unit_of c.args.track.now.end) (some_unit c.args.track.now.end) c.requires.whole (breaks_for (unit_of c.args.track.now.end) c.args.track.now) c.requires.stretches.breaks c.args.limit c.args.rows.now c.requires.table
+    (c.loop-before.before - 1) c.loop-before.to (omega arith) (omega (arith, c.loop-before.invariant.0, c.requires.stretches.count)) (on_here g at.After-as_slice) in
     let cost = (column_here g at.After-as_slice).are some.0 some.1 in
     rw next (some.0, some.1, ap (λ k. price_in c.args.rows.now (c.loop-before.before - 1) some.0 + k) cost ∙ some.2)
 
@@ -87,27 +87,31 @@ loop-before-preserved g c =
     let row : c.loop-before.before ≡ suc (c.loop-before.before - 1) = omega arith in
     let from = c.first_break-from.result in
     let inside = c.first_break-from.ensures.inside in
-    let more : c.push.new.self.items ≡ c.loop-before.steps.items ++ (get_or c.args.breaks.now c.first_break-from.result 0, c.floor.result) ∷ [] = c.in_ok-push.ensures.items in
+    let more : c.push.new.self.items ≡ c.loop-before.steps.items ++ ((get_or c.args.stretches.now c.first_break-from.result c.index-stretches-from.result).0.from, c.floor.result) ∷ [] = c.in_ok-push.ensures.items in
+    let there = slice_get-get_or c.args.stretches.now c.first_break-from.result c.index-stretches-from.result (omega arith) in
+    let start = (c.requires.stretches.stand c.first_break-from.result _ there).from in
     let column = column_here g at.After-as_slice in
     let cost = column.are c.first_break-from.result inside in
     let adds_up = ap (λ k. price_in c.args.rows.now (c.loop-before.before - 1) c.first_break-from.result + k) (sym cost) ∙ (rw next at c.first_break-from.ensures.adds_up) in
-    let first : (k : ℕ) → k < c.first_break-from.result → price_in c.args.rows.now (c.loop-before.before - 1) k + cost_between g.V.Level.levels c.args.track.now k c.loop-before.to ≢ price_in c.args.rows.now (suc (c.loop-before.before - 1)) c.loop-before.to =
+    let first : (k : ℕ) → k < c.first_break-from.result → price_in c.args.rows.now (c.loop-before.before - 1) k + cost_of_step g.V.Level.levels (unit_of c.args.track.now.end) c.args.track.now k c.loop-before.to ≢ price_in c.args.rows.now (suc (c.loop-before.before - 1)) c.loop-before.to =
     λ k h e. c.first_break-from.ensures.first k h (rw next (ap (λ x. price_in c.args.rows.now (c.loop-before.before - 1) k + x) (column.are k (omega arith)) ∙ e)) in
-    let traced = subst (λ k. IsTracedTo g.V.Level.levels 1 c.args.limit c.args.track.now.end c.args.track.now.steps (prices_of c.args.rows.now) c.fewest-count.result
-    (stretch_count g.V.Level.levels 1 c.args.limit c.args.track.now.end c.args.track.now.steps) c.loop-before.steps.items k c.loop-before.to) row i.1 in
-    let back = one_back g.V.Level.levels level.lawful c.args.track.now c.runs-to.ensures.track c.args.breaks.now c.requires.breaks c.args.limit c.args.rows.now c.requires.table
-    c.fewest-count.result c.loop-before.steps.items (c.loop-before.before - 1) c.loop-before.to c.first_break-from.result _ c.least_of-least.result c.floor.result (omega arith) i.0
-    (on_here g at.After-as_slice) traced inside adds_up first c.least_of-least.ensures refl c.floor.ensures in
+    let traced = subst (λ k. IsTracedTo g.V.Level.levels (unit_of c.args.track.now.end) c.args.limit c.args.track.now.end c.args.track.now.steps (prices_of c.args.rows.now) c.fewest-count.result
+    (stretch_count g.V.Level.levels (unit_of c.args.track.now.end) c.args.limit c.args.track.now.end c.args.track.now.steps) c.loop-before.steps.items k c.loop-before.to) row i.1 in
+    let back = one_back g.V.Level.levels level.lawful c.args.track.now c.runs-runs.ensures.track (unit_of c.args.track.now.end) (some_unit c.args.track.now.end) c.requires.whole (breaks_for (unit_of c.args.track.now.end) c.args.track.now) c.requires.stretches.breaks c.args.limit c.args.rows.now c.requires.table
+    c.fewest-count.result c.loop-before.steps.items (c.loop-before.before - 1) c.loop-before.to c.first_break-from.result _ c.least_of-least.result c.floor.result (omega arith) (omega (arith, i.0, c.requires.stretches.count))
+    (on_here g at.After-as_slice) traced inside adds_up first c.least_of-least.ensures start c.floor.ensures in
     (omega arith, rw more back.0, back.1)
 
 pub returns : goal.returns
 returns g c =
     let level = g.met.V.Level g.world.𝓛 g.world.𝓜 g.world.𝓡 ((λ s x. x), (λ x. x), (λ x. x), λ x. x) in
     let i = c.loop-before.invariant in
-    let price = rw c.runs-to.ensures.runs at c.fewest-count.ensures.price in
-    let first = rw c.runs-to.ensures.runs at c.fewest-count.ensures.first in
+    let count = c.requires.stretches.count in
+    let columns : length c.args.stretches.now ≡ length (breaks_for (unit_of c.args.track.now.end) c.args.track.now) - 1 = omega arith in
+    let price = rw columns at c.fewest-count.ensures.price in
+    let first = rw columns at c.fewest-count.ensures.first in
     let none : c.loop-before.before ≡ 0 = omega arith in
     let traced = rw none at i.1 in
     let on = rw none at i.2 in
-    rw c.reverse.ensures.items (read_off g.V.Level.levels level.lawful c.args.track.now c.runs-to.ensures.track c.args.breaks.now c.requires.breaks c.args.limit c.args.rows.now c.requires.table
+    rw c.reverse.ensures.items (read_off g.V.Level.levels level.lawful c.args.track.now c.runs-runs.ensures.track (unit_of c.args.track.now.end) (some_unit c.args.track.now.end) c.requires.whole (breaks_for (unit_of c.args.track.now.end) c.args.track.now) c.requires.stretches.breaks c.args.limit c.args.rows.now c.requires.table
     c.fewest-count.result c.fewest-count.ensures.some c.fewest-count.ensures.inside price first c.loop-before.steps.items c.loop-before.to traced on)

@@ -1,5 +1,6 @@
 use Rattle.std.proofs.Common.{◌≤◌, length}
 use Rattle.rbc_model.specs.PriceTables.{stretch_count}
+use Rattle.rbc_model.specs.Scales.{unit_of}
 use Rattle.rbc_table_laws.specs.Tracebacks.{IsOnWay, IsTracedTo}
 use Rattle.rbc_table_laws.specs.PriceRows.{prices_of}
 use Rattle.rbc_reduce.proofs.traceback.steps_of.Given as goal
@@ -7,6 +8,7 @@ use Rattle.rbc_reduce.proofs.traceback.steps_of.Given as goal
 abbrev pub invariant-loop-before : goal.invariant-loop-before
 invariant-loop-before g l =
     let levels = g.V.Level.levels in
-    (l.to ≤ length l.track.steps)
-    × IsTracedTo levels 1 l.limit l.track.end l.track.steps (prices_of l.rows) l.count (stretch_count levels 1 l.limit l.track.end l.track.steps) l.steps.items l.before l.to
-    × IsOnWay levels 1 l.limit l.track.end l.track.steps (prices_of l.rows) l.before l.to
+    let unit = unit_of l.track.end in
+    (l.to ≤ length l.stretches)
+    × IsTracedTo levels unit l.limit l.track.end l.track.steps (prices_of l.rows) l.count (stretch_count levels unit l.limit l.track.end l.track.steps) l.steps.items l.before l.to
+    × IsOnWay levels unit l.limit l.track.end l.track.steps (prices_of l.rows) l.before l.to

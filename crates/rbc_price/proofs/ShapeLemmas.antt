@@ -1,0 +1,77 @@
+-- The shape of a table: what it says, test by test.
+use Rattle.std.proofs.Common.{◌≡◌, refl, sym, ◌∙◌, arith, ℕ, ◌%◌, ◌≤◌, List, length, Bool, true, false, ◌&&◌, ◌==◌, nat_le, min}
+use Rattle.std.specs.List.{list_all}
+use Rattle.std.proofs.lemmas.Bool.{eqb-true, eq-eqb, le-leb, leb-true}
+use Rattle.rbc_model.specs.declared.limits.TheConstants.{MOST_STEPS}
+use Rattle.rbc_model.specs.Results.{is_from_to}
+use Rattle.rbc_model.specs.Levels.{Levels}
+use Rattle.rbc_model.specs.Profiles.{StepFunction, starts_of, are_multiples}
+use Rattle.rbc_model.specs.Scales.{unit_of}
+use Rattle.rbc_model.specs.PriceChecks.{has_shape}
+use Rattle.rbc_model.proofs.CountingLemmas.{both_of}
+use Rattle.rbc_price.specs.Columns.{stretches_of}
+
+both : (a b : Bool) → a ≡ true → b ≡ true → (a && b) ≡ true
+both true b e f = f
+both false b e f = e
+
+module _ {V : Type 0} (levels : Levels V) (limit : ℕ) (track profile : StepFunction V) (rows : List (List ℕ)) where
+  pub record IsShaped : Type 0 where
+    pub some : 1 ≤ limit
+    pub few : limit ≤ MOST_STEPS
+    pub end : track.end ≡ profile.end
+    pub whole : track.end % unit_of track.end ≡ 0
+    pub in_units : are_multiples (unit_of track.end) (starts_of profile.steps) ≡ true
+    pub count : length rows ≡ min limit (stretches_of track)
+    pub wide : list_all (λ row. length row == stretches_of track) rows ≡ true
+
+  abbrev ends : Bool
+  ends = is_from_to 1 MOST_STEPS limit && (track.end == profile.end)
+
+  abbrev units : Bool
+  units = ends && (track.end % unit_of track.end == 0) && are_multiples (unit_of track.end) (starts_of profile.steps)
+
+  pub shaped : has_shape levels limit track profile rows ≡ true → IsShaped
+  shaped e =
+      let wide = both_of (units && (length rows == min limit (stretches_of track))) (list_all (λ row. length row == stretches_of track) rows) e in
+      let count = both_of units (length rows == min limit (stretches_of track)) wide.0 in
+      let in_units = both_of (ends && (track.end % unit_of track.end == 0)) (are_multiples (unit_of track.end) (starts_of profile.steps)) count.0 in
+      let whole = both_of ends (track.end % unit_of track.end == 0) in_units.0 in
+      let end = both_of (is_from_to 1 MOST_STEPS limit) (track.end == profile.end) whole.0 in
+      let limits = both_of (nat_le 1 limit) (nat_le limit MOST_STEPS) end.0 in
+      record {
+        some = leb-true 1 limit limits.0;
+        few = leb-true limit MOST_STEPS limits.1;
+        end = eqb-true track.end profile.end end.1;
+        whole = eqb-true (track.end % unit_of track.end) 0 whole.1;
+        in_units = in_units.1;
+        count = eqb-true (length rows) (min limit (stretches_of track)) count.1;
+        wide = wide.1;
+      }
+
+  pub has_shape_of : IsShaped → has_shape levels limit track profile rows ≡ true
+  has_shape_of s =
+      let limits = both (nat_le 1 limit) (nat_le limit MOST_STEPS) (le-leb 1 limit s.some) (le-leb limit MOST_STEPS s.few) in
+      let end = both (is_from_to 1 MOST_STEPS limit) (track.end == profile.end) limits (eq-eqb track.end profile.end s.end) in
+      let whole = both ends (track.end % unit_of track.end == 0) end (eq-eqb (track.end % unit_of track.end) 0 s.whole) in
+      let in_units = both (ends && (track.end % unit_of track.end == 0)) (are_multiples (unit_of track.end) (starts_of profile.steps)) whole s.in_units in
+      let count = both units (length rows == min limit (stretches_of track)) in_units (eq-eqb (length rows) (min limit (stretches_of track)) s.count) in
+      both (units && (length rows == min limit (stretches_of track))) (list_all (λ row. length row == stretches_of track) rows) count s.wide
+
+  not_true : (test : Bool) → (test ≡ true → ⊥) → false ≡ test
+  not_true true never = absurd (never refl)
+  not_true false never = refl
+
+  -- it has not, where one of its tests fails
+  pub no_shape : (IsShaped → ⊥) → false ≡ has_shape levels limit track profile rows
+  no_shape never = not_true (has_shape levels limit track profile rows) (λ e. never (shaped e))
+
+  same_test : (a b : Bool) → (a ≡ true → b ≡ true) → (b ≡ true → a ≡ true) → a ≡ b
+  same_test true true f g = refl
+  same_test true false f g = sym (f refl)
+  same_test false true f g = g refl
+  same_test false false f g = refl
+
+  -- where all others hold, the shape is that of the rows
+  pub shape_by_rows : (wide : Bool) → (wide ≡ true → IsShaped) → (IsShaped → wide ≡ true) → wide ≡ has_shape levels limit track profile rows
+  shape_by_rows wide there back = same_test wide (has_shape levels limit track profile rows) (λ e. has_shape_of (there e)) (λ e. back (shaped e))

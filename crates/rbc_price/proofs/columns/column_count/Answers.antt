@@ -1,0 +1,24 @@
+use Rattle.std.proofs.Common.{arith, refl}
+use Rattle.rbc_price.proofs.ColumnLemmas.{index_small, inside}
+use Rattle.rbc_price.proofs.columns.column_count.Goals as goal
+
+pub loop-next-preserved : goal.loop-next-preserved
+loop-next-preserved g c = c.in-Some.ensures.behind c.in-Some.next refl
+
+pub loop-next-smaller : goal.loop-next-smaller
+loop-next-smaller g c =
+    let level = g.met.V.Level g.world.𝓛 g.world.𝓜 g.world.𝓡 ((λ s x. x), (λ x. x), (λ x. x), λ x. x) in
+    let next = c.in-Some.ensures.behind c.in-Some.next refl in
+    let index = c.in-Some.ensures.index c.in-Some.next refl in
+    let room = inside g.V.Level.levels level.lawful c.args.track.now c.end-end.ensures.track c.requires c.in-Some.next next in
+    omega arith
+
+pub overflow_add-result : goal.overflow_add-result
+overflow_add-result g c =
+    let level = g.met.V.Level g.world.𝓛 g.world.𝓜 g.world.𝓡 ((λ s x. x), (λ x. x), (λ x. x), λ x. x) in
+    let small = index_small g.V.Level.levels level.lawful c.args.track.now c.end-end.ensures.track c.requires c.loop-next.last c.loop-next.invariant in
+    let near = c.end-end.ensures.within_limit in
+    omega arith
+
+pub returns-clause-count : goal.returns-clause-count
+returns-clause-count g c = c.column_behind.ensures.last c.in_default.is

@@ -1,0 +1,22 @@
+-- The stretches of a track, each with its least value, and what the floor of a value loses.
+use Rattle.std.specs.Prelude.{◌≡◌, ℕ, ◌+◌, ◌*◌, ◌≤◌, List, Some, length, slice_get}
+use Rattle.rbc_model.specs.Levels.{Levels}
+use Rattle.rbc_model.specs.Profiles.{StepFunction}
+use Rattle.rbc_table_laws.specs.Breaks.{IsLowest, lost_below}
+use Rattle.rbc_table_laws.specs.Stretches.{AreBreaksFor, breaks_for}
+use Rattle.rbc_stretches.specs.OnTracks.{IsStretch}
+use Rattle.rbc_stretches.specs.declared.stretch.Stretch.{Stretch}
+
+module _ {V : Type 0} (levels : Levels V) (unit : ℕ) (track : StepFunction V) where
+  -- The list has the stretches of the track, one behind the other, each with its least value.
+  pub record AreStretches (stretches : List (Stretch × V)) : Type 0 where
+    pub breaks : AreBreaksFor unit track (breaks_for unit track)
+    pub count : length stretches + 1 ≡ length (breaks_for unit track)
+    pub stand : (i : ℕ) (stretch : Stretch × V) → slice_get stretches i ≡ Some stretch → IsStretch unit track i stretch.0
+    pub least : (i : ℕ) (stretch : Stretch × V) → slice_get stretches i ≡ Some stretch → IsLowest levels track stretch.0.from stretch.0.to stretch.1
+
+module _ {V : Type 0} (levels : Levels V) (track : StepFunction V) where
+  -- The price is what the floor of a value loses from one metre up to another.
+  pub record IsLostByFloor (from to : ℕ) (value : V) (price : ℕ) : Type 0 where
+    pub lost : lost_below levels track (levels.floor value) from + price ≡ lost_below levels track (levels.floor value) to
+    pub bound : from * 1000000 + price ≤ to * 1000000

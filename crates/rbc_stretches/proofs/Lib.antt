@@ -1,0 +1,2 @@
+pub mod BackwardLemmas
+pub mod StandingLemmas
