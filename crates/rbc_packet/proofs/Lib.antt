@@ -7,3 +7,4 @@ pub mod RisingLemmas
 pub mod ElementLemmas
 pub mod PacketLemmas
 pub mod SpellingLemmas
+pub mod MessageLemmas

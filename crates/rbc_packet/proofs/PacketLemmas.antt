@@ -1,5 +1,5 @@
 -- The packets of both kinds of level are read as their layouts say.
-use Rattle.std.proofs.Common.{◌≡◌, ℕ, zero, suc, pred, ◌+◌, ◌-◌, ◌*◌, Bool, List, ◌∷◌, Result, Ok, Err, refl, arith, ap, sym, ◌∙◌, ◌&&◌, ◌==◌, nat_le, one-mul}
+use Rattle.std.proofs.Common.{◌≡◌, ℕ, zero, suc, pred, ◌+◌, ◌-◌, ◌*◌, ◌/◌, Bool, true, false, List, ◌∷◌, Result, Ok, Err, refl, arith, ap, sym, ◌∙◌, ◌&&◌, ◌==◌, nat_le, if◌then◌else◌}
 use Rattle.std.proofs.Math.Path.{fun_ext}
 use Rattle.rbc_model.specs.declared.limits.TheConstants.{GRADIENT_END_MARK, SPEED_END_MARK}
 use Rattle.rbc_model.specs.declared.messages.Fault.{Fault}
@@ -8,6 +8,7 @@ use Rattle.rbc_model.specs.declared.messages.FieldName.TheVariants.{NID_PACKET, 
 use Rattle.rbc_model.specs.Profiles.{StepFunction}
 use Rattle.rbc_model.specs.Readers.{Reader, answer, rest_of_reading, expect, field, any_field, fixed_field}
 use Rattle.rbc_model.specs.Reading.{Frame, gradient_elements_at, speed_elements_at, packet_21_at, packet_27_at}
+use Rattle.rbc_model.specs.Scales.{unit_of, scale_of, unit_of_scale}
 use Rattle.rbc_packet.proofs.ReadingLemmas.{reads_ok}
 use Rattle.rbc_packet.specs.Layouts.{Layout, elements_at, steps_at, profile_by, profile_at, ReadsProfile, gradient_layout, speed_layout}
 
@@ -36,50 +37,66 @@ pub read_head : {V : Type 0} (layout : Layout V) (direction end packet way said 
     → fixed_field NID_PACKET layout.number all ≡ Ok (packet, b₁)
     → fixed_field Q_DIR direction b₁ ≡ Ok (way, b₂)
     → any_field L_PACKET b₂ ≡ Ok (said, b₃)
-    → fixed_field Q_SCALE 1 b₃ ≡ Ok (scale, b₄)
+    → fixed_field Q_SCALE (scale_of end) b₃ ≡ Ok (scale, b₄)
     → fixed_field layout.distance 0 b₄ ≡ Ok (start, b₅)
     → layout.value_at b₅ ≡ Ok (first, b₆)
     → field N_ITER (nat_le 1) b₆ ≡ Ok (count, later)
     → expect (said == layout.bits count) Length later ≡ Ok (tt, later)
-    → profile_at layout direction end all ≡ steps_at layout end first (count - 1) later
+    → profile_at layout direction end all ≡ steps_at layout (unit_of end) (end / unit_of end) first (count - 1) later
 read_head layout direction end packet way said scale start first count all b₁ b₂ b₃ b₄ b₅ b₆ later e₁ e₂ e₃ e₄ e₅ e₆ e₇ e₈ =
-    reads_ok _ e₁ (reads_ok _ e₂ (reads_ok _ e₃ (reads_ok _ e₄ (reads_ok _ e₅ (reads_ok _ e₆ (reads_ok _ e₇ (reads_ok _ e₈ (ap (λ n. steps_at layout end first n later) (pred-is count)))))))))
+    reads_ok _ e₁ (reads_ok _ e₂ (reads_ok _ e₃ (reads_ok _ e₄ (reads_ok _ e₅ (reads_ok _ e₆ (reads_ok _ e₇ (reads_ok _ e₈ (ap (λ n. steps_at layout (unit_of end) (end / unit_of end) first n later) (pred-is count)))))))))
 
-module _ {V : Type 0} (layout : Layout V) (end : ℕ) (elements : ℕ → ℕ → Reader (List (ℕ × V))) where
-  -- how elements with distances in metres go on
+module _ {V : Type 0} (layout : Layout V) (unit end : ℕ) (elements : ℕ → ℕ → Reader (List (ℕ × V))) where
+  -- how elements with distances in units go on
   abbrev one_element : ℕ → ℕ → Reader (List (ℕ × V))
   one_element from n bits =
       rest_of_reading (field layout.distance (nat_le 1) bits) (λ distance rest.
       rest_of_reading (layout.value_at rest) (λ value more.
-      rest_of_reading (elements (from + distance) n more) (λ later. answer ((1 * (from + distance), value) ∷ later))))
+      rest_of_reading (elements (from + distance) n more) (λ later. answer ((unit * (from + distance), value) ∷ later))))
 
-  same_elements : ((from : ℕ) (bits : List Bool) → elements from 0 bits ≡ elements_at layout end from 0 bits) → ((from n : ℕ) (bits : List Bool) → elements from (suc n) bits ≡ one_element from n bits)
-      → (n from : ℕ) (bits : List Bool) → elements from n bits ≡ elements_at layout end from n bits
+  same_elements : ((from : ℕ) (bits : List Bool) → elements from 0 bits ≡ elements_at layout unit end from 0 bits) → ((from n : ℕ) (bits : List Bool) → elements from (suc n) bits ≡ one_element from n bits)
+      → (n from : ℕ) (bits : List Bool) → elements from n bits ≡ elements_at layout unit end from n bits
   same_elements last more zero from bits = last from bits
   same_elements last more (suc n) from bits =
       more from n bits
       ∙ same_then (field layout.distance (nat_le 1) bits) _ _ (λ distance rest. same_then (layout.value_at rest) _ _ (λ value later.
-      ap (λ (start : ℕ). rest_of_reading (elements (from + distance) n later) (λ (steps : List (ℕ × V)). answer ((start, value) ∷ steps))) (one-mul (from + distance))
-      ∙ ap (λ (read : Result (List (ℕ × V) × List Bool) Fault). rest_of_reading read (λ (steps : List (ℕ × V)). answer ((from + distance, value) ∷ steps))) (same_elements last more n (from + distance) later)))
+      ap (λ (read : Result (List (ℕ × V) × List Bool) Fault). rest_of_reading read (λ (steps : List (ℕ × V)). answer ((unit * (from + distance), value) ∷ steps))) (same_elements last more n (from + distance) later)))
 
-  pub same_profile : ((from : ℕ) (bits : List Bool) → elements from 0 bits ≡ elements_at layout end from 0 bits) → ((from n : ℕ) (bits : List Bool) → elements from (suc n) bits ≡ one_element from n bits)
-      → (direction : ℕ) (bits : List Bool) → profile_by layout elements direction bits ≡ profile_at layout direction end bits
-  same_profile last more direction bits = ap (λ (es : ℕ → ℕ → Reader (List (ℕ × V))). profile_by layout es direction bits) (fun_ext (λ from. fun_ext (λ n. fun_ext (λ rest. same_elements last more n from rest))))
+  pub same_profile : ((from : ℕ) (bits : List Bool) → elements from 0 bits ≡ elements_at layout unit end from 0 bits) → ((from n : ℕ) (bits : List Bool) → elements from (suc n) bits ≡ one_element from n bits)
+      → (direction scale : ℕ) (bits : List Bool) → profile_by layout elements direction scale bits ≡ profile_by layout (elements_at layout unit end) direction scale bits
+  same_profile last more direction scale bits = ap (λ (es : ℕ → ℕ → Reader (List (ℕ × V))). profile_by layout es direction scale bits) (fun_ext (λ from. fun_ext (λ n. fun_ext (λ rest. same_elements last more n from rest))))
 
--- a frame in metres
-abbrev metres : ℕ → ℕ → Frame
-metres direction end = record { direction = direction; scale = 1; end = end }
+-- what packet 15 tells of an end
+abbrev pub frame_to : ℕ → ℕ → Frame
+frame_to direction end = record { direction = direction; scale = scale_of end; end = end / unit_of end }
 
-pub packet_21-is : (direction end : ℕ) (bits : List Bool) → packet_21_at (metres direction end) bits ≡ profile_at gradient_layout direction end bits
+-- the scale tells the unit
+pub unit_said : (end : ℕ) → unit_of_scale (scale_of end) ≡ unit_of end
+unit_said end = by_test (nat_le end 32000)
+  where
+    by_test : (test : Bool) → unit_of_scale (if test then 1 else 2) ≡ (if test then 1 else 10)
+    by_test true = refl
+    by_test false = refl
+
+-- a profile's packet in a unit that is told by another
+in_unit : {V : Type 0} (layout : Layout V) (direction end : ℕ) (bits : List Bool)
+    → profile_by layout (elements_at layout (unit_of_scale (scale_of end)) (end / unit_of end)) direction (scale_of end) bits ≡ profile_at layout direction end bits
+in_unit layout direction end bits = ap (λ unit. profile_by layout (elements_at layout unit (end / unit_of end)) direction (scale_of end) bits) (unit_said end)
+
+pub packet_21-is : (direction end : ℕ) (bits : List Bool) → packet_21_at (frame_to direction end) bits ≡ profile_at gradient_layout direction end bits
 packet_21-is direction end bits =
-    same_profile gradient_layout end (gradient_elements_at (metres direction end))
-    (λ from bits. sym (regrouped (field D_GRADIENT (λ d. nat_le 1 d && (from + d == end)) bits) _ _ _ (λ distance rest. regrouped (any_field Q_GDIR rest) _ _ _ (λ uphill more. regrouped (field G_A (λ size. (size == GRADIENT_END_MARK) && (uphill == 0)) more) _ _ _ (λ size later. refl)))))
+    let count = end / unit_of end in
+    same_profile gradient_layout (unit_of_scale (scale_of end)) count (gradient_elements_at (frame_to direction end))
+    (λ from bits. sym (regrouped (field D_GRADIENT (λ d. nat_le 1 d && (from + d == count)) bits) _ _ _ (λ distance rest. regrouped (any_field Q_GDIR rest) _ _ _ (λ uphill more. regrouped (field G_A (λ size. (size == GRADIENT_END_MARK) && (uphill == 0)) more) _ _ _ (λ size later. refl)))))
     (λ from n rest. refl)
-    direction bits
+    direction (scale_of end) bits
+    ∙ in_unit gradient_layout direction end bits
 
-pub packet_27-is : (direction end : ℕ) (bits : List Bool) → packet_27_at (metres direction end) bits ≡ profile_at speed_layout direction end bits
+pub packet_27-is : (direction end : ℕ) (bits : List Bool) → packet_27_at (frame_to direction end) bits ≡ profile_at speed_layout direction end bits
 packet_27-is direction end bits =
-    same_profile speed_layout end (speed_elements_at (metres direction end))
-    (λ from bits. sym (regrouped (field D_STATIC (λ d. nat_le 1 d && (from + d == end)) bits) _ _ _ (λ distance rest. regrouped (fixed_field V_STATIC SPEED_END_MARK rest) _ _ _ (λ mark more. regrouped (fixed_field Q_FRONT 0 more) _ _ _ (λ front last. regrouped (fixed_field N_ITER 0 last) _ _ _ (λ count later. refl))))))
+    let count = end / unit_of end in
+    same_profile speed_layout (unit_of_scale (scale_of end)) count (speed_elements_at (frame_to direction end))
+    (λ from bits. sym (regrouped (field D_STATIC (λ d. nat_le 1 d && (from + d == count)) bits) _ _ _ (λ distance rest. regrouped (fixed_field V_STATIC SPEED_END_MARK rest) _ _ _ (λ mark more. regrouped (fixed_field Q_FRONT 0 more) _ _ _ (λ front last. regrouped (fixed_field N_ITER 0 last) _ _ _ (λ count later. refl))))))
     (λ from n rest. refl)
-    direction bits
+    direction (scale_of end) bits
+    ∙ in_unit speed_layout direction end bits

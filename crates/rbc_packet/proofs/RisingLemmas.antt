@@ -15,8 +15,8 @@ pub record HaveRisen {V : Type 0} (levels : Levels V) (last : ℕ) (steps : List
   pub before : list_all (λ start. nat_le start last) (starts_of steps) ≡ true
   pub expressible : list_all (λ s. levels.is_expressible s.1) steps ≡ true
 
-pub first_risen : {V : Type 0} (levels : Levels V) (first : V) → levels.is_expressible first ≡ true → HaveRisen levels 0 ((0, first) ∷ [])
-first_risen levels first e = record { rising = refl; before = refl; expressible = and e refl }
+pub first_risen : {V : Type 0} (levels : Levels V) (last : ℕ) (first : V) → levels.is_expressible first ≡ true → HaveRisen levels last ((0, first) ∷ [])
+first_risen levels last first e = record { rising = refl; before = and (le-leb 0 last (omega arith)) refl; expressible = and e refl }
 
 all-push : {X : Type 0} (test : X → Bool) (xs : List X) (x : X) → list_all test xs ≡ true → test x ≡ true → list_all test (xs ++ x ∷ []) ≡ true
 all-push test [] x all here = and here refl
@@ -51,13 +51,13 @@ starts-push test [] start value all here = and here refl
 starts-push test (s ∷ steps) start value all here = let b = both_of (test s.0) (list_all test (starts_of steps)) all in and b.0 (starts-push test steps start value b.1 here)
 
 -- one step more
-pub step_risen : {V : Type 0} (levels : Levels V) (last distance : ℕ) (value : V) (steps : List (ℕ × V)) → HaveRisen levels last steps → 1 ≤ distance → levels.is_expressible value ≡ true
-    → HaveRisen levels (last + distance) (steps ++ (last + distance, value) ∷ [])
-step_risen levels last distance value steps risen apart e =
+pub step_risen : {V : Type 0} (levels : Levels V) (last start : ℕ) (value : V) (steps : List (ℕ × V)) → HaveRisen levels last steps → last < start → levels.is_expressible value ≡ true
+    → HaveRisen levels start (steps ++ (start, value) ∷ [])
+step_risen levels last start value steps risen later e =
     record {
-      rising = zero-push last (last + distance) value steps risen.rising risen.before (omega arith);
-      before = starts-push (λ start. nat_le start (last + distance)) steps (last + distance) value (all_wider last (last + distance) (starts_of steps) (omega arith) risen.before) (le-leb (last + distance) (last + distance) (omega arith));
-      expressible = all-push (λ s. levels.is_expressible s.1) steps (last + distance, value) risen.expressible e;
+      rising = zero-push last start value steps risen.rising risen.before later;
+      before = starts-push (λ s. nat_le s start) steps start value (all_wider last start (starts_of steps) (omega arith) risen.before) (le-leb start start (omega arith));
+      expressible = all-push (λ s. levels.is_expressible s.1) steps (start, value) risen.expressible e;
     }
 
 all_below_end : (last end : ℕ) (starts : List ℕ) → last < end → list_all (λ start. nat_le start last) starts ≡ true → list_all (λ start. nat_lt start end) starts ≡ true

@@ -1,5 +1,5 @@
 -- How a packet tells a profile, the same for each kind of level.
-use Rattle.std.specs.Prelude.{◌≡◌, ℕ, zero, suc, pred, ◌+◌, ℤ, Bool, ◌&&◌, List, [], ◌∷◌, Result, Ok, Err, nat_le, ◌==◌, ◌++◌, length, ◌-◌, ◌/◌}
+use Rattle.std.specs.Prelude.{◌≡◌, ℕ, zero, suc, pred, ◌+◌, ℤ, Bool, ◌&&◌, List, [], ◌∷◌, Result, Ok, Err, nat_le, ◌==◌, ◌++◌, length, ◌-◌, ◌*◌, ◌/◌}
 use Rattle.rbc_model.specs.declared.messages.Fault.{Fault}
 use Rattle.rbc_model.specs.declared.messages.Fault.TheVariants.{Length}
 use Rattle.rbc_model.specs.declared.messages.FieldName.{FieldName}
@@ -9,6 +9,7 @@ use Rattle.rbc_model.specs.Messages.{direction_of, gradient_fields, gradient_len
 use Rattle.rbc_model.specs.Profiles.{StepFunction}
 use Rattle.rbc_model.specs.Readers.{Reader, answer, ◌>>=◌, ◌>>◌, expect, field, any_field, fixed_field}
 use Rattle.rbc_model.specs.Reading.{gradient_value_at, speed_value_at}
+use Rattle.rbc_model.specs.Scales.{unit_of, scale_of}
 
 -- How a packet tells a profile: its number, its bits for so many steps, the field of its distances, the fields of a value and of the mark
 -- at the end, and how these two are read.
@@ -22,60 +23,60 @@ pub record Layout (V : Type 0) : Type 0 where
   pub mark_at : Reader (Unit {0})
 
 module _ {V : Type 0} (layout : Layout V) where
-  -- each later step with its distance from the one before, in metres; at the end the mark
-  abbrev pub elements : ℕ → ℕ → List (ℕ × V) → List (FieldName × ℕ)
-  elements end from [] = (layout.distance, end - from) ∷ layout.mark_fields
-  elements end from (step ∷ later) =
-      (layout.distance, step.0 - from) ∷ layout.value_fields step.1 ++ elements end step.0 later
+  -- each later step with its distance from the one before, in units; at the end the mark
+  abbrev pub elements : ℕ → ℕ → ℕ → List (ℕ × V) → List (FieldName × ℕ)
+  elements unit end from [] = (layout.distance, (end - from) / unit) ∷ layout.mark_fields
+  elements unit end from (step ∷ later) =
+      (layout.distance, (step.0 - from) / unit) ∷ layout.value_fields step.1 ++ elements unit end step.0 later
 
-  -- what stands before the later ones of so many steps, with this direction and this first value
-  abbrev pub profile_head : ℕ → V → ℕ → List (FieldName × ℕ)
-  profile_head direction first steps =
+  -- what stands before the later ones of so many steps, with this direction and scale and this first value
+  abbrev pub profile_head : ℕ → ℕ → V → ℕ → List (FieldName × ℕ)
+  profile_head direction scale first steps =
       (NID_PACKET, layout.number)
       ∷ (Q_DIR, direction)
       ∷ (L_PACKET, layout.bits steps)
-      ∷ (Q_SCALE, 1)
+      ∷ (Q_SCALE, scale)
       ∷ (layout.distance, 0)
       ∷ layout.value_fields first
       ++ (N_ITER, steps)
       ∷ []
 
-  -- the packet of a profile up to an end that is told in metres; a profile has a step
+  -- the packet of a profile up to the end; a profile has a step
   abbrev pub profile_fields : Bool → ℕ → List (ℕ × V) → List (FieldName × ℕ)
   profile_fields nominal end [] = []
   profile_fields nominal end (first ∷ later) =
-      profile_head (direction_of nominal) first.1 (length (first ∷ later)) ++ elements end 0 later
+      profile_head (direction_of nominal) (scale_of end) first.1 (length (first ∷ later)) ++ elements (unit_of end) end 0 later
 
-  -- the end element behind a step that starts at a metre: it lies at the end
+  -- the end element behind a step: it lies at the end, and both are counted in units
   abbrev pub end_at : ℕ → ℕ → Reader (Unit {0})
   end_at end from = do
     field layout.distance (λ d. nat_le 1 d && (from + d == end))
     layout.mark_at
 
-  -- so many steps behind one that starts at a metre, and the end element
-  abbrev pub elements_at : ℕ → ℕ → ℕ → Reader (List (ℕ × V))
-  elements_at end from zero = do
+  -- so many steps of these units behind one that starts after so many units, and the end element
+  abbrev pub elements_at : ℕ → ℕ → ℕ → ℕ → Reader (List (ℕ × V))
+  elements_at unit end from zero = do
     end_at end from
     answer []
-  elements_at end from (suc steps) = do
+  elements_at unit end from (suc steps) = do
     distance ← field layout.distance (nat_le 1)
     value ← layout.value_at
-    later ← elements_at end (from + distance) steps
-    answer ((from + distance, value) ∷ later)
+    later ← elements_at unit end (from + distance) steps
+    answer ((unit * (from + distance), value) ∷ later)
 
-  -- a profile up to the end that begins with this value at 0 and has so many later steps
-  abbrev pub steps_at : ℕ → V → ℕ → Reader (List (ℕ × V))
-  steps_at end first steps = do
-    later ← elements_at end 0 steps
+  -- a profile of so many units that begins with this value at 0 and has so many later steps
+  abbrev pub steps_at : ℕ → ℕ → V → ℕ → Reader (List (ℕ × V))
+  steps_at unit end first steps = do
+    later ← elements_at unit end 0 steps
     answer ((0, first) ∷ later)
 
-  -- a profile's packet of this direction; its elements, so many behind a metre, are read as the first argument says
-  abbrev pub profile_by : (ℕ → ℕ → Reader (List (ℕ × V))) → ℕ → Reader (List (ℕ × V))
-  profile_by elements direction = do
+  -- a profile's packet of this direction and scale; its elements, so many behind one, are read as the first argument says
+  abbrev pub profile_by : (ℕ → ℕ → Reader (List (ℕ × V))) → ℕ → ℕ → Reader (List (ℕ × V))
+  profile_by elements direction scale = do
     fixed_field NID_PACKET layout.number
     fixed_field Q_DIR direction
     said ← any_field L_PACKET
-    fixed_field Q_SCALE 1
+    fixed_field Q_SCALE scale
     fixed_field layout.distance 0
     first ← layout.value_at
     steps ← field N_ITER (nat_le 1)
@@ -83,9 +84,9 @@ module _ {V : Type 0} (layout : Layout V) where
     later ← elements 0 (pred steps)
     answer ((0, first) ∷ later)
 
-  -- a profile's packet of this direction, up to the end
+  -- a profile's packet of this direction, up to an end at this metre
   abbrev pub profile_at : ℕ → ℕ → Reader (List (ℕ × V))
-  profile_at direction end = profile_by (elements_at end) direction
+  profile_at direction end = profile_by (elements_at (unit_of end) (end / unit_of end)) direction (scale_of end)
 
 -- A call that reads a profile up to this end does as a reader of its steps: on Ok these steps, and the bits after them are left; on Err
 -- the reader's fault.

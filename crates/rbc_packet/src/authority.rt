@@ -1,16 +1,16 @@
 //! What message 3 says to one train.
 
-ghost use Rattle.std.specs.Prelude.{◌≡◌, ◌≤◌, ◌==◌, ◌&&◌};
+ghost use Rattle.std.specs.Prelude.{◌≡◌, ◌≤◌, ◌%◌, ◌==◌};
+ghost use Rattle.std.specs.List.{list_all};
 ghost use Rattle.rbc_model.specs.declared.limits.TheConstants.{LAST_COUNTRY, LAST_GROUP, MOST_STEPS};
-ghost use Rattle.rbc_model.specs.declared.places.Format.TheVariants.{Near};
-ghost use Rattle.rbc_model.specs.Levels.{speed_levels, grade_levels};
-ghost use Rattle.rbc_model.specs.Messages.{authority_of, IsAuthority};
+ghost use Rattle.rbc_model.specs.declared.places.Format.TheVariants.{Far};
+ghost use Rattle.rbc_model.specs.Messages.{authority_of, is_writable, IsAuthority};
 ghost use Rattle.rbc_model.specs.Profiles.{IsProfile};
-ghost use Rattle.rbc_model.specs.Scales.{is_expressible};
 
 use crate::Group;
-use rbc_model::limits::FARTHEST_END;
-use rbc_steps::{Grade, Profile, Speed};
+use rbc_model::Format;
+use rbc_model::scales::{is_expressible, unit_of};
+use rbc_steps::{Grade, Level, Profile, Speed};
 use std::marker::Model;
 
 /// What message 3 says to one train: the time of its report, the balise group that distances count from, whether the
@@ -27,7 +27,7 @@ pub struct Authority {
 
 impl Model for Authority {
     ghost use Rattle.std.specs.Prelude.{◌≡◌};
-    ghost use Rattle.rbc_model.specs.declared.places.Format.TheVariants.{Near};
+    ghost use Rattle.rbc_model.specs.declared.places.Format.TheVariants.{Far};
     ghost use Rattle.rbc_model.specs.Messages.{Authority, IsAuthority};
     ghost use Rattle.rbc_packet.specs.Authorities.{authority_with};
 
@@ -35,14 +35,15 @@ impl Model for Authority {
 
     ghost view = { λ a. authority_with a.time a.group a.nominal a.speeds a.grades };
 
-    ghost invariant = { λ a. IsAuthority Near (authority_with a.time a.group a.nominal a.speeds a.grades)
+    ghost invariant = { λ a. IsAuthority Far (authority_with a.time a.group a.nominal a.speeds a.grades)
         × (a.grades.end ≡ a.speeds.end) };
 }
 
 impl Authority {
     /// The authority with these parts: `time` is that of the train's report, in the train's own count, and `nominal`
     /// whether the train runs in the group's nominal direction. None where the profiles do not end at one metre, or
-    /// where that lies beyond 32,000 m.
+    /// where a message can't give them: its ends are each metre up to 32,000 m and then multiples of ten metres up to
+    /// 80,000 m, and beyond 32,000 m steps start at multiples of ten metres too.
     pub fn new(
         time: u32,
         group: Group,
@@ -52,7 +53,7 @@ impl Authority {
     ) -> Option<Authority>
         ensures { result ≡ authority_of time group nominal speeds grades }
     {
-        if !end_in_metres(&speeds, &grades) {
+        if !end_together(&speeds, &grades) || !is_writable(&speeds) || !is_writable(&grades) {
             return None;
         }
         Some(Authority {
@@ -101,10 +102,11 @@ impl Authority {
         self.nominal
     }
 
-    /// How many metres from the group the train may run (L_ENDSECTION), 1 to 32,000.
+    /// How many metres from the group the train may run (L_ENDSECTION): 1 to 32,000, or a multiple of ten from 32,010 to
+    /// 80,000.
     pub fn end(&self) -> u32
         ensures end { result ≡ self.now.end }
-        ensures authority { IsAuthority Near self.now }
+        ensures authority { IsAuthority Far self.now }
     {
         self.speeds.end()
     }
@@ -126,11 +128,26 @@ impl Authority {
     }
 }
 
-/// Whether the profiles end at one metre, up to 32,000 m, so that the message counts in metres.
-fn end_in_metres(speeds: &Profile<Speed>, grades: &Profile<Grade>) -> bool
-    ensures ends { result ≡ ((grades.now.end == speeds.now.end) && is_expressible Near speeds.now.end) }
-    ensures speeds { IsProfile speed_levels 1 MOST_STEPS speeds.now.end speeds.now.steps }
-    ensures grades { IsProfile grade_levels 1 MOST_STEPS grades.now.end grades.now.steps }
+/// Whether the profiles end at one metre.
+fn end_together(speeds: &Profile<Speed>, grades: &Profile<Grade>) -> bool
+    ensures { result ≡ (grades.now.end == speeds.now.end) }
 {
-    grades.end() == speeds.end() && (1..=FARTHEST_END).contains(&speeds.end())
+    grades.end() == speeds.end()
+}
+
+/// Whether a message can give the profile: its end, and the start of each step in the units of that end.
+fn is_writable<V: Level>(profile: &Profile<V>) -> bool
+    ensures writable { result ≡ is_writable profile.now }
+    ensures profile { IsProfile V.levels 1 MOST_STEPS profile.now.end profile.now.steps }
+{
+    let end = profile.end();
+    is_expressible(Format::Far, end) && start_in_units(profile.steps(), unit_of(end))
+}
+
+/// Whether each step starts at a multiple of the unit, at least 1, in metres.
+fn start_in_units<V: Level>(steps: &[(u32, V)], unit: u32) -> bool
+    requires { 1 ≤ unit }
+    ensures { result ≡ list_all (λ step. step.0 % unit == 0) steps.now }
+{
+    steps.iter().all(|step| step.0 % unit == 0)
 }

@@ -2,7 +2,7 @@
 
 ghost use Rattle.std.specs.Prelude.{◌≡◌, ℕ, ◌^◌, ◌<◌, ◌≤◌, ◌++◌, Bool, List};
 ghost use Rattle.std.specs.Prelude.{IsTrue, IfOk, OnOk};
-ghost use Rattle.rbc_model.specs.declared.limits.TheConstants.{FARTHEST_END, MOST_STEPS};
+ghost use Rattle.rbc_model.specs.declared.limits.TheConstants.{MOST_STEPS};
 ghost use Rattle.rbc_model.specs.declared.messages.FieldName.{FieldName};
 ghost use Rattle.rbc_model.specs.declared.messages.FieldName.TheVariants.{NID_PACKET, L_PACKET};
 ghost use Rattle.rbc_model.specs.Messages.{width_of};
@@ -73,7 +73,7 @@ pub trait Encoded: Level {
     /// Distances have 15 bits.
     ghost distance_width: { width_of layout.distance ≡ 15 };
 
-    /// Up to 32,000 m the packet has the fields of its layout.
-    ghost laid_out: { (nominal : Bool) (end : ℕ) (steps : List (ℕ × Self)) → end ≤ FARTHEST_END
+    /// The packet has the fields of its layout.
+    ghost laid_out: { (nominal : Bool) (end : ℕ) (steps : List (ℕ × Self))
         → packet nominal end steps ≡ profile_fields layout nominal end steps };
 }

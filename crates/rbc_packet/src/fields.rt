@@ -35,9 +35,6 @@ pub(crate) fn width_of(name: FieldName) -> u32
     }
 }
 
-/// Q_SCALE: distances are in metres.
-pub(crate) const METRES: u32 = 1;
-
 /// Q_DIR: 1 in the group's nominal direction, 0 against it.
 pub(crate) fn direction_of(nominal: bool) -> u32
     ensures direction { result ≡ direction_of nominal }

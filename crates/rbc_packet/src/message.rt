@@ -1,7 +1,7 @@
 //! Message 3, the movement authority (ERA SUBSET-026 3.6.0, chapter 8), with packets 15, 21 and 27.
 
 ghost use Rattle.std.specs.Prelude.{◌≡◌, [], IfOk};
-ghost use Rattle.rbc_model.specs.declared.places.Format.TheVariants.{Near};
+ghost use Rattle.rbc_model.specs.declared.places.Format.TheVariants.{Far};
 ghost use Rattle.rbc_model.specs.Messages.{message_bytes};
 ghost use Rattle.rbc_model.specs.Reading.{filling_at, read_message};
 ghost use Rattle.rbc_packet.specs.Reads.{Reads};
@@ -34,7 +34,7 @@ pub fn write_message(alloc: Global, authority: &Authority) -> Result<Vec<u8>, Me
     Ok(bits.finish())
 }
 
-/// The authority that the bytes of a message tell. It takes no memory.
+/// The authority that the bytes of a message tell, in metres or in tens of metres. It takes no memory.
 ///
 /// # Errors
 ///
@@ -47,7 +47,7 @@ pub fn write_message(alloc: Global, authority: &Authority) -> Result<Vec<u8>, Me
 /// 3. behind the number of steps of packet 21, and then of packet 27, [`Fault::Length`] where the packet's length does not fit it;
 /// 4. behind the last packet, [`Fault::Length`] where eight bits or more are left, and [`Fault::Padding`] where one of fewer is set.
 pub fn read_message(bytes: &[u8]) -> Result<Authority, Fault>
-    ensures read { result ≡ read_message Near bytes.now }
+    ensures read { result ≡ read_message Far bytes.now }
 
     // What was written is read back, and no second spelling is accepted.
     ensures spelling { IsOneSpelling bytes.now result }
@@ -57,7 +57,7 @@ pub fn read_message(bytes: &[u8]) -> Result<Authority, Fault>
 
 /// The same, field by field.
 fn read_fields(bytes: &[u8]) -> Result<Authority, Fault>
-    ensures { result ≡ read_message Near bytes.now }
+    ensures { result ≡ read_message Far bytes.now }
 {
     let mut bits = BitReader::new(bytes);
     let header = read_header(&mut bits, bytes.len())?;
@@ -65,7 +65,7 @@ fn read_fields(bytes: &[u8]) -> Result<Authority, Fault>
     let grades = read_packet_21(&mut bits, &frame)?;
     let speeds = read_packet_27(&mut bits, &frame)?;
     read_filling(&bits)?;
-    // The profiles end with the frame.
+    // The profiles end with the frame, and start their steps in its units.
     Ok(Authority::new(header.time, header.group, frame.nominal, speeds, grades).unwrap())
 }
 

@@ -1,9 +1,10 @@
 //! Packet 27, the static speed profile (ERA SUBSET-026 3.6.0, chapter 7).
 
-ghost use Rattle.std.specs.Prelude.{◌≡◌, ◌≤◌, IfOk, refl};
-ghost use Rattle.rbc_model.specs.declared.limits.TheConstants.{FARTHEST_END};
-ghost use Rattle.rbc_model.specs.Messages.{bytes_of_fields, packet_27};
+ghost use Rattle.std.specs.Prelude.{◌≡◌, ◌≤◌, IfOk, IsTrue, refl};
+ghost use Rattle.rbc_model.specs.declared.places.Format.TheVariants.{Far};
+ghost use Rattle.rbc_model.specs.Messages.{bytes_of_fields, is_writable, packet_27};
 ghost use Rattle.rbc_model.specs.Reading.{packet_27_at};
+ghost use Rattle.rbc_model.specs.Scales.{is_expressible};
 ghost use Rattle.rbc_packet.specs.Frames.{frame_view};
 ghost use Rattle.rbc_packet.specs.Layouts.{ReadsProfile, speed_layout};
 ghost use Rattle.rbc_packet.specs.PacketLayouts.{packet_27-laid_out};
@@ -22,7 +23,8 @@ use rbc_steps::{Profile, Speed};
 use std::alloc::Global;
 
 /// Packet 27, the static speed profile, alone and filled up with zeros to whole bytes. It holds in the group's
-/// nominal direction or against it. The profile ends at 32,000 m or before, so distances are in metres (Q_SCALE 1).
+/// nominal direction or against it. Distances are in metres (Q_SCALE 1) for a profile that ends at 32,000 m or before,
+/// and in tens of metres (Q_SCALE 2) for one that ends beyond.
 ///
 /// # Errors
 ///
@@ -32,20 +34,20 @@ pub fn write_speed(
     profile: &Profile<Speed>,
     nominal: bool,
 ) -> Result<Vec<u8>, Memory>
-    requires { profile.now.end ≤ FARTHEST_END }
+    requires { IsTrue (is_writable profile.now) }
     ensures { IfOk result (λ bytes.
         bytes.items ≡ bytes_of_fields (packet_27 nominal profile.now.end profile.now.steps)) }
 {
     write_profile(alloc, profile, nominal)
 }
 
-/// Reads packet 27 of an authority with this frame: it has the authority's direction and ends at its end.
+/// Reads packet 27 of an authority with this frame: it has the authority's direction and scale, and ends at its end.
 ///
 /// # Errors
 ///
 /// The first fault of a field, or [`Fault::Length`] where the packet's length does not fit its number of steps.
 pub(crate) fn read_packet_27(bits: &mut BitReader, frame: &Frame) -> Result<Profile<Speed>, Fault>
-    requires { frame.now.end ≤ FARTHEST_END }
+    requires { IsTrue (is_expressible Far frame.now.end) }
     ensures { ReadsProfile (packet_27_at (frame_view frame.now)) frame.now.end bits.old bits.new result }
 {
     read_profile(bits, frame)

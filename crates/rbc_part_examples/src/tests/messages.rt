@@ -1,6 +1,6 @@
 //! Messages, read and written again.
 
-use super::MESSAGE;
+use super::{MESSAGE, MESSAGE_IN_TENS};
 use rbc_packet::{Authority, read_message, write_message};
 
 /// A message and what it says.
@@ -16,7 +16,7 @@ struct Case {
     grades: &'static [(u32, i16)],
 }
 
-const CASES: [Case; 4] = [
+const CASES: [Case; 7] = [
     // One step each.
     Case {
         bytes: &MESSAGE,
@@ -148,6 +148,44 @@ const CASES: [Case; 4] = [
             (29001, 140),
             (30001, 150),
         ],
+    },
+    // The farthest end, in tens of metres, with the shortest steps.
+    Case {
+        bytes: &[
+            0x03, 0x0b, 0x40, 0x00, 0x00, 0x00, 0x40, 0x10, 0x00, 0x61, 0xe0, 0x10, 0xa0, 0x1f,
+            0xf8, 0x0f, 0xa0, 0x00, 0xa8, 0x07, 0xe8, 0x00, 0x07, 0xf8, 0x60, 0x00, 0x5f, 0xc7,
+            0xcf, 0xa0, 0x00, 0x00, 0x5f, 0xe3, 0x60, 0x15, 0xa0, 0x00, 0x1e, 0x00, 0x09, 0xf4,
+            0x0f, 0xe0, 0x00,
+        ],
+        time: 1,
+        group: (2, 3),
+        nominal: false,
+        end: 80000,
+        speeds: &[(0, 600)],
+        grades: &[(0, 254), (10, -254), (79990, 0)],
+    },
+    // The first end in tens of metres.
+    Case {
+        bytes: &[
+            0x03, 0x0a, 0x80, 0x00, 0x00, 0x00, 0x00, 0x00, 0x00, 0x01, 0xe8, 0x10, 0xa0, 0x1f,
+            0xf8, 0x06, 0x40, 0x80, 0xaa, 0x04, 0xe8, 0x00, 0x04, 0x00, 0x23, 0x20, 0x5f, 0xe3,
+            0x68, 0x1c, 0xa0, 0x00, 0x00, 0x40, 0x10, 0xc8, 0x0f, 0x00, 0x00, 0x01, 0xfe, 0x00,
+        ],
+        time: 0,
+        group: (0, 0),
+        nominal: true,
+        end: 32010,
+        speeds: &[(0, 5), (32000, 600)],
+        grades: &[(0, 0)],
+    },
+    Case {
+        bytes: &MESSAGE_IN_TENS,
+        time: 1000,
+        group: (5, 17),
+        nominal: true,
+        end: 40000,
+        speeds: &[(0, 160), (32000, 120)],
+        grades: &[(0, -5)],
     },
 ];
 
