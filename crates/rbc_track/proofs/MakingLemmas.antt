@@ -34,7 +34,7 @@ made_of-track_of parts =
     (first_refusal (group_refusal made) [] made.groups) (first_refusal (route_refusal made) [] made.routes)
     made.sections made.links made.groups made.routes
     (λ sections. sound_links sections parts.links) (λ sections. sound_groups sections parts.groups) (λ sections links. sound_routes sections links parts.routes)
-    (track_with parts.speed_steps parts.grade_steps) refl refl refl
+    (track_with parts.format parts.speed_steps parts.grade_steps) refl refl refl
 
 -- parts that are refused for their size are refused so before all else
 pub sized : (size : Option TrackRefusal) (refusal : TrackRefusal) → unless {A = Unit {0}} size (Ok tt) ≡ Err refusal → size ≡ Some refusal

@@ -40,4 +40,4 @@ made_of parts = do
   links ← sound_links sections parts.links
   groups ← sound_groups sections parts.groups
   routes ← sound_routes sections links parts.routes
-  Ok (track_with parts.speed_steps parts.grade_steps sections links groups routes)
+  Ok (track_with parts.format parts.speed_steps parts.grade_steps sections links groups routes)

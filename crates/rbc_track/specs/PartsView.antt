@@ -4,6 +4,7 @@ use Rattle.rbc_track.specs.declared.parts.Parts.{Parts as PartsHere}
 
 abbrev pub parts_view : PartsHere → Parts
 parts_view p = record {
+  format = p.format;
   speed_steps = p.speed_steps;
   grade_steps = p.grade_steps;
   sections = p.sections.items;

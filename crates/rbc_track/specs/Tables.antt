@@ -1,5 +1,6 @@
 -- The tables of a track, and what stands beside them so that names are looked up.
 use Rattle.std.specs.Prelude.{All, ◌≡◌, ℕ, nat_le, Bool, IsTrue, List, [], map, Result}
+use Rattle.rbc_model.specs.declared.places.Format.{Format}
 use Rattle.rbc_model.specs.declared.places.Format.TheVariants.{Near}
 use Rattle.rbc_model.specs.GroupNames.{GroupName}
 use Rattle.rbc_model.specs.declared.tracks.Link.{Link}
@@ -14,10 +15,10 @@ use Rattle.rbc_model.specs.Results.{demand, ◌>>◌}
 use Rattle.rbc_model.specs.Tracks.{Section, Route, Track}
 use Rattle.rbc_model.specs.SoundTracks.{IsInForm, IsSound}
 
--- a track of these tables
-abbrev pub track_with : ℕ → ℕ → List Section → List Link → List BaliseGroup → List Route → Track
-track_with speed_steps grade_steps sections links groups routes = record {
-  format = Near;
+-- a track of this format and these tables
+abbrev pub track_with : Format → ℕ → ℕ → List Section → List Link → List BaliseGroup → List Route → Track
+track_with format speed_steps grade_steps sections links groups routes = record {
+  format = format;
   speed_steps = speed_steps;
   grade_steps = grade_steps;
   sections = sections;
@@ -28,7 +29,7 @@ track_with speed_steps grade_steps sections links groups routes = record {
 
 -- a track of these sections and links alone
 abbrev pub with_links : List Section → List Link → Track
-with_links sections links = track_with 1 1 sections links [] []
+with_links sections links = track_with Near 1 1 sections links [] []
 
 -- what a track keeps
 pub record IsSoundInForm (track : Track) : Type 0 where

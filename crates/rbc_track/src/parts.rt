@@ -1,7 +1,7 @@
 //! The parts that a track is made of.
 
 use crate::{LegName, Name, Section, StepLimit};
-use rbc_model::{Direction, GroupName};
+use rbc_model::{Direction, Format, GroupName};
 use std::marker::Model;
 
 /// A link from one leg to another.
@@ -60,6 +60,8 @@ impl Model for RoutePart {
 /// The parts that a track is made of. They name sections by their names.
 #[derive(Drop)]
 pub struct Parts {
+    /// How far from its balise group an authority may end.
+    pub format: Format,
     /// How many steps a profile of speeds may have.
     pub speed_steps: StepLimit,
     /// How many steps a profile of gradients may have.

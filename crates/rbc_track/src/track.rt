@@ -6,9 +6,8 @@ ghost use Rattle.rbc_model.specs.Scales.{farthest};
 ghost use Rattle.rbc_model.specs.SoundTracks.{IsInForm, IsSound, size_refusal};
 ghost use Rattle.rbc_model.specs.Answers.{AnswersOrMemory};
 ghost use Rattle.rbc_model.specs.TrackParts.{resolved, track_of};
-ghost use Rattle.rbc_model.specs.declared.limits.TheConstants.{MOST_STEPS};
+ghost use Rattle.rbc_model.specs.declared.limits.TheConstants.{FARTHEST_END_IN_TENS, MOST_STEPS};
 ghost use Rattle.rbc_model.specs.declared.memory.OrMemory.TheVariants.{Refused};
-ghost use Rattle.rbc_model.specs.declared.places.Format.TheVariants.{Near};
 ghost use Rattle.rbc_track.specs.Making.{made_of, sizes_of};
 ghost use Rattle.rbc_track.specs.PartsView.{parts_view};
 ghost use Rattle.rbc_track.specs.Tables.{leg_named};
@@ -20,8 +19,8 @@ use crate::route_table::Routes;
 use crate::section_table::Sections;
 use crate::sizes::judge_sizes;
 use crate::{LegName, Name, Parts, Route, Section};
-use rbc_model::limits::FARTHEST_END;
-use rbc_model::{BaliseGroup, GroupName, Leg, OrMemory, RouteId, SectionId, TrackRefusal};
+use rbc_model::scales::farthest;
+use rbc_model::{BaliseGroup, Format, GroupName, Leg, OrMemory, RouteId, SectionId, TrackRefusal};
 use std::alloc::Global;
 use std::marker::Model;
 
@@ -29,6 +28,7 @@ use std::marker::Model;
 /// links are found by look-ups.
 #[derive(Drop)]
 pub struct Track {
+    format: Format,
     speed_steps: usize,
     grade_steps: usize,
     sections: Sections,
@@ -43,10 +43,10 @@ impl Model for Track {
 
     ghost Value = { Track };
 
-    ghost view = { λ t. track_with t.speed_steps t.grade_steps t.sections t.links t.groups t.routes };
+    ghost view = { λ t. track_with t.format t.speed_steps t.grade_steps t.sections t.links t.groups t.routes };
 
     ghost invariant = { λ t.
-        IsSoundInForm (track_with t.speed_steps t.grade_steps t.sections t.links t.groups t.routes) };
+        IsSoundInForm (track_with t.format t.speed_steps t.grade_steps t.sections t.links t.groups t.routes) };
 }
 
 impl Track {
@@ -79,6 +79,7 @@ impl Track {
     {
         judge_sizes(&parts)?;
         let Parts {
+            format,
             speed_steps,
             grade_steps,
             sections,
@@ -91,6 +92,7 @@ impl Track {
         let groups = Groups::new(alloc, &sections, &groups)?;
         let routes = Routes::new(alloc, &sections, &links, &routes)?;
         Ok(Track {
+            format,
             speed_steps: speed_steps.steps(),
             grade_steps: grade_steps.steps(),
             sections,
@@ -121,11 +123,16 @@ impl Track {
     /// How many metres from its balise group an authority may end.
     pub fn farthest_end(&self) -> u32
         ensures end { result ≡ farthest self.now.format }
-        ensures near { self.now.format ≡ Near }
+        ensures at_most { result ≤ FARTHEST_END_IN_TENS }
     {
-        // Every track is of the near format.
-        let _ = &self.speed_steps;
-        FARTHEST_END
+        farthest(self.format)
+    }
+
+    /// Which ends a message may give to the authorities of the track.
+    pub fn format(&self) -> Format
+        ensures { result ≡ self.now.format }
+    {
+        self.format
     }
 
     /// How many sections the track has: 1 to 4,096.

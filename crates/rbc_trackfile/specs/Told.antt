@@ -13,7 +13,7 @@ use Rattle.rbc_model.specs.declared.files.FileTable.TheVariants.{Top, Section as
 use Rattle.rbc_model.specs.declared.files.Key.{Key}
 use Rattle.rbc_model.specs.declared.files.Key.TheVariants.{Format as FormatKey, SpeedSteps, GradeSteps, Section as SectionKey, Link as LinkKey, Group as GroupKey, Route as RouteKey, Name, Length, Speeds, Grades, From, To, Country, Number, Offset, Nominal, After, Legs}
 use Rattle.rbc_model.specs.Results.{demand, ◌>>=◌, ◌>>◌}
-use Rattle.rbc_model.specs.TrackFile.{FileEntry, TopKeys, or_fault, or_absent, pair_in, each_at, value_at_key, number_from_to, run_of_pair, speed_in, grade_in, only_keys, parts_at, track_in_file}
+use Rattle.rbc_model.specs.TrackFile.{FileEntry, TopKeys, or_fault, or_absent, pair_in, each_at, value_at_key, number_from_to, format_numbered, run_of_pair, speed_in, grade_in, only_keys, parts_at, track_in_file}
 use Rattle.rbc_model.specs.Levels.{Levels, speed_levels, grade_levels}
 use Rattle.rbc_model.specs.Names.{LegName, name_in, leg_in, direction_in}
 use Rattle.rbc_model.specs.Profiles.{StepFunction, runs_of}
@@ -162,14 +162,14 @@ route_told entry = do
 -- what the top table's own keys tell
 unfoldable pub keys_told : FileEntry Data → Result (TopKeys Data) FileFault
 keys_told top = do
-  required_told as_integer (number_from_to 1 1) top FormatKey
+  format ← required_told as_integer (number_from_to 1 2) top FormatKey
   speed_steps ← optional_told as_integer (number_from_to 1 MOST_STEPS) MOST_STEPS top SpeedSteps
   grade_steps ← optional_told as_integer (number_from_to 1 MOST_STEPS) MOST_STEPS top GradeSteps
   sections ← tables_told top SectionKey
   links ← tables_told top LinkKey
   groups ← tables_told top GroupKey
   routes ← tables_told top RouteKey
-  Ok (record { speed_steps = speed_steps; grade_steps = grade_steps; sections = sections; links = links; groups = groups; routes = routes })
+  Ok (record { format = format_numbered format; speed_steps = speed_steps; grade_steps = grade_steps; sections = sections; links = links; groups = groups; routes = routes })
 
 -- the parts that the top table tells
 unfoldable pub top_told : FileEntry Data → Result Parts FileFault
@@ -180,7 +180,7 @@ top_told top = do
   links ← each_told (entry_told link_told LinkTable top LinkKey) 1 keys.links
   groups ← each_told (entry_told group_told GroupTable top GroupKey) 1 keys.groups
   routes ← each_told (entry_told route_told RouteTable top RouteKey) 1 keys.routes
-  Ok (record { speed_steps = keys.speed_steps; grade_steps = keys.grade_steps; sections = sections; links = links; groups = groups; routes = routes })
+  Ok (record { format = keys.format; speed_steps = keys.speed_steps; grade_steps = keys.grade_steps; sections = sections; links = links; groups = groups; routes = routes })
 
 -- the entry that a whole table of TOML is
 abbrev pub top_of : Members → FileEntry Data

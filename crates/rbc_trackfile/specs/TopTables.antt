@@ -7,6 +7,7 @@ use Rattle.rbc_model.specs.TrackFile.{TopKeys}
 
 abbrev pub keys_view : ReadKeys → TopKeys Data
 keys_view keys = record {
+  format = keys.format;
   speed_steps = keys.speed_steps;
   grade_steps = keys.grade_steps;
   sections = map view keys.sections.now;

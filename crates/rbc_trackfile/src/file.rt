@@ -7,13 +7,13 @@ ghost use Rattle.toml.specs.View.{table_view};
 ghost use Rattle.rbc_model.specs.Answers.{AnswersAs, AnswersOrMemory};
 ghost use Rattle.rbc_model.specs.declared.files.FileFault.TheVariants.{Toml};
 ghost use Rattle.rbc_model.specs.declared.memory.OrMemory.TheVariants.{Refused, Memory as NoMemory};
-ghost use Rattle.rbc_model.specs.TrackFile.{AreInKeyOrder, or_fault, keys_at, parts_at};
+ghost use Rattle.rbc_model.specs.TrackFile.{AreInKeyOrder, format_numbered, or_fault, keys_at, parts_at};
 ghost use Rattle.rbc_track.specs.PartsView.{parts_view};
 ghost use Rattle.rbc_trackfile.specs.Told.{Tells, keys_told, top_told, top_of, toml_table, file_told, track_told};
 ghost use Rattle.rbc_trackfile.specs.TopTables.{keys_view};
 
 use crate::entry::FileEntry;
-use rbc_model::{FileFault, FileTable, Key, OrMemory};
+use rbc_model::{FileFault, FileTable, Format, Key, OrMemory};
 use rbc_track::{Parts, StepLimit, Track};
 use std::alloc::Global;
 use std::str;
@@ -30,9 +30,10 @@ const TOP_KEYS: [Key; 7] = [
     Key::Route,
 ];
 
-/// What the top table's own keys tell: the step limits, and the values of the lists of tables.
+/// What the top table's own keys tell: the format, the step limits, and the values of the lists of tables.
 #[derive(Clone, Copy)]
 pub(crate) struct TopKeys<'a> {
+    format: Format,
     speed_steps: StepLimit,
     grade_steps: StepLimit,
     sections: &'a [Value],
@@ -66,12 +67,23 @@ pub fn parse(alloc: Global, text: &[u8]) -> Result<Table, OrMemory<FileFault>>
     }
 }
 
+/// The format of this number, 1 or 2.
+fn format_numbered(number: u32) -> Format
+    ensures { result ≡ format_numbered number }
+{
+    if number == 1 {
+        Format::Near
+    } else {
+        Format::Far
+    }
+}
+
 /// What the top table's own keys tell, in the order of their reading.
 #[tactic(auto, unfolding(crate::specs::Told::keys_told))]
 fn top_keys<'a>(top: FileEntry<'a>) -> Result<TopKeys<'a>, FileFault>
     ensures { Tells keys_view result (keys_told (entry_view top.entry)) }
 {
-    top.number(Key::Format, 1, 1)?;
+    let format = format_numbered(top.number(Key::Format, 1, 2)?);
     let speed_steps = top.step_limit(Key::SpeedSteps)?;
     let grade_steps = top.step_limit(Key::GradeSteps)?;
     let sections = top.tables(Key::Section)?;
@@ -79,6 +91,7 @@ fn top_keys<'a>(top: FileEntry<'a>) -> Result<TopKeys<'a>, FileFault>
     let groups = top.tables(Key::Group)?;
     let routes = top.tables(Key::Route)?;
     Ok(TopKeys {
+        format,
         speed_steps,
         grade_steps,
         sections,
@@ -103,6 +116,7 @@ fn top_parts(alloc: Global, top: FileEntry) -> Result<Parts, OrMemory<FileFault>
     let groups = top.items(alloc, Key::Group, keys.groups)?;
     let routes = top.items(alloc, Key::Route, keys.routes)?;
     Ok(Parts {
+        format: keys.format,
         speed_steps: keys.speed_steps,
         grade_steps: keys.grade_steps,
         sections,

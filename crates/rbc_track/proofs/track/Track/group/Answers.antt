@@ -15,7 +15,7 @@ within track (Some group) h =
 
 pub returns-clause-within : goal.returns-clause-within
 returns-clause-within c =
-    let track = track_with c.self.inside.speed_steps c.self.inside.grade_steps c.self.inside.sections c.self.inside.links c.self.inside.groups c.self.inside.routes in
+    let track = track_with c.self.inside.format c.self.inside.speed_steps c.self.inside.grade_steps c.self.inside.sections c.self.inside.links c.self.inside.groups c.self.inside.routes in
     subst (λ (track : Track). IfSome c.find.result (λ group. group.section < length track.sections)) c.self.view_is
     (within track c.find.result
     (find-passes (λ group. group_name_eq group.name c.args.name) (is_good_group track) track.groups c.find.result c.self.invariant.sound.groups c.find.ensures))
