@@ -1,15 +1,14 @@
 -- Reductions of a view's speeds and gradients make a candidate of it.
-use Rattle.std.proofs.Common.{◌≡◌, ℕ, ℤ, Bool, true, ◌&&◌, cond, List, Option, Some, None, refl, sym, ap, ◌∙◌, subst, arith, nat_le}
-use Rattle.std.specs.Prelude.{◌==◌}
-use Rattle.rbc_model.specs.declared.limits.TheConstants.{FARTHEST_END}
-use Rattle.rbc_model.specs.declared.places.Format.TheVariants.{Near}
+use Rattle.std.proofs.Common.{◌≡◌, ℕ, ℤ, Bool, true, List, Option, Some, refl, sym, ap, ◌∙◌, subst, arith, nat_le}
+use Rattle.std.specs.Global.{Vec}
+use Rattle.rbc_model.specs.declared.places.Format.TheVariants.{Far}
 use Rattle.rbc_model.specs.GroupNames.{GroupName}
-use Rattle.rbc_model.specs.Levels.{speed_levels, grade_levels}
-use Rattle.rbc_model.specs.Messages.{Authority, authority_of, message_bytes}
-use Rattle.rbc_model.specs.Profiles.{StepFunction}
+use Rattle.rbc_model.specs.Levels.{Levels, speed_levels, grade_levels}
+use Rattle.rbc_model.specs.Messages.{Authority, is_writable, authority_of, message_bytes}
+use Rattle.rbc_model.specs.Profiles.{StepFunction, IsProfile}
 use Rattle.rbc_model.specs.Scales.{is_expressible, unit_of}
 use Rattle.rbc_model.specs.Views.{View}
-use Rattle.rbc_model.proofs.CountingLemmas.{both_of}
+use Rattle.rbc_model.proofs.ScaleLemmas.{writable, makes_authority}
 use Rattle.rbc_reach.specs.Forms.{metres_shown, IsViewInForm}
 use Rattle.rbc_grant.specs.Candidates.{granted, IsCandidate}
 use Rattle.rbc_grant.specs.declared.certificates.Losses.{Losses}
@@ -36,50 +35,51 @@ authority_for view speeds grades = record {
 
 -- ---- the authority
 
-chosen_if : {X : Type 0} (test : Bool) (here there : X) → test ≡ true → cond test here there ≡ here
-chosen_if test here there h = rw h refl
-
-both : (a b : Bool) → a ≡ true → b ≡ true → (a && b) ≡ true
-both a b h k = rw (h, k) refl
-
-same_number : (a b : ℕ) → a ≡ b → (a == b) ≡ true
-same_number a b e = grind arith
-
--- profiles that end where the view's speeds do make an authority
-authority_of-shown : (view : View) (speeds : StepFunction ℕ) (grades : StepFunction ℤ) → IsViewInForm view
-    → speeds.end ≡ metres_shown view → grades.end ≡ metres_shown view
-    → authority_of view.time view.group view.nominal speeds grades ≡ Some (authority_for view speeds.steps grades.steps)
-authority_of-shown view speeds grades form s g =
-    let with_end : ℕ → Authority = λ n. record { time = view.time; group = view.group; nominal = view.nominal; end = n; speeds = speeds.steps; grades = grades.steps } in
-    let near = subst (λ n. is_expressible Near n ≡ true) (sym s) form.expressible in
-    chosen_if ((grades.end == speeds.end) && is_expressible Near speeds.end) (Some (with_end speeds.end)) None
-    (both (grades.end == speeds.end) (is_expressible Near speeds.end) (same_number grades.end speeds.end (g ∙ sym s)) near)
-    ∙ ap (λ n. Some (with_end n)) s
+-- a reduction of a track whose end a message can give is a profile that the message can give
+reduction_is_writable : {V : Type 0} (levels : Levels V) (limit : ℕ) (track profile : StepFunction V) (lost : ℕ) (rows : List (Vec ℕ)) → is_expressible Far track.end ≡ true
+    → IsReduction levels (unit_of track.end) limit track profile lost rows → is_writable profile ≡ true
+reduction_is_writable levels limit track profile lost rows far reduction =
+    let best = reduction.chosen.best in
+    let fits = best.fits in
+    writable levels limit profile (subst (λ n. is_expressible Far n ≡ true) (sym reduction.end) far)
+    (subst (λ n. IsProfile levels (unit_of n) limit n profile.steps) (sym reduction.end) fits.profile)
 
 some_is : {X : Type 0} (o : Option X) (a b : X) → o ≡ Some a → o ≡ Some b → a ≡ b
 some_is o a b h k = cc
 
-pub the_authority : (view : View) (time : ℕ) (group : GroupName) (nominal : Bool) (speeds : StepFunction ℕ) (grades : StepFunction ℤ)
-    (made : Option Authority) (authority : Authority) → IsViewInForm view
-    → time ≡ view.time → group ≡ view.group → nominal ≡ view.nominal → speeds.end ≡ metres_shown view → grades.end ≡ metres_shown view
-    → made ≡ authority_of time group nominal speeds grades → made ≡ Some authority
-    → authority ≡ authority_for view speeds.steps grades.steps
-the_authority view time group nominal speeds grades made authority form t n d s g is some =
-    some_is made authority (authority_for view speeds.steps grades.steps) some
-    (is ∙ (λ i. authority_of (t i) (n i) (d i) speeds grades) ∙ authority_of-shown view speeds grades form s g)
+module _ (view : View) (speeds : StepFunction ℕ) (grades : StepFunction ℤ) (lost : Losses) (tables : PriceTables) where
+  -- Both are reductions of what the view shows, up to an end that a message can give.
+  pub record AreReductions : Type 0 where
+    pub far : is_expressible Far (metres_shown view) ≡ true
+    pub speeds_reduced : IsReduction speed_levels (unit_of (metres_shown view)) view.speed_steps (speeds_shown view) speeds lost.speeds tables.speeds.items
+    pub grades_reduced : IsReduction grade_levels (unit_of (metres_shown view)) view.grade_steps (grades_shown view) grades lost.grades tables.grades.items
+
+  -- they make an authority
+  authority_of-shown : AreReductions → authority_of view.time view.group view.nominal speeds grades ≡ Some (authority_for view speeds.steps grades.steps)
+  authority_of-shown are =
+      let s = are.speeds_reduced in
+      let g = are.grades_reduced in
+      let with_end : ℕ → Authority = λ n. record { time = view.time; group = view.group; nominal = view.nominal; end = n; speeds = speeds.steps; grades = grades.steps } in
+      makes_authority view.time view.group view.nominal speeds grades (g.end ∙ sym s.end)
+      (reduction_is_writable speed_levels view.speed_steps (speeds_shown view) speeds lost.speeds tables.speeds.items are.far s)
+      (reduction_is_writable grade_levels view.grade_steps (grades_shown view) grades lost.grades tables.grades.items are.far g)
+      ∙ ap (λ n. Some (with_end n)) s.end
+
+  pub made_of-shown : (time : ℕ) (group : GroupName) (nominal : Bool) (made : Option Authority) → AreReductions → time ≡ view.time → group ≡ view.group → nominal ≡ view.nominal
+      → made ≡ authority_of time group nominal speeds grades → made ≡ Some (authority_for view speeds.steps grades.steps)
+  made_of-shown time group nominal made are t n d is = is ∙ (λ i. authority_of (t i) (n i) (d i) speeds grades) ∙ authority_of-shown are
+
+  pub the_authority : (time : ℕ) (group : GroupName) (nominal : Bool) (made : Option Authority) (authority : Authority) → AreReductions → time ≡ view.time → group ≡ view.group → nominal ≡ view.nominal
+      → made ≡ authority_of time group nominal speeds grades → made ≡ Some authority → authority ≡ authority_for view speeds.steps grades.steps
+  the_authority time group nominal made authority are t n d is some =
+      some_is made authority (authority_for view speeds.steps grades.steps) some (made_of-shown time group nominal made are t n d is)
 
 -- ---- the candidate
 
--- a message counts such an end in metres
-pub unit_of-near : (n : ℕ) → is_expressible Near n ≡ true → 1 ≡ unit_of n
-unit_of-near n h = rw ((both_of (nat_le 1 n) (nat_le n FARTHEST_END) h).1) refl
-
-candidate_for : (view : View) (speeds : StepFunction ℕ) (grades : StepFunction ℤ) (lost : Losses) (tables : PriceTables) (bytes : List ℕ) → IsViewInForm view
-    → IsReduction speed_levels (unit_of (metres_shown view)) view.speed_steps (speeds_shown view) speeds lost.speeds tables.speeds.items
-    → IsReduction grade_levels (unit_of (metres_shown view)) view.grade_steps (grades_shown view) grades lost.grades tables.grades.items
+candidate_for : (view : View) (speeds : StepFunction ℕ) (grades : StepFunction ℤ) (lost : Losses) (tables : PriceTables) (bytes : List ℕ) → IsViewInForm view → AreReductions view speeds grades lost tables
     → bytes ≡ message_bytes (authority_for view speeds.steps grades.steps)
     → IsCandidate view (granted view (authority_for view speeds.steps grades.steps)) bytes lost tables
-candidate_for view speeds grades lost tables bytes form s g message = record {
+candidate_for view speeds grades lost tables bytes form are message = let s = are.speeds_reduced in let g = are.grades_reduced in record {
   best = record {
     train = refl;
     from = refl;
@@ -99,11 +99,9 @@ candidate_for view speeds grades lost tables bytes form s g message = record {
 }
 
 pub candidate_made : (view : View) (authority : Authority) (speeds : StepFunction ℕ) (grades : StepFunction ℤ) (lost : Losses) (tables : PriceTables) (bytes : List ℕ)
-    → IsViewInForm view
-    → IsReduction speed_levels (unit_of (metres_shown view)) view.speed_steps (speeds_shown view) speeds lost.speeds tables.speeds.items
-    → IsReduction grade_levels (unit_of (metres_shown view)) view.grade_steps (grades_shown view) grades lost.grades tables.grades.items
+    → IsViewInForm view → AreReductions view speeds grades lost tables
     → authority ≡ authority_for view speeds.steps grades.steps → bytes ≡ message_bytes authority
     → IsCandidate view (granted view authority) bytes lost tables
-candidate_made view authority speeds grades lost tables bytes form s g is message =
+candidate_made view authority speeds grades lost tables bytes form are is message =
     subst (λ a. IsCandidate view (granted view a) bytes lost tables) (sym is)
-    (candidate_for view speeds grades lost tables bytes form s g (message ∙ ap message_bytes is))
+    (candidate_for view speeds grades lost tables bytes form are (message ∙ ap message_bytes is))

@@ -2,13 +2,14 @@
 use Rattle.std.proofs.Common.{◌≡◌, ℕ, ◌+◌, ◌-◌, ◌≤◌, ◌^◌, Bool, true, ◌&&◌, nat_le, refl, arith, subst}
 use Rattle.std.specs.Prelude.{◌==◌}
 use Rattle.std.proofs.lemmas.Bool.{leb-true, le-leb, eqb-true}
-use Rattle.rbc_model.specs.declared.limits.TheConstants.{FARTHEST_END, MOST_STEPS}
-use Rattle.rbc_model.specs.declared.places.Format.TheVariants.{Near}
+use Rattle.rbc_model.specs.declared.limits.TheConstants.{FARTHEST_END_IN_TENS, MOST_STEPS}
+use Rattle.rbc_model.specs.declared.places.Format.TheVariants.{Far}
 use Rattle.rbc_model.specs.Levels.{speed_levels, grade_levels}
 use Rattle.rbc_model.specs.Profiles.{IsTrackFunction}
 use Rattle.rbc_model.specs.Results.{is_from_to}
 use Rattle.rbc_model.specs.Scales.{is_expressible}
 use Rattle.rbc_model.proofs.CountingLemmas.{both_of}
+use Rattle.rbc_model.proofs.ScaleLemmas.{expressible_some, expressible_near_enough}
 use Rattle.rbc_reach.specs.declared.parts.ViewParts.{ViewParts}
 use Rattle.rbc_reach.specs.Forms.{view_of_parts, are_in_form, IsViewInForm}
 
@@ -22,8 +23,8 @@ pub in_form-parts : (parts : ViewParts) → are_in_form parts ≡ true
 in_form-parts parts h speeds grades =
     let n = parts.speeds.end in
     let ends = parts.grades.end == n in
-    let expressible = is_expressible Near n in
-    let room = nat_le parts.origin (2 ^ 32 - 1 - FARTHEST_END) in
+    let expressible = is_expressible Far n in
+    let room = nat_le parts.origin (2 ^ 32 - 1 - FARTHEST_END_IN_TENS) in
     let speed_limit = is_from_to 1 MOST_STEPS parts.speed_steps in
     let grade_limit = is_from_to 1 MOST_STEPS parts.grade_steps in
     let last = both_of (ends && expressible && room && speed_limit) grade_limit h in
@@ -32,13 +33,14 @@ in_form-parts parts h speeds grades =
     let second = both_of ends expressible third.0 in
     let same : parts.grades.end ≡ n = eqb-true parts.grades.end n second.0 in
     let here : n ≡ parts.origin + n - parts.origin = omega arith in
-    let some = from_to 1 FARTHEST_END n second.1 in
-    let near = leb-true parts.origin (2 ^ 32 - 1 - FARTHEST_END) third.1 in
+    let some = expressible_some Far n second.1 in
+    let far = expressible_near_enough Far n second.1 in
+    let near = leb-true parts.origin (2 ^ 32 - 1 - FARTHEST_END_IN_TENS) third.1 in
     let speeds_limit = from_to 1 MOST_STEPS parts.speed_steps fourth.1 in
     let grades_limit = from_to 1 MOST_STEPS parts.grade_steps last.1 in (
       record {
         ahead = omega arith;
-        expressible = subst (λ k. is_expressible Near k ≡ true) here second.1;
+        expressible = subst (λ k. is_expressible Far k ≡ true) here second.1;
         in_range = omega arith;
         speeds = subst (λ k. IsTrackFunction speed_levels k parts.speeds.steps) here speeds;
         grades = subst (λ k. IsTrackFunction grade_levels k parts.grades.steps) here (subst (λ k. IsTrackFunction grade_levels k parts.grades.steps) same grades);
@@ -61,19 +63,19 @@ within low high n h k = both_hold (nat_le low n) (nat_le n high) (le-leb low n h
 same_end : (a b : ℕ) → a ≡ b → (a == b) ≡ true
 same_end a b h = grind (arith, h)
 
-pub parts-in_form : (parts : ViewParts) → parts.grades.end ≡ parts.speeds.end → 1 ≤ parts.speeds.end → parts.speeds.end ≤ FARTHEST_END → parts.origin ≤ 2 ^ 32 - 1 - FARTHEST_END
+pub parts-in_form : (parts : ViewParts) → parts.grades.end ≡ parts.speeds.end → is_expressible Far parts.speeds.end ≡ true → parts.origin ≤ 2 ^ 32 - 1 - FARTHEST_END_IN_TENS
     → 1 ≤ parts.speed_steps → parts.speed_steps ≤ MOST_STEPS → 1 ≤ parts.grade_steps → parts.grade_steps ≤ MOST_STEPS → are_in_form parts ≡ true
-parts-in_form parts ends some near room s0 s1 g0 g1 =
+parts-in_form parts ends end room s0 s1 g0 g1 =
     let n = parts.speeds.end in
     let end_test = parts.grades.end == n in
-    let expressible = is_expressible Near n in
-    let room_test = nat_le parts.origin (2 ^ 32 - 1 - FARTHEST_END) in
+    let expressible = is_expressible Far n in
+    let room_test = nat_le parts.origin (2 ^ 32 - 1 - FARTHEST_END_IN_TENS) in
     let speed_limit = is_from_to 1 MOST_STEPS parts.speed_steps in
     let grade_limit = is_from_to 1 MOST_STEPS parts.grade_steps in
     both_hold (end_test && expressible && room_test && speed_limit) grade_limit
     (both_hold (end_test && expressible && room_test) speed_limit
     (both_hold (end_test && expressible) room_test
-    (both_hold end_test expressible (same_end parts.grades.end n ends) (within 1 FARTHEST_END n some near))
-    (le-leb parts.origin (2 ^ 32 - 1 - FARTHEST_END) room))
+    (both_hold end_test expressible (same_end parts.grades.end n ends) end)
+    (le-leb parts.origin (2 ^ 32 - 1 - FARTHEST_END_IN_TENS) room))
     (within 1 MOST_STEPS parts.speed_steps s0 s1))
     (within 1 MOST_STEPS parts.grade_steps g0 g1)

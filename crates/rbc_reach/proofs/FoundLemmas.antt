@@ -1,10 +1,8 @@
 -- The view on the legs that were walked is the definition's, which has all legs of the way.
-use Rattle.std.proofs.Common.{◌≡◌, ℕ, ◌+◌, ◌<◌, ◌≤◌, min, Bool, true, false, cond, ◌&&◌, ◌++◌, List, length, take, drop, Option, Some, None, Result, Ok, Err, refl, sym, ap, ◌∙◌, subst, arith, nat_lt, nat_le}
+use Rattle.std.proofs.Common.{◌≡◌, ℕ, ◌≤◌, Bool, true, cond, ◌++◌, List, length, take, drop, Option, Some, None, Result, Ok, Err, refl, sym, ap, ◌∙◌, subst, arith}
 use Rattle.std.specs.Prelude.{◌==◌, IsSome, find}
 use Rattle.std.specs.Option.{option_map_or}
-use Rattle.std.proofs.lemmas.Bool.{ltb-true}
 use Rattle.std.proofs.lemmas.List.{take-append-drop}
-use Rattle.rbc_model.specs.declared.places.Format.TheVariants.{Near}
 use Rattle.rbc_model.specs.declared.refusals.ViewFault.{ViewFault}
 use Rattle.rbc_model.specs.declared.refusals.ViewFault.TheVariants.{Blocked, UnknownTrain}
 use Rattle.rbc_model.specs.Lines.{Line, grades, legs_begun_before, line_length, speeds}
@@ -14,33 +12,10 @@ use Rattle.rbc_model.specs.Scenes.{Scene, train_numbered}
 use Rattle.rbc_model.specs.Tracks.{Track}
 use Rattle.rbc_model.specs.Trains.{Train}
 use Rattle.rbc_model.specs.Views.{View, from_group, greatest_end, reach, start_of, stop, view, view_of}
-use Rattle.rbc_scene_laws.proofs.BasicLemmas.{and_right}
-use Rattle.rbc_reach_laws.specs.Nearest.{greatest_end_near, nearest_end}
-use Rattle.rbc_reach_laws.proofs.GreatestEndLemmas.{greatest_end-near}
+use Rattle.rbc_reach_laws.proofs.GreatestEndLemmas.{IsEndBefore, end_before}
 use Rattle.rbc_reach_laws.proofs.ShownLemmas.{grades_shown, legs_shown, speeds_shown}
 use Rattle.rbc_scene.specs.Reaches.{BeginsWay, ReachOnTrack}
 use Rattle.rbc_reach.specs.Found.{view_found}
-
--- ---- where the greatest end lies
-
--- it lies beyond the group, no farther than a message can tell, and not beyond the reach
-pub record IsEndBefore (train : Train) (reached end : ℕ) : Type 0 where
-  pub ahead : train.origin < end
-  pub near : end ≤ train.origin + 32000
-  pub before : end ≤ reached
-
-bounds_of : (b : Bool) (x end : ℕ) → cond b (Some x) None ≡ Some end → (b ≡ true) × (x ≡ end)
-bounds_of true x end h = (refl, cc)
-bounds_of false x end h = cc
-
-end_before : (train : Train) (reached end : ℕ) → greatest_end_near train reached ≡ Some end → IsEndBefore train reached end
-end_before train reached end h =
-    let near = nearest_end train reached in
-    let b = bounds_of (nat_lt train.front near && nat_le train.to near && nat_lt train.origin near) near end h in
-    let ahead = ltb-true train.origin near (and_right (nat_lt train.front near && nat_le train.to near) (nat_lt train.origin near) b.0) in
-    let is : min reached (train.origin + 32000) ≡ end = b.1 in
-    let low : train.origin < min reached (train.origin + 32000) = ahead in
-    record { ahead = omega arith; near = omega arith; before = omega arith }
 
 module _ (track : Track) (scene : Scene) (train : Train) where
   abbrev seen : Option ℕ → Result View ViewFault
@@ -74,11 +49,9 @@ module _ (track : Track) (scene : Scene) (train : Train) where
     pub blocked : (o : Option ℕ) → o ≡ greatest_end track scene train → o ≡ None → view_of track scene train ≡ Err (Blocked found.obstacle (from_group train found.place))
     blocked o h none = view_of-seen o h ∙ ap seen none ∙ sym (λ j. Err (Blocked (stops j) (from_group train (at j))))
 
-    module _ (near : track.format ≡ Near) (end : ℕ) (o : Option ℕ) (h : o ≡ greatest_end track scene train) (some : o ≡ Some end) where
-      pub end_is : IsEndBefore train found.place end
-      end_is =
-          subst (λ r. IsEndBefore train r end) (sym at)
-          (end_before train (reach track scene train) end (sym (greatest_end-near track scene train near) ∙ sym h ∙ some))
+    module _ (end : ℕ) (o : Option ℕ) (h : o ≡ greatest_end track scene train) (some : o ≡ Some end) where
+      pub end_is : IsEndBefore track train found.place end
+      end_is = subst (λ r. IsEndBefore track train r end) (sym at) (end_before track scene train end (sym h ∙ some))
 
       -- an end is given, and the legs that were walked reach it
       pub shown : (begins : BeginsWay track scene train found.line) → found.place ≤ line_length track found.line → view_of track scene train ≡ Ok (view_found train found end)

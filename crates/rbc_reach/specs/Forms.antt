@@ -1,7 +1,7 @@
 -- What a view is made of, and what each view keeps.
 use Rattle.std.specs.Prelude.{ℕ, ◌+◌, ◌-◌, ◌<◌, ◌≤◌, ◌^◌, Bool, ◌&&◌, ◌==◌, nat_le, IsTrue}
-use Rattle.rbc_model.specs.declared.limits.TheConstants.{FARTHEST_END, MOST_STEPS}
-use Rattle.rbc_model.specs.declared.places.Format.TheVariants.{Near}
+use Rattle.rbc_model.specs.declared.limits.TheConstants.{FARTHEST_END_IN_TENS, MOST_STEPS}
+use Rattle.rbc_model.specs.declared.places.Format.TheVariants.{Far}
 use Rattle.rbc_model.specs.Levels.{speed_levels, grade_levels}
 use Rattle.rbc_model.specs.Profiles.{IsTrackFunction}
 use Rattle.rbc_model.specs.Results.{is_from_to}
@@ -35,8 +35,8 @@ view_of_parts parts = record {
 abbrev pub are_in_form : ViewParts → Bool
 are_in_form parts =
     parts.grades.end == parts.speeds.end
-    && is_expressible Near parts.speeds.end
-    && nat_le parts.origin (2 ^ 32 - 1 - FARTHEST_END)
+    && is_expressible Far parts.speeds.end
+    && nat_le parts.origin (2 ^ 32 - 1 - FARTHEST_END_IN_TENS)
     && is_from_to 1 MOST_STEPS parts.speed_steps
     && is_from_to 1 MOST_STEPS parts.grade_steps
 
@@ -48,7 +48,7 @@ metres_shown view = view.end - view.origin
 -- group to there, and limits of steps that a packet has room for.
 pub record IsViewInForm (view : View) : Type 0 where
   pub ahead : view.origin < view.end
-  pub expressible : IsTrue (is_expressible Near (metres_shown view))
+  pub expressible : IsTrue (is_expressible Far (metres_shown view))
   pub in_range : view.end < 2 ^ 32
   pub speeds : IsTrackFunction speed_levels (metres_shown view) view.speeds
   pub grades : IsTrackFunction grade_levels (metres_shown view) view.grades

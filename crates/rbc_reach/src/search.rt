@@ -1,11 +1,12 @@
 //! The search for the farthest end that a train may be granted, and what stands beyond it.
 
-ghost use Rattle.std.specs.Prelude.{◌≡◌, ◌≤◌, ◌<◌, ◌+◌, ◌-◌, None, Err, IfOk, take};
-ghost use Rattle.rbc_model.specs.declared.limits.TheConstants.{FARTHEST_END};
+ghost use Rattle.std.specs.Prelude.{◌≡◌, ◌≤◌, ◌<◌, ◌-◌, None, Err, IfOk, IsTrue, take};
+ghost use Rattle.rbc_model.specs.declared.places.Format.TheVariants.{Far};
 ghost use Rattle.rbc_model.specs.declared.memory.OrMemory.TheVariants.{Refused};
 ghost use Rattle.rbc_model.specs.declared.refusals.ViewFault.TheVariants.{UnknownTrain};
 ghost use Rattle.rbc_model.specs.Answers.{AnswersOrMemory};
 ghost use Rattle.rbc_model.specs.Lines.{legs_begun_before, line_length};
+ghost use Rattle.rbc_model.specs.Scales.{is_expressible};
 ghost use Rattle.rbc_model.specs.Scenes.{train_numbered};
 ghost use Rattle.rbc_model.specs.Views.{from_group, view, view_of};
 ghost use Rattle.rbc_reach.specs.Found.{view_found};
@@ -50,7 +51,7 @@ fn view_of(
         (view_of book.now.track (scene_of locks.now book.now.trains) train.now.train) }
 {
     let found = reach(alloc, locks, book, train)?;
-    let _farthest = train.line().track().farthest_end();
+    let _line = train.line();
     match found.greatest_end(train) {
         Some(end) => Ok(view_to(alloc, train, &found, end)?),
         None => {
@@ -80,7 +81,7 @@ fn legs_to(alloc: Global, line: &Line, place: u32) -> Result<Vec<Leg>, Memory>
 fn view_to(alloc: Global, train: &Train, found: &Reach, end: u32) -> Result<View, Memory>
     requires track { found.now.track ≡ train.now.track }
     requires ahead { train.now.train.origin < end }
-    requires near { end ≤ train.now.train.origin + FARTHEST_END }
+    requires expressible { IsTrue (is_expressible Far (end - train.now.train.origin)) }
     requires on_line { end ≤ line_length found.now.track found.now.line }
     ensures { IfOk result (λ view. view ≡ view_found train.now.train found.now end) }
 {

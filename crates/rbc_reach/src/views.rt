@@ -7,15 +7,16 @@ ghost use Rattle.rbc_model.specs.Profiles.{IsTrackFunction};
 ghost use Rattle.rbc_reach.specs.Forms.{metres_shown, view_of_parts, are_in_form, IsViewInForm};
 
 use crate::ViewParts;
-use rbc_model::limits::{FARTHEST_END, MOST_STEPS};
-use rbc_model::{GroupName, Leg, Obstacle};
+use rbc_model::limits::{FARTHEST_END_IN_TENS, MOST_STEPS};
+use rbc_model::scales::is_expressible;
+use rbc_model::{Format, GroupName, Leg, Obstacle};
 use rbc_steps::{Grade, Runs, Speed};
 use std::marker::Model;
 
 /// What a train that asks is shown: its last report, its legs up to the reach, the places that bound its authority,
 /// the obstacle, the limits of steps, and the track's speeds and gradients from the group to the end (ERA SUBSET-026
-/// 3.6.0, sections 3.6 and 3.8). Places are metres from the start of the train's line. The end lies 1 to 32,000 m
-/// beyond the group.
+/// 3.6.0, sections 3.6 and 3.8). Places are metres from the start of the train's line. The end lies up to
+/// 80,000 m beyond the group, where a message can give it.
 #[derive(Drop)]
 pub struct View {
     parts: ViewParts,
@@ -41,16 +42,16 @@ fn are_in_form(parts: &ViewParts) -> bool
 {
     let end = parts.speeds.end();
     parts.grades.end() == end
-        && (1..=FARTHEST_END).contains(&end)
-        && parts.origin <= u32::MAX - FARTHEST_END
+        && is_expressible(Format::Far, end)
+        && parts.origin <= u32::MAX - FARTHEST_END_IN_TENS
         && (1..=MOST_STEPS).contains(&parts.speed_steps)
         && (1..=MOST_STEPS).contains(&parts.grade_steps)
 }
 
 impl View {
     /// The view of these parts. Its end lies where its speeds and gradients end. None where these do not end at one
-    /// metre, 1 to 32,000 m from the group, where the group lies beyond 4,294,935,295 m, or where a limit of steps is
-    /// not 1 to 31.
+    /// metre that a message can give, up to 80,000 m from the group, where the group lies beyond 4,294,887,295 m, or where
+    /// a limit of steps is not 1 to 31.
     pub fn new(parts: ViewParts) -> Option<View>
         ensures { result ≡ (if are_in_form parts then Some (view_of_parts parts) else None) }
     {

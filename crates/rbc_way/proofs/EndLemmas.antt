@@ -1,10 +1,8 @@
 -- Ends that a train may be granted, by its reach.
-use Rattle.std.proofs.Common.{◌≡◌, ℕ, ◌+◌, ◌-◌, ◌≤◌, min, Bool, true, false, ◌&&◌, length, Some, None, ap, sym, subst, ◌∙◌, arith, nat_lt, nat_le}
+use Rattle.std.proofs.Common.{◌≡◌, ℕ, ◌+◌, ◌-◌, ◌≤◌, Bool, true, false, ◌&&◌, length, Some, None, ap, sym, subst, ◌∙◌, arith, nat_lt, nat_le}
 use Rattle.std.specs.Prelude.{if◌then◌else◌}
 use Rattle.std.proofs.lemmas.Bool.{leb-true, ltb-true, lt-ltb, le-leb}
-use Rattle.rbc_model.specs.declared.places.Format.TheVariants.{Near}
-use Rattle.rbc_model.specs.declared.places.Format.{Format}
-use Rattle.rbc_model.specs.Scales.{farthest, is_expressible}
+use Rattle.rbc_model.specs.Scales.{is_expressible}
 use Rattle.rbc_model.specs.Tracks.{Track}
 use Rattle.rbc_model.specs.Lines.{line_length}
 use Rattle.rbc_model.specs.Trains.{Train}
@@ -17,17 +15,23 @@ use Rattle.rbc_model.proofs.StopLemmas.{IsStopped-reach}
 use Rattle.rbc_scene_laws.specs.Good.{IsGoodTrain}
 use Rattle.rbc_scene_laws.proofs.GrantingLemmas.{last_there}
 use Rattle.rbc_scene_laws.proofs.SpotLemmas.{line_length-append}
-use Rattle.rbc_reach_laws.specs.Nearest.{nearest_end}
-use Rattle.rbc_reach_laws.proofs.GreatestEndLemmas.{greatest_end-near}
+use Rattle.rbc_reach_laws.specs.Nearest.{is_ahead, nearest_end, greatest_end_by}
+use Rattle.rbc_reach_laws.proofs.GreatestEndLemmas.{greatest_end-by_reach}
 use Rattle.rbc_reach_laws.proofs.BasicLemmas.{both, and_left, and_right, same_test}
-use Rattle.rbc_way.specs.Reaches.{is_ahead}
 use Rattle.rbc_way.proofs.WayLemmas.{gained}
 
-module _ (track : Track) (scene : Scene) (train : Train) (near : track.format ≡ Near) where
-  pub greatest_is : (place end : ℕ) → place ≡ reach track scene train → end ≡ min place (train.origin + farthest track.format) → (if is_ahead train end then Some end else None) ≡ greatest_end track scene train
+module _ (track : Track) (scene : Scene) (train : Train) where
+  greatest_is : (place end : ℕ) → place ≡ reach track scene train → end ≡ nearest_end track.format train place → (if is_ahead train end then Some end else None) ≡ greatest_end track scene train
   greatest_is place end at is =
-      let least : end ≡ nearest_end train (reach track scene train) = is ∙ ap (λ (f : Format). min place (train.origin + farthest f)) near ∙ ap (λ (r : ℕ). min r (train.origin + 32000)) at in
-      ap (λ (e : ℕ). if is_ahead train e then Some e else None) least ∙ sym (greatest_end-near track scene train near)
+      ap (λ (e : ℕ). if is_ahead train e then Some e else None) is
+      ∙ ap (greatest_end_by track.format train) at
+      ∙ sym (greatest_end-by_reach track scene train)
+
+  pub end_is : (place end : ℕ) → place ≡ reach track scene train → end ≡ nearest_end track.format train place → is_ahead train end ≡ true → Some end ≡ greatest_end track scene train
+  end_is place end at is ahead = sym (ap (λ (b : Bool). if b then Some end else None) ahead) ∙ greatest_is place end at is
+
+  pub none_is : (place end : ℕ) → place ≡ reach track scene train → end ≡ nearest_end track.format train place → is_ahead train end ≡ false → None ≡ greatest_end track scene train
+  none_is place end at is ahead = sym (ap (λ (b : Bool). if b then Some end else None) ahead) ∙ greatest_is place end at is
 
   begins_before : IsGoodTrain track train → start_of train ≤ way_end track scene train
   begins_before good =
@@ -36,53 +40,32 @@ module _ (track : Track) (scene : Scene) (train : Train) (near : track.format �
       let front = good.front in
       omega arith
 
-  expressible_there : (end : ℕ) → nat_lt train.origin end ≡ true → end ≤ train.origin + farthest track.format → is_expressible_end track train end ≡ true
-  expressible_there end ahead far =
-      let low = ltb-true train.origin end ahead in
-      let high : end ≤ train.origin + 32000 = subst (λ (f : Format). end ≤ train.origin + farthest f) near far in
-      both (nat_lt train.origin end) (is_expressible track.format (end - train.origin)) ahead
-      (ap (λ (f : Format). is_expressible f (end - train.origin)) near
-      ∙ both (nat_le 1 (end - train.origin)) (nat_le (end - train.origin) 32000) (le-leb 1 (end - train.origin) (omega arith)) (le-leb (end - train.origin) 32000 (omega arith)))
+  -- whether a message can give the end
+  abbrev given : ℕ → Bool
+  given end = is_expressible track.format (end - train.origin)
 
-  near_enough : (end : ℕ) → is_expressible_end track train end ≡ true → end ≤ train.origin + farthest track.format
-  near_enough end h =
-      let ahead = ltb-true train.origin end (and_left (nat_lt train.origin end) (is_expressible track.format (end - train.origin)) h) in
-      let told : is_expressible Near (end - train.origin) ≡ true = ap (λ (f : Format). is_expressible f (end - train.origin)) (sym near) ∙ and_right (nat_lt train.origin end) (is_expressible track.format (end - train.origin)) h in
-      let high = leb-true (end - train.origin) 32000 (and_right (nat_le 1 (end - train.origin)) (nat_le (end - train.origin) 32000) told) in
-      let all : end ≤ train.origin + 32000 = omega arith in
-      subst (λ (f : Format). end ≤ train.origin + farthest f) (sym near) all
-
-  pub granted_is : (place end limit : ℕ) → IsGoodTrain track train → place ≡ reach track scene train → limit ≡ train.origin + farthest track.format →
-      (is_ahead train end && nat_le end place && nat_le end limit) ≡ (is_safe track scene train end && is_expressible_end track train end)
-  granted_is place end limit good at is =
+  pub granted_is : (place end : ℕ) → IsGoodTrain track train → place ≡ reach track scene train →
+      (is_ahead train end && nat_le end place && given end) ≡ (is_safe track scene train end && is_expressible_end track train end)
+  granted_is place end good at =
       let last = last_there train.line good.line.some_leg in
       let low = first_blocked-ge_start (is_clear track scene train) (start_of train) (way_end track scene train) (begins_before good) in
-      same_test (is_ahead train end && nat_le end place && nat_le end limit) (is_safe track scene train end && is_expressible_end track train end)
+      same_test (is_ahead train end && nat_le end place && given end) (is_safe track scene train end && is_expressible_end track train end)
       (λ h.
-      let h2 = and_left (is_ahead train end && nat_le end place) (nat_le end limit) h in
+      let h2 = and_left (is_ahead train end && nat_le end place) (given end) h in
       let a = and_left (is_ahead train end) (nat_le end place) h2 in
       let p : end ≤ reach track scene train = subst (λ (z : ℕ). end ≤ z) at (leb-true end place (and_right (is_ahead train end) (nat_le end place) h2)) in
-      let l : end ≤ train.origin + farthest track.format = subst (λ (z : ℕ). end ≤ z) is (leb-true end limit (and_right (is_ahead train end && nat_le end place) (nat_le end limit) h)) in
       let f = and_left (nat_lt train.front end && nat_le train.to end) (nat_lt train.origin end) a in
       both (is_safe track scene train end) (is_expressible_end track train end)
       (is_safe-IsSafe track scene train end (IsSafe-up_to_reach track scene train end (ltb-true train.front end (and_left (nat_lt train.front end) (nat_le train.to end) f)) (leb-true train.to end (and_right (nat_lt train.front end) (nat_le train.to end) f)) p))
-      (expressible_there end (and_right (nat_lt train.front end && nat_le train.to end) (nat_lt train.origin end) a) l))
+      (both (nat_lt train.origin end) (given end) (and_right (nat_lt train.front end && nat_le train.to end) (nat_lt train.origin end) a) (and_right (is_ahead train end && nat_le end place) (given end) h)))
       (λ h.
       let s = IsSafe-is_safe track scene train end (and_left (is_safe track scene train end) (is_expressible_end track train end) h) in
       let e = and_right (is_safe track scene train end) (is_expressible_end track train end) h in
       let p = le_reach-IsSafe track scene train end low (IsStopped-reach track scene train last.0 last.1) s in
-      both (is_ahead train end && nat_le end place) (nat_le end limit)
+      both (is_ahead train end && nat_le end place) (given end)
       (both (is_ahead train end) (nat_le end place)
       (both (nat_lt train.front end && nat_le train.to end) (nat_lt train.origin end)
       (both (nat_lt train.front end) (nat_le train.to end) (lt-ltb train.front end s.beyond_front) (le-leb train.to end s.takes_none_back))
-      (and_left (nat_lt train.origin end) (is_expressible track.format (end - train.origin)) e))
+      (and_left (nat_lt train.origin end) (given end) e))
       (le-leb end place (subst (λ (z : ℕ). end ≤ z) (sym at) p)))
-      (le-leb end limit (subst (λ (z : ℕ). end ≤ z) (sym is) (near_enough end e))))
-
-  pub end_is : (place end limit : ℕ) → place ≡ reach track scene train → limit ≡ train.origin + farthest track.format → end ≡ min place limit → is_ahead train end ≡ true → Some end ≡ greatest_end track scene train
-  end_is place end limit at far is ahead =
-      sym (ap (λ (b : Bool). if b then Some end else None) ahead) ∙ greatest_is place end at (is ∙ ap (min place) far)
-
-  pub none_is : (place end limit : ℕ) → place ≡ reach track scene train → limit ≡ train.origin + farthest track.format → end ≡ min place limit → is_ahead train end ≡ false → None ≡ greatest_end track scene train
-  none_is place end limit at far is ahead =
-      sym (ap (λ (b : Bool). if b then Some end else None) ahead) ∙ greatest_is place end at (is ∙ ap (min place) far)
+      (and_right (nat_lt train.origin end) (given end) e))

@@ -1,5 +1,5 @@
 -- Reaches together with their track, and what the walk to them keeps.
-use Rattle.std.specs.Prelude.{◌≡◌, ℕ, Bool, ◌&&◌, nat_lt, nat_le, List, length, take}
+use Rattle.std.specs.Prelude.{◌≡◌, ℕ, List, length, take}
 use Rattle.rbc_model.specs.declared.refusals.Obstacle.{Obstacle}
 use Rattle.rbc_model.specs.Tracks.{Track}
 use Rattle.rbc_model.specs.Locks.{Locks}
@@ -26,7 +26,3 @@ scene_of locks trains = record { locks = locks; trains = trains }
 -- the legs are those that the train's way begins with
 abbrev pub BeginsWay : Track → Scene → Train → Line → Type 0
 BeginsWay track scene train line = line ≡ take (length line) (way track scene train)
-
--- whether the place lies beyond the train's front and beyond its group, and takes nothing of its authority back
-abbrev pub is_ahead : Train → ℕ → Bool
-is_ahead train end = nat_lt train.front end && nat_le train.to end && nat_lt train.origin end

@@ -1,16 +1,16 @@
 //! What the search for a train's reach finds, and the ends that the train may be granted.
 
-ghost use Rattle.std.specs.Prelude.{◌≡◌, ◌+◌, ◌≤◌, ◌&&◌, nat_le, true, IfSome};
+ghost use Rattle.std.specs.Prelude.{◌≡◌, ◌-◌, ◌≤◌, ◌&&◌, nat_le, true, IfSome};
 ghost use Rattle.rbc_model.specs.Lines.{line_length};
-ghost use Rattle.rbc_model.specs.Scales.{farthest};
+ghost use Rattle.rbc_model.specs.Scales.{is_expressible};
 ghost use Rattle.rbc_model.specs.Scenes.{Scene};
 ghost use Rattle.rbc_model.specs.Views.{greatest_end, is_expressible_end, is_safe, reach};
-ghost use Rattle.rbc_model.specs.declared.places.Format.TheVariants.{Near};
-ghost use Rattle.rbc_way.specs.Reaches.{is_ahead};
+ghost use Rattle.rbc_reach_laws.specs.Nearest.{is_ahead};
 
-use crate::bounds::limit_of;
+use crate::bounds::nearest_end;
 use rbc_book::{Line, Train};
 use rbc_model::Obstacle;
+use rbc_model::scales::is_expressible;
 use std::marker::Model;
 
 /// Whether the place lies beyond the train's front and beyond its group, and takes nothing of its authority back.
@@ -23,12 +23,12 @@ fn is_ahead(train: &Train, end: u32) -> bool
 /// Whether the train may be granted this end, if its reach is at this place.
 fn may_end(train: &Train, place: u32, end: u32) -> bool
     ensures granted { result ≡ (is_ahead train.now.train end && nat_le end place
-        && nat_le end (train.now.train.origin + farthest train.now.track.format)) }
+        && is_expressible train.now.track.format (end - train.now.train.origin)) }
     ensures reached { result ≡ true → end ≤ place }
-    ensures near { train.now.track.format ≡ Near }
 {
-    let limit = limit_of(train);
-    is_ahead(train, end) && end <= place && end <= limit
+    let format = train.line().track().format();
+    let distance = end.saturating_sub(train.origin());
+    is_ahead(train, end) && end <= place && is_expressible(format, distance)
 }
 
 /// How far the way of a train is clear, what stands there, and the legs that its way begins with: those of its line,
@@ -96,14 +96,14 @@ impl Reach {
         self.line
     }
 
-    /// The greatest end that the train may be granted, if there is one: the lesser of the reach and of the farthest end
-    /// from its balise group that a message can give, if it lies beyond the front and takes nothing back.
+    /// The greatest end that the train may be granted, if there is one: the last place up to the reach whose distance from
+    /// the train's balise group a message can give, if it lies beyond the front and takes nothing back.
     pub fn greatest_end(&self, train: &Train) -> Option<u32>
         ensures greatest { (scene : Scene) → self.now.place ≡ reach train.now.track scene train.now.train
             → result ≡ greatest_end train.now.track scene train.now.train }
         ensures on_line { IfSome result (λ end. end ≤ line_length self.now.track self.now.line) }
     {
-        let end = self.place.min(limit_of(train));
+        let end = nearest_end(train, self.place);
         if is_ahead(train, end) {
             Some(end)
         } else {

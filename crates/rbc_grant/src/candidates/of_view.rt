@@ -34,7 +34,7 @@ pub fn candidate(
     let speeds = reduce(rt, alloc, view.speeds(), view.speed_steps())?;
     let grades = reduce(rt, alloc, view.grades(), view.grade_steps())?;
     let (time, group, nominal) = (view.time(), view.group(), view.nominal());
-    // Both profiles end where the view does, 1 to 32,000 m from the group.
+    // Both profiles end where the view does, and a message can give them.
     let authority = Authority::new(time, group, nominal, speeds.profile, grades.profile).unwrap();
     let message = write_message(alloc, &authority)?;
     Ok(Candidate {

@@ -1,6 +1,6 @@
 -- The search finds the definition's reach and what stands there, and its legs reach the end that is shown.
-use Rattle.std.proofs.Common.{◌≡◌, ◌≤◌, Err, Ok, ap, sym, ◌∙◌, arith, of_z, subst, to_z, to_z-of_z, w64}
-use Rattle.rbc_model.specs.declared.places.Format.TheVariants.{Near}
+use Rattle.std.proofs.Common.{◌≡◌, ◌-◌, ◌≤◌, Err, Ok, ap, sym, ◌∙◌, arith, of_z, subst, to_z, to_z-of_z, w64}
+use Rattle.rbc_model.proofs.ScaleLemmas.{expressible_far}
 use Rattle.rbc_model.specs.declared.refusals.ViewFault.TheVariants.{Blocked}
 use Rattle.rbc_model.specs.Lines.{line_length}
 use Rattle.rbc_model.specs.Tracks.{Track}
@@ -16,24 +16,22 @@ view_to-requires-clause-ahead c =
     let at = c.in_ok-found.ensures in
     let of_track = c.requires.track in
     let b = end_is c.args.book.now.track scene train c.in_ok-found.found at.track at.place at.obstacle
-    (subst (λ (t : Track). t.format ≡ Near) (c.deref.ensures ∙ c.track.ensures.track ∙ c.line.ensures.track ∙ of_track) c.farthest_end-farthest.ensures.near)
     c.in-Some.end c.greatest_end.result
     (c.greatest_end.ensures.greatest scene (at.place ∙ ap (λ (t : Track). reach t scene train) (sym of_track)) ∙ ap (λ (t : Track). greatest_end t scene train) of_track)
     c.in-Some.is in
     b.ahead
 
-pub view_to-requires-clause-near : goal.view_to-requires-clause-near
-view_to-requires-clause-near c =
+pub view_to-requires-clause-expressible : goal.view_to-requires-clause-expressible
+view_to-requires-clause-expressible c =
     let scene = scene_of c.args.locks.now c.args.book.now.trains in
     let train = c.args.train.now.train in
     let at = c.in_ok-found.ensures in
     let of_track = c.requires.track in
     let b = end_is c.args.book.now.track scene train c.in_ok-found.found at.track at.place at.obstacle
-    (subst (λ (t : Track). t.format ≡ Near) (c.deref.ensures ∙ c.track.ensures.track ∙ c.line.ensures.track ∙ of_track) c.farthest_end-farthest.ensures.near)
     c.in-Some.end c.greatest_end.result
     (c.greatest_end.ensures.greatest scene (at.place ∙ ap (λ (t : Track). reach t scene train) (sym of_track)) ∙ ap (λ (t : Track). greatest_end t scene train) of_track)
     c.in-Some.is in
-    b.near
+    expressible_far c.args.book.now.track.format (c.in-Some.end - train.origin) b.expressible
 
 pub returns-in-Some : goal.returns-in-Some
 returns-in-Some c =
@@ -43,7 +41,6 @@ returns-in-Some c =
     let at = c.in_ok-found.ensures in
     let of_track = c.requires.track in
     shown c.args.book.now.track scene train found at.track at.place at.obstacle
-    (subst (λ (t : Track). t.format ≡ Near) (c.deref.ensures ∙ c.track.ensures.track ∙ c.line.ensures.track ∙ of_track) c.farthest_end-farthest.ensures.near)
     c.in-Some.end c.greatest_end.result
     (c.greatest_end.ensures.greatest scene (at.place ∙ ap (λ (t : Track). reach t scene train) (sym of_track)) ∙ ap (λ (t : Track). greatest_end t scene train) of_track)
     c.in-Some.is at.line

@@ -1,5 +1,7 @@
 -- What is shown ends where the speeds and gradients do, and the line is too short for a place that is no number.
-use Rattle.std.proofs.Common.{◌≡◌, ◌-◌, ap, sym, ◌∙◌, arith}
+use Rattle.std.proofs.Common.{◌≡◌, ◌-◌, true, ap, sym, subst, ◌∙◌, arith}
+use Rattle.rbc_model.specs.declared.places.Format.TheVariants.{Far}
+use Rattle.rbc_model.specs.Scales.{is_expressible}
 use Rattle.rbc_model.specs.Lines.{line_length}
 use Rattle.rbc_reach.specs.declared.parts.ViewParts.{ViewParts}
 use Rattle.rbc_reach.specs.Forms.{are_in_form, view_of_parts}
@@ -30,10 +32,10 @@ unwrap-requires c =
     let steep : parts.grades.end ≡ c.args.end - c.origin-origin.result = ap (λ r. r.end) c.in_ok-grades.ensures in
     let origin = c.origin-origin.ensures.origin in
     let ahead = c.requires.ahead in
-    let near = c.requires.near in
+    let end : is_expressible Far parts.speeds.end ≡ true = subst (λ n. is_expressible Far n ≡ true) (sym (fast ∙ ap (λ o. c.args.end - o) origin)) c.requires.expressible in
     let on = c.requires.on_line in
     let metres : c.length-metres.result ≡ line_length c.args.found.now.track c.args.found.now.line = c.length-metres.ensures.length ∙ (λ j. line_length (c.line-line.ensures.track j) (c.line-line.ensures.legs j)) in
     let few = c.length-metres.ensures.at_most in
     some_by c.new.result (are_in_form parts) (view_of_parts parts) c.new.ensures
-    (parts-in_form parts (steep ∙ sym fast) (omega arith) (omega arith) (omega arith)
+    (parts-in_form parts (steep ∙ sym fast) end (omega arith)
     c.speed_steps.ensures.at_least c.speed_steps.ensures.at_most c.grade_steps.ensures.at_least c.grade_steps.ensures.at_most)

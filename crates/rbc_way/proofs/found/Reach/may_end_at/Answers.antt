@@ -1,5 +1,4 @@
-use Rattle.std.proofs.Common.{◌∙◌, ◌+◌, ap, refl}
-use Rattle.rbc_model.specs.Scales.{farthest}
+use Rattle.std.proofs.Common.{◌∙◌, ap}
 use Rattle.rbc_way.specs.Reaches.{ReachOnTrack}
 use Rattle.rbc_way.proofs.EndLemmas.{granted_is}
 use Rattle.rbc_way.proofs.found.Reach.may_end_at.Goals as goal
@@ -7,5 +6,5 @@ use Rattle.rbc_way.proofs.found.Reach.may_end_at.Goals as goal
 pub returns-clause-granted : goal.returns-clause-granted
 returns-clause-granted c = λ scene at.
     c.may_end.ensures.granted
-    ∙ granted_is c.args.train.now.track scene c.args.train.now.train c.may_end.ensures.near c.self.inside.place c.args.end (c.args.train.now.train.origin + farthest c.args.train.now.track.format) c.line-line.ensures.good
-    (ap (λ (r : ReachOnTrack). r.place) c.self.view_is ∙ at) refl
+    ∙ granted_is c.args.train.now.track scene c.args.train.now.train c.self.inside.place c.args.end c.line-line.ensures.good
+    (ap (λ (r : ReachOnTrack). r.place) c.self.view_is ∙ at)
