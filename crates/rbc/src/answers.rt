@@ -1,7 +1,7 @@
 //! The answer to a line: what it asks for is computed.
 
 ghost use Rattle.std.specs.Prelude.{◌≡◌, MatchResult};
-ghost use Rattle.rbc_model.specs.declared.places.Format.TheVariants.{Near};
+ghost use Rattle.rbc_model.specs.declared.places.Format.TheVariants.{Far};
 ghost use Rattle.rbc_model.specs.StepsReply.{AnswersLine, AnswersRequest, refusal_reply};
 ghost use Rattle.rbc_words.specs.StepsLines.{request_view, IsRequestInRange};
 ghost use Rattle.rbc_words.specs.Replies.{certified_text, reply_text};
@@ -16,7 +16,7 @@ use std::thread::Threads;
 
 /// The reply to a line.
 pub fn reply_to(rt: &(impl Threads + Sync), alloc: Global, line: &[u8]) -> StepsReply
-    ensures { AnswersLine Near line.now (reply_text result) }
+    ensures { AnswersLine Far line.now (reply_text result) }
 {
     match parse_steps(alloc, line) {
         Ok(StepsLine::Blank) => StepsReply::Nothing,

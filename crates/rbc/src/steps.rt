@@ -2,7 +2,7 @@
 
 ghost use Rattle.std.specs.Prelude.{◌≡◌, ◌↔◌, ℕ, List, [], true, false, IsTrue, OnOk, Err};
 ghost use Rattle.std.specs.Io.KnownBytes.{Consumes, IsAtEnd};
-ghost use Rattle.rbc_model.specs.declared.places.Format.TheVariants.{Near};
+ghost use Rattle.rbc_model.specs.declared.places.Format.TheVariants.{Far};
 ghost use Rattle.rbc_model.specs.StepsReply.{AnswersLine};
 ghost use Rattle.rbc_model.specs.Talks.{IsTalk, EachByItself};
 ghost use Rattle.rbc.specs.Answered.{AnswersAllSteps};
@@ -24,7 +24,7 @@ impl Answers<()> for Certifier {
     type State = ();
 
     ghost use Rattle.rbc_model.specs.declared.limits.TheConstants.{LONGEST_LINE};
-    ghost use Rattle.rbc_model.specs.declared.places.Format.TheVariants.{Near};
+    ghost use Rattle.rbc_model.specs.declared.places.Format.TheVariants.{Far};
     ghost use Rattle.rbc_model.specs.StepsReply.{AnswersLine};
     ghost use Rattle.rbc_model.specs.Talks.{EachByItself};
 
@@ -32,7 +32,7 @@ impl Answers<()> for Certifier {
 
     ghost state = { λ _. tt };
 
-    ghost answers = { EachByItself (AnswersLine Near) };
+    ghost answers = { EachByItself (AnswersLine Far) };
 
     fn longest_line() -> usize {
         LONGEST_LINE
@@ -83,7 +83,7 @@ pub fn steps<R: Source, W: Sink>(
 
     // What was written answers the lines of what was read.
     ensures talk { (input : List ℕ) × Consumes (R.left reader.old) (R.left reader.new) input
-        × IsTalk LONGEST_LINE (EachByItself (AnswersLine Near)) tt tt input (W.written writer.old) (W.written writer.new) result }
+        × IsTalk LONGEST_LINE (EachByItself (AnswersLine Far)) tt tt input (W.written writer.old) (W.written writer.new) result }
 
     // At the end of the input, where memory was never refused, what was written is one function of what was read.
     ensures answers { OnOk result (AnswersAllSteps (R.left reader.old) (W.written writer.old) (W.written writer.new)) }

@@ -8,7 +8,7 @@ use Rattle.rbc_model.specs.declared.sessions.SessionFault.TheVariants.{Write}
 use Rattle.rbc_model.specs.Talks.{IsTalk}
 use Rattle.rbc_model.specs.CheckText.{CheckLine, Checking, LeavesOpen, AnswersBlock, part_of, goes_on, is_head, opened, ended, overlong_text, AnswersCheck, TellsAll, IsChecked, unchecked}
 use Rattle.rbc_model.specs.declared.limits.TheConstants.{LONGEST_CHECK_LINE}
-use Rattle.rbc_model.specs.declared.places.Format.TheVariants.{Near}
+use Rattle.rbc_model.specs.declared.places.Format.TheVariants.{Far}
 
 -- what is told of the block before comes in front
 behind : (lines : List CheckLine) (refused : Bool) (said reply : List ℕ) (after : Checking) → LeavesOpen lines refused [] reply after
@@ -59,30 +59,30 @@ module _ (before : Checking) (line : CheckLine) where
 -- a line that is too long
 pub too_long : (before after : Checking) (said : List ℕ) (bad : Bool) → AnswersBlock before.block said bad
     → after ≡ record { block = []; refused = before.refused || bad }
-    → (line : List ℕ) → LONGEST_CHECK_LINE < length line → AnswersCheck Near before line (said ++ overlong_text) after
+    → (line : List ℕ) → LONGEST_CHECK_LINE < length line → AnswersCheck Far before line (said ++ overlong_text) after
 too_long before after said bad answers closed line long = ((λ short. absurd (omega arith)), (λ _. (said, bad, answers, refl, closed)))
 
 -- ---- a whole input
 
 module _ (first last : Checking) (input : List ℕ) (old between : Option (List ℕ)) (begin : first ≡ unchecked)
-    (talk : IsTalk LONGEST_CHECK_LINE (AnswersCheck Near) first last input old between (Ok tt))
+    (talk : IsTalk LONGEST_CHECK_LINE (AnswersCheck Far) first last input old between (Ok tt))
     (said : List ℕ) (bad : Bool) (answers : AnswersBlock last.block said bad)
     (mid new : Option (List ℕ)) (wrote : Appends between mid said) (kept : Keeps mid new) where
-  checked : (result : Result Bool SessionFault) → TellsAll between new said (last.refused || bad) result → IsChecked Near input old new result
+  checked : (result : Result Bool SessionFault) → TellsAll between new said (last.refused || bad) result → IsChecked Far input old new result
   checked result tells = record {
     last = last;
     between = between;
     outcome = Ok tt;
-    talk = subst (λ (s : Checking). IsTalk LONGEST_CHECK_LINE (AnswersCheck Near) s last input old between (Ok tt)) begin talk;
+    talk = subst (λ (s : Checking). IsTalk LONGEST_CHECK_LINE (AnswersCheck Far) s last input old between (Ok tt)) begin talk;
     ends = (said, bad, answers, tells);
   }
 
   -- all blocks are judged
   pub over : (closed : Checking) → closed ≡ record { block = []; refused = last.refused || bad } → (all : Bool) → all ≡ not closed.refused
-      → IsChecked Near input old new (Ok all)
+      → IsChecked Far input old new (Ok all)
   over closed same all tells =
       checked (Ok all) (Appends-kept between mid new said wrote kept, tells ∙ ap (λ (s : Checking). not s.refused) same)
 
   -- what is said of the last block was written, and could not be handed on
-  pub held : IsChecked Near input old new (Err Write)
+  pub held : IsChecked Far input old new (Err Write)
   held = checked (Err Write) ((said, [], sym (append-nil said), Appends-kept between mid new said wrote kept), refl)

@@ -13,8 +13,9 @@ ghost use Rattle.rbc_checks.specs.Verdicts.{rows_verdict, ArePartsOf};
 use crate::CheckLine;
 use crate::lines::ToldProfile;
 use crate::table::{Told, price_at, steps_of, table_of};
+use rbc_model::scales::unit_of;
 use rbc_model::{OrMemory, Reason};
-use rbc_price::{Prices, check};
+use rbc_price::{Prices, check, column_count};
 use rbc_steps::{Grade, Level, Profile, Runs, Speed};
 use rbc_words::StepsRequest;
 use std::alloc::Global;
@@ -129,7 +130,11 @@ fn check_told<V: Level>(parts: &Parts<V>, prices: &Prices, loss: u64) -> Result<
         (loss == last_price V.levels parts.now.limit parts.now.track (prices_of prices.now.items))
         (price_check V.levels parts.now.limit parts.now.track parts.now.profile (prices_of prices.now.items)) }
 {
-    let columns = parts.track.runs().len();
+    let end = parts.track.end();
+    if end % unit_of(end) != 0 {
+        return Err(Reason::Shape);
+    }
+    let columns = column_count(&parts.track);
     let is_last = loss == price_at(prices, parts.limit.min(columns), columns);
     with_loss(
         check(&parts.track, parts.limit, &parts.profile, prices),

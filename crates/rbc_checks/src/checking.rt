@@ -2,7 +2,7 @@
 
 ghost use Rattle.std.specs.Prelude.{◌≡◌, ◌↔◌, ◌||◌, ℕ, List, [], true, false, IsTrue, OnOk, IfOk, Ok, Err};
 ghost use Rattle.std.specs.Io.KnownBytes.{Consumes, IsAtEnd};
-ghost use Rattle.rbc_model.specs.declared.places.Format.TheVariants.{Near};
+ghost use Rattle.rbc_model.specs.declared.places.Format.TheVariants.{Far};
 ghost use Rattle.rbc_model.specs.declared.sessions.SessionFault.TheVariants.{Read, Write, Memory as NoMemory};
 ghost use Rattle.rbc_model.specs.CheckText.{AnswersBlock, AnswersShort, LeavesOpen, IsChecked, Checking, unchecked};
 ghost use Rattle.rbc_model.specs.Sessions.{Prints};
@@ -86,7 +86,7 @@ impl Checker {
 
     /// Takes a line, which is not too long.
     fn read(&mut self, line: &[u8]) -> Reply
-        ensures { AnswersShort Near self.old line.now (reply_text result) self.new }
+        ensures { AnswersShort Far self.old line.now (reply_text result) self.new }
     {
         let read = parse_check(self.alloc, line);
         let part = part_read(&read);
@@ -107,14 +107,14 @@ impl Answers<()> for Checker {
     type State = Checker;
 
     ghost use Rattle.rbc_model.specs.declared.limits.TheConstants.{LONGEST_CHECK_LINE};
-    ghost use Rattle.rbc_model.specs.declared.places.Format.TheVariants.{Near};
+    ghost use Rattle.rbc_model.specs.declared.places.Format.TheVariants.{Far};
     ghost use Rattle.rbc_model.specs.CheckText.{AnswersCheck};
 
     ghost longest = { LONGEST_CHECK_LINE };
 
     ghost state = { λ c. c };
 
-    ghost answers = { AnswersCheck Near };
+    ghost answers = { AnswersCheck Far };
 
     fn longest_line() -> usize {
         LONGEST_CHECK_LINE
@@ -189,7 +189,7 @@ pub fn check<R: Source, W: Sink>(
 
     // What was written tells the verdicts on the blocks of what was read, and Ok tells whether each was certified.
     ensures checked { (input : List ℕ) × Consumes (R.left reader.old) (R.left reader.new) input
-        × IsChecked Near input (W.written writer.old) (W.written writer.new) result }
+        × IsChecked Far input (W.written writer.old) (W.written writer.new) result }
 
     // At the end of the input, where memory was never refused, what was written, and whether each block was
     // certified, is one function of what was read.

@@ -1,7 +1,7 @@
 //! A line of a text with certificates: what it says.
 
 ghost use Rattle.std.specs.Prelude.{◌≡◌, MatchResult, IfOk, Some, option_map};
-ghost use Rattle.rbc_model.specs.declared.places.Format.TheVariants.{Near};
+ghost use Rattle.rbc_model.specs.declared.places.Format.TheVariants.{Far};
 ghost use Rattle.rbc_model.specs.declared.prices.Part.TheVariants.{Head, Profile, Row};
 ghost use Rattle.rbc_model.specs.CheckText.{check_line, words_said, head_line, SpeedHead, GradeHead};
 ghost use Rattle.rbc_model.specs.CheckText.{profile_line, profile_in, price_line, numbers_in, step_in_word};
@@ -59,7 +59,7 @@ pub struct ToldRow {
 ///
 /// The part of a certificate that the line is, where there is no memory to keep what it says.
 pub fn parse_check(alloc: Global, line: &[u8]) -> Result<CheckLine, Part>
-    ensures { IsSaid result (check_line Near line.now) }
+    ensures { IsSaid result (check_line Far line.now) }
 {
     let text = without_return(line);
     if is_blank(text) || !is_text(text) {
@@ -70,7 +70,7 @@ pub fn parse_check(alloc: Global, line: &[u8]) -> Result<CheckLine, Part>
 
 /// What the words of a text say.
 fn words_said(alloc: Global, text: &[u8]) -> Result<CheckLine, Part>
-    ensures { IsSaid result (words_said Near (words_of text.now)) }
+    ensures { IsSaid result (words_said Far (words_of text.now)) }
 {
     match next_word(text) {
         None => Ok(CheckLine::Other),
@@ -84,7 +84,7 @@ fn words_said(alloc: Global, text: &[u8]) -> Result<CheckLine, Part>
 
 /// The track of speeds in the words behind its command.
 fn speed_head(alloc: Global, words: &[u8]) -> Result<CheckLine, Part>
-    ensures { IsSaid result (head_line SpeedHead (request_in speed_kind Near (words_of words.now))) }
+    ensures { IsSaid result (head_line SpeedHead (request_in speed_kind Far (words_of words.now))) }
 {
     match request_in(alloc, words) {
         Ok(request) => Ok(CheckLine::SpeedHead(request)),
@@ -95,7 +95,7 @@ fn speed_head(alloc: Global, words: &[u8]) -> Result<CheckLine, Part>
 
 /// The track of gradients in the words behind its command.
 fn grade_head(alloc: Global, words: &[u8]) -> Result<CheckLine, Part>
-    ensures { IsSaid result (head_line GradeHead (request_in grade_kind Near (words_of words.now))) }
+    ensures { IsSaid result (head_line GradeHead (request_in grade_kind Far (words_of words.now))) }
 {
     match request_in(alloc, words) {
         Ok(request) => Ok(CheckLine::GradeHead(request)),

@@ -2,7 +2,7 @@
 use Rattle.std.proofs.Common.{◌≡◌, ℕ, zero, suc, lit<, ◌+◌, Bool, true, false, cond, List, ◌∷◌, [], ◌++◌, length, Option, Some, None, Result, Ok, Err, refl, sym, ap, ◌∙◌, subst, inl, ℤ, arith}
 use Rattle.std.specs.Prelude.{MatchBool, codes, decimal}
 use Rattle.std.specs.Fmt.{signed_decimal}
-use Rattle.rbc_model.specs.declared.places.Format.TheVariants.{Near}
+use Rattle.rbc_model.specs.declared.places.Format.TheVariants.{Far}
 use Rattle.rbc_model.specs.declared.refusals.Obstacle.{Obstacle}
 use Rattle.rbc_model.specs.declared.refusals.ViewFault.{ViewFault}
 use Rattle.rbc_model.specs.declared.refusals.ViewFault.TheVariants.{Blocked}
@@ -11,7 +11,7 @@ use Rattle.rbc_model.specs.Profiles.{StepFunction, value_at, IsChosenProfile}
 use Rattle.rbc_model.specs.Bits.{IsBytes, bytes_of, padded_bits, field_bits}
 use Rattle.rbc_model.specs.Messages.{Authority, IsAuthority, message_3, sized_fields, message_bytes}
 use Rattle.rbc_model.proofs.BitLemmas.{number_of-below}
-use Rattle.rbc_model.proofs.RoundTripLemmas.{round_trip_near}
+use Rattle.rbc_model.proofs.RoundTripLemmas.{round_trip_far}
 use Rattle.rbc_model.specs.Reading.{read_message}
 use Rattle.rbc_model.specs.SoundTracks.{IsInForm, IsSound}
 use Rattle.rbc_model.specs.Tracks.{Track}
@@ -124,8 +124,8 @@ are_bytes (a ∷ b ∷ c ∷ d ∷ e ∷ f ∷ g ∷ h ∷ rest) (suc i) = are_b
 are_bytes _ i = lit< tt
 
 -- and reading it gives the authority back
-pub reads_back : (authority : Authority) → IsAuthority Near authority → read_message Near (message_bytes authority) ≡ Ok authority
-reads_back authority is = (round_trip_near (message_bytes authority) authority (are_bytes (padded_bits (field_bits (sized_fields (message_3 authority)))))).1 (is, refl)
+pub reads_back : (authority : Authority) → IsAuthority Far authority → read_message Far (message_bytes authority) ≡ Ok authority
+reads_back authority is = (round_trip_far (message_bytes authority) authority (are_bytes (padded_bits (field_bits (sized_fields (message_3 authority)))))).1 (is, refl)
 
 basis_is : {V : Type 0} (levels : Levels V) (unit limit n m : ℕ) (runs steps : List (ℕ × V)) (track : StepFunction V)
     → IsChosenProfile levels unit limit n (value_at runs) steps → track ≡ record { steps = runs; end = m } → m ≡ n → IsBasisOf levels (record { steps = steps; end = n }) track
@@ -167,9 +167,9 @@ module _ (track : Track) (candidate : Candidate) (count : ℕ) (granted : ToldGr
               (basis_is grade_levels _ _ candidate.grant.authority.end (metres_shown candidate.view) candidate.view.grades candidate.grant.authority.grades granted.grades.track.now chosen.grades is.grades ends);
         }
 
-    pub told_grant : (scene : Scene) → IsInForm track → track.format ≡ Near → view track scene candidate.view.train ≡ Ok candidate.view
+    pub told_grant : (scene : Scene) → IsInForm track → view track scene candidate.view.train ≡ Ok candidate.view
         → IsGrantFor track scene candidate.view.train candidate.view candidate.grant (prices_of granted.speeds.prices.now) (prices_of granted.grades.prices.now)
-    told_grant scene form near e =
+    told_grant scene form e =
         record {
           train = best.train;
           best = IsBest-candidate track scene candidate.view.train candidate.view candidate.grant form e best;
@@ -177,21 +177,21 @@ module _ (track : Track) (candidate : Candidate) (count : ℕ) (granted : ToldGr
           grades = chosen.grades;
           speed_prices = is.speed_prices;
           grade_prices = is.grade_prices;
-          message = subst (λ f. read_message f (message_bytes candidate.grant.authority) ≡ Ok candidate.grant.authority) (sym near) is.reads;
+          message = is.reads;
         }
 
 -- the train is granted what the candidate is, and the reply tells it
 pub granted_answers : (history : HistoryOnTrack) (candidate : Candidate) (place : ℕ) (granted : ToldGrant)
     → is_full history ≡ false → place ≡ length history.entries → IsToldOf candidate (place + 1) granted
-    → IsCandidateOf candidate.view candidate.grant → HasChosenProfiles candidate.view candidate.grant → IsInForm history.track → history.track.format ≡ Near
+    → IsCandidateOf candidate.view candidate.grant → HasChosenProfiles candidate.view candidate.grant → IsInForm history.track
     → view history.track (scene_now history) candidate.view.train ≡ Ok candidate.view
     → AnswersAuthority history.track history.entries (grant_text history.track granted) (Some (Granted candidate.grant)) candidate.view.train
-granted_answers history candidate place granted free at is best chosen form near e =
+granted_answers history candidate place granted free at is best chosen form e =
     shown_granted history candidate.view.train candidate.view e (grant_text history.track granted) (Some (Granted candidate.grant)) free (
       candidate.grant,
       prices_of granted.speeds.prices.now,
       prices_of granted.grades.prices.now,
-      told_grant history.track candidate (place + 1) granted is best chosen (scene_now history) form near e,
+      told_grant history.track candidate (place + 1) granted is best chosen (scene_now history) form e,
       told_text history.track candidate (place + 1) granted is
           ∙ ap (λ n. grant_reply history.track (n + 1) candidate.view candidate.grant (prices_of granted.speeds.prices.now) (prices_of granted.grades.prices.now)) at,
       refl,
@@ -199,12 +199,12 @@ granted_answers history candidate place granted free at is best chosen form near
 
 pub granted_comes : (history after : HistoryOnTrack) (candidate : Candidate) (receipt : Receipt) (place : ℕ) (granted : ToldGrant)
     → EntersOrMemory {E = CommitFault} (Ok receipt) history after (entry_granted history candidate) → place ≡ receipt.place → IsToldOf candidate (place + 1) granted
-    → IsCandidateOf candidate.view candidate.grant → HasChosenProfiles candidate.view candidate.grant → IsInForm history.track → history.track.format ≡ Near
+    → IsCandidateOf candidate.view candidate.grant → HasChosenProfiles candidate.view candidate.grant → IsInForm history.track
     → view history.track (scene_now history) candidate.view.train ≡ Ok candidate.view
     → Comes (λ track entries said more. AnswersAuthority track entries said more candidate.view.train) history (grant_text history.track granted) after
-granted_comes history after candidate receipt place granted enters at is best chosen form near e =
+granted_comes history after candidate receipt place granted enters at is best chosen form e =
     let entry = grant_entered history candidate receipt.entry enters.0 in (
       Some (Granted candidate.grant),
-      granted_answers history candidate place granted entry.0 (at ∙ enters.1) is best chosen form near e,
+      granted_answers history candidate place granted entry.0 (at ∙ enters.1) is best chosen form e,
       enters.2 ∙ ap (with_entry history) (sym entry.1),
     )

@@ -5,7 +5,6 @@ use Rattle.std.specs.Prelude.{nat_le, IfOk, OnErr}
 use Rattle.std.specs.Result.{result_map_both}
 use Rattle.rbc_model.specs.declared.memory.OrMemory.{OrMemory}
 use Rattle.rbc_model.specs.declared.memory.OrMemory.TheVariants.{Refused}
-use Rattle.rbc_model.specs.declared.places.Format.TheVariants.{Near}
 use Rattle.rbc_model.specs.declared.refusals.Obstacle.{Obstacle}
 use Rattle.rbc_model.specs.declared.refusals.Refusal.TheVariants.{UnknownTrain as NoSuchTrain}
 use Rattle.rbc_model.specs.declared.refusals.ViewFault.{ViewFault}
@@ -157,12 +156,12 @@ module _ (track : Track) (entries : List Entry) (train : ℕ) where
 
     module _ (place : ℕ) (told : ToldGrant) (of_candidate : IsToldOf granted.candidate (place + 1) told)
         (best : IsCandidateOf granted.candidate.view granted.candidate.grant) (chosen : HasChosenProfiles granted.candidate.view granted.candidate.grant) where
-      pub asked_granted : place ≡ granted.receipt.place → IsInForm track → track.format ≡ Near → AnswersAsked track entries (grant_text track told) (Some granted.receipt.entry) train
-      asked_granted at form near =
+      pub asked_granted : place ≡ granted.receipt.place → IsInForm track → AnswersAsked track entries (grant_text track told) (Some granted.receipt.entry) train
+      asked_granted at form =
           subst (λ n. AnswersAsked track entries (grant_text track told) (Some granted.receipt.entry) n) its_train
           (subst (λ entry. AnswersAsked track entries (grant_text track told) (Some entry) granted.candidate.view.train) (sym is.3)
           (inl
-          (granted_answers there granted.candidate place told is.0 (at ∙ is.2) of_candidate best chosen form near
+          (granted_answers there granted.candidate place told is.0 (at ∙ is.2) of_candidate best chosen form
           (subst (λ n. view track (replay track entries) n ≡ Ok granted.candidate.view) (sym its_train) shown_to))))
 
       pub asked_granted_whole : IsSound track → IsWhole track told

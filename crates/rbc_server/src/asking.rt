@@ -107,7 +107,6 @@ fn commit<'a>(alloc: Global, history: &mut Record, candidate: &'a Candidate) -> 
 {
     // The track is sound, so what stands beyond the end is of the track.
     let _sections = history.track().section_count();
-    let _end = history.track().farthest_end();
     let _version = history.version();
     match history.commit(alloc, candidate) {
         Ok(receipt) => SessionReply::Granted(told_of(candidate, receipt.place() + 1)),

@@ -95,7 +95,6 @@ pub(crate) fn reply_to<'a>(
 {
     // The track is sound, so what stands beyond an end, or in the way, is of the track.
     let _sections = track.section_count();
-    let _end = track.farthest_end();
     match answer {
         Ok(granted) => {
             let version = granted.receipt.place() + 1;

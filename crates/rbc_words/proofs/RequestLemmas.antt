@@ -2,7 +2,7 @@
 use Rattle.std.proofs.Common.{◌≡◌, ℕ, ◌+◌, Bool, true, false, not, cond, List, [], ◌∷◌, ◌++◌, Result, Ok, Err, refl, sym, ap, ◌∙◌, append_assoc, nat_le, length}
 use Rattle.std.specs.Result.{result_err}
 use Rattle.rbc_model.specs.declared.limits.TheConstants.{MOST_STEPS}
-use Rattle.rbc_model.specs.declared.places.Format.TheVariants.{Near}
+use Rattle.rbc_model.specs.declared.places.Format.TheVariants.{Far}
 use Rattle.rbc_model.specs.declared.refusals.LineFault.{LineFault}
 use Rattle.rbc_model.specs.declared.refusals.LineFault.TheVariants.{Number}
 use Rattle.rbc_model.specs.Results.{is_from_to, allowed_value, ◌>>=◌}
@@ -45,11 +45,11 @@ module _ {V : Type 0} (kind : Kind V) (limit i : ℕ) (word next : List ℕ) (al
   -- one more run
   pub one_more : (last : List ℕ) (words : List (List ℕ)) (refused still : Bool) (front more : List (ℕ × V)) (run : ℕ × V) → Ok run ≡ run_in_word kind i word
       → (still ≡ false → (refused ≡ false) × (more ≡ front ++ run ∷ []))
-      → IsSoFar all (runs_in kind Near limit i (word ∷ next ∷ last ∷ words)) refused front
-      → IsSoFar all (runs_in kind Near limit (i + 1) (next ∷ last ∷ words)) still more
+      → IsSoFar all (runs_in kind Far limit i (word ∷ next ∷ last ∷ words)) refused front
+      → IsSoFar all (runs_in kind Far limit (i + 1) (next ∷ last ∷ words)) still more
   one_more last words refused still front more run e pushed so_far =
-      let rest = runs_in kind Near limit (i + 1) (next ∷ last ∷ words) in
-      let step : runs_in kind Near limit i (word ∷ next ∷ last ∷ words) ≡ (rest >>= λ rest. Ok (record rest { runs = run ∷ rest.runs })) = ap (λ found. found >>= λ run. rest >>= λ rest. Ok (record rest { runs = run ∷ rest.runs })) (sym e) in
+      let rest = runs_in kind Far limit (i + 1) (next ∷ last ∷ words) in
+      let step : runs_in kind Far limit i (word ∷ next ∷ last ∷ words) ≡ (rest >>= λ rest. Ok (record rest { runs = run ∷ rest.runs })) = ap (λ found. found >>= λ run. rest >>= λ rest. Ok (record rest { runs = run ∷ rest.runs })) (sym e) in
       record {
         kept = λ ok. so_far.kept (pushed ok).0 ∙ ap (with_runs front) step ∙ regroup front run rest ∙ ap (λ runs. with_runs runs rest) (sym (pushed ok).1);
         faults = so_far.faults ∙ ap result_err step ∙ same_fault run rest;
@@ -57,9 +57,9 @@ module _ {V : Type 0} (kind : Kind V) (limit i : ℕ) (word next : List ℕ) (al
 
 -- the words of a request behind its limit are read as its runs and its end
 pub behind_limit : {V : Type 0} (kind : Kind V) (words : List (List ℕ)) (first : List ℕ) (rest : List (List ℕ)) (limit : ℕ) → words ≡ first ∷ rest → nat_le 3 (length rest) ≡ true
-    → Ok limit ≡ allowed_value (is_from_to 1 MOST_STEPS) (Number 2) (number_in first) → request_in kind Near words ≡ runs_in kind Near limit 3 rest
+    → Ok limit ≡ allowed_value (is_from_to 1 MOST_STEPS) (Number 2) (number_in first) → request_in kind Far words ≡ runs_in kind Far limit 3 rest
 behind_limit kind words first [] limit e long read = absurd (cc)
 behind_limit kind words first (a ∷ []) limit e long read = absurd (cc)
 behind_limit kind words first (a ∷ b ∷ []) limit e long read = absurd (cc)
 behind_limit kind words first (a ∷ b ∷ c ∷ more) limit e long read =
-    ap (request_in kind Near) e ∙ ap (λ found. found >>= λ limit. runs_in kind Near limit 3 (a ∷ b ∷ c ∷ more)) (sym read)
+    ap (request_in kind Far) e ∙ ap (λ found. found >>= λ limit. runs_in kind Far limit 3 (a ∷ b ∷ c ∷ more)) (sym read)

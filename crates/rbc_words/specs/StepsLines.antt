@@ -1,8 +1,10 @@
 -- What is read of a line of `rbc steps`, as the grammar has it, and the ranges of its numbers.
 use Rattle.std.specs.Prelude.{◌<◌, ◌≤◌, length, IsTrue, nat_le}
 use Rattle.std.specs.List.{list_all}
-use Rattle.rbc_model.specs.declared.limits.TheConstants.{MOST_STEPS, LONGEST_TRACK, FARTHEST_END}
+use Rattle.rbc_model.specs.declared.limits.TheConstants.{MOST_STEPS, LONGEST_TRACK}
+use Rattle.rbc_model.specs.declared.places.Format.TheVariants.{Far}
 use Rattle.rbc_model.specs.Levels.{Levels, speed_levels, grade_levels}
+use Rattle.rbc_model.specs.Scales.{is_expressible}
 use Rattle.rbc_model.specs.StepsText.{StepsRequest, StepsLine, Blank, Speed, Grade}
 use Rattle.rbc_words.specs.declared.steps_request.StepsRequest.{StepsRequest as ReadRequest}
 use Rattle.rbc_words.specs.declared.steps_request.StepsLine.{StepsLine as ReadLine}
@@ -31,8 +33,7 @@ pub record IsRequestInRange {V : Type 0} (levels : Levels V) (request : StepsReq
   pub some : 0 < length request.runs
   pub starts : IsTrue (list_all (λ run. nat_le run.0 LONGEST_TRACK) request.runs)
   pub values : IsTrue (list_all (λ run. levels.in_range run.1) request.runs)
-  pub end_low : 1 ≤ request.end
-  pub end_high : request.end ≤ FARTHEST_END
+  pub expressible : IsTrue (is_expressible Far request.end)
 
 -- the same of a line
 abbrev pub IsLineInRange : StepsLine → Type 0

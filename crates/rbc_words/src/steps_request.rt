@@ -2,16 +2,20 @@
 
 ghost use Rattle.std.specs.Prelude.{◌≡◌, nat_le, IfOk, IsOk, IsErrOf, length};
 ghost use Rattle.std.specs.Result.{IsOkAnd};
-ghost use Rattle.rbc_model.specs.declared.places.Format.TheVariants.{Near};
+ghost use Rattle.rbc_model.specs.declared.places.Format.TheVariants.{Far};
+ghost use Rattle.rbc_model.specs.declared.refusals.LineFault.TheVariants.{Number};
 ghost use Rattle.rbc_model.specs.Answers.{AnswersAs};
-ghost use Rattle.rbc_model.specs.Words.{words_of};
+ghost use Rattle.rbc_model.specs.Results.{allowed_value};
+ghost use Rattle.rbc_model.specs.Scales.{is_expressible};
+ghost use Rattle.rbc_model.specs.Words.{words_of, number_in};
 ghost use Rattle.rbc_model.specs.StepsText.{run_in_word, runs_in, request_in, words_line, parse_steps};
 ghost use Rattle.rbc_words.specs.StepsLines.{request_view, line_view, IsRequest, IsLineInRange};
 
 use crate::spelled::Spelled;
 use crate::words::{around, next_word, number_at, request_text};
-use rbc_model::limits::{FARTHEST_END, LONGEST_TRACK, MOST_STEPS};
-use rbc_model::{LineFault, OrMemory};
+use rbc_model::limits::{FARTHEST_END_IN_TENS, LONGEST_TRACK, MOST_STEPS};
+use rbc_model::scales::is_expressible;
+use rbc_model::{Format, LineFault, OrMemory};
 use rbc_steps::{Grade, Level, Speed};
 use std::alloc::Global;
 
@@ -22,7 +26,7 @@ pub struct StepsRequest<V: Level> {
     pub limit: usize,
     /// The track's runs: where each starts, 0 to 100,000 metres, and its level.
     pub runs: Vec<(u32, V)>,
-    /// Where the track ends, 1 to 32,000 metres.
+    /// Where the track ends: 1 to 32,000 metres, or a multiple of ten from 32,010 to 80,000 metres.
     pub end: u32,
 }
 
@@ -51,8 +55,8 @@ pub enum StepsLine {
 ///   range, `Name` of a word that is not `end`.
 /// - `Memory`, where there is none to keep the runs in. Only a valid request can get it.
 pub fn parse_steps(alloc: Global, line: &[u8]) -> Result<StepsLine, OrMemory<LineFault>>
-    ensures grammar { AnswersAs line_view result (parse_steps Near line.now) }
-    ensures memory { IsErrOf result OrMemory.Memory → IsOkAnd (parse_steps Near line.now) IsRequest }
+    ensures grammar { AnswersAs line_view result (parse_steps Far line.now) }
+    ensures memory { IsErrOf result OrMemory.Memory → IsOkAnd (parse_steps Far line.now) IsRequest }
     ensures in_range { IfOk result (λ line. IsLineInRange (line_view line)) }
 {
     match request_text(line)? {
@@ -63,8 +67,8 @@ pub fn parse_steps(alloc: Global, line: &[u8]) -> Result<StepsLine, OrMemory<Lin
 
 /// What the words of a text say, the first of them a command.
 fn words_line(alloc: Global, text: &[u8]) -> Result<StepsLine, OrMemory<LineFault>>
-    ensures grammar { AnswersAs line_view result (words_line Near (words_of text.now)) }
-    ensures memory { IsErrOf result OrMemory.Memory → IsOkAnd (words_line Near (words_of text.now)) IsRequest }
+    ensures grammar { AnswersAs line_view result (words_line Far (words_of text.now)) }
+    ensures memory { IsErrOf result OrMemory.Memory → IsOkAnd (words_line Far (words_of text.now)) IsRequest }
 {
     match next_word(text) {
         None => Ok(StepsLine::Blank),
@@ -83,8 +87,8 @@ pub fn request_in<V: Spelled>(
     alloc: Global,
     words: &[u8],
 ) -> Result<StepsRequest<V>, OrMemory<LineFault>>
-    ensures grammar { AnswersAs request_view result (request_in V.kind Near (words_of words.now)) }
-    ensures memory { IsErrOf result OrMemory.Memory → IsOk (request_in V.kind Near (words_of words.now)) }
+    ensures grammar { AnswersAs request_view result (request_in V.kind Far (words_of words.now)) }
+    ensures memory { IsErrOf result OrMemory.Memory → IsOk (request_in V.kind Far (words_of words.now)) }
 {
     match next_word(words) {
         Some((limit, rest)) if has_words(rest, 3) => {
@@ -115,8 +119,8 @@ fn runs_in<V: Spelled>(
     limit: usize,
     words: &[u8],
 ) -> Result<StepsRequest<V>, OrMemory<LineFault>>
-    ensures grammar { AnswersAs request_view result (runs_in V.kind Near limit 3 (words_of words.now)) }
-    ensures memory { IsErrOf result OrMemory.Memory → IsOk (runs_in V.kind Near limit 3 (words_of words.now)) }
+    ensures grammar { AnswersAs request_view result (runs_in V.kind Far limit 3 (words_of words.now)) }
+    ensures memory { IsErrOf result OrMemory.Memory → IsOk (runs_in V.kind Far limit 3 (words_of words.now)) }
 {
     let Some((mut word, rest)) = next_word(words) else {
         return Err(OrMemory::Refused(LineFault::Words));
@@ -139,11 +143,23 @@ fn runs_in<V: Spelled>(
     if word != b"end".as_slice() {
         return Err(OrMemory::Refused(LineFault::Name(index)));
     }
-    let end = number_at(index + 1, next, 1, FARTHEST_END)?;
+    let end = end_at(index + 1, next)?;
     if refused {
         return Err(OrMemory::Memory);
     }
     Ok(StepsRequest { limit, runs, end })
+}
+
+/// Word `index` as the end of a track, where a message can give one.
+fn end_at(index: usize, word: &[u8]) -> Result<u32, LineFault>
+    ensures { result ≡ allowed_value (is_expressible Far) (Number index) (number_in word.now) }
+{
+    let end = number_at(index, word, 1, FARTHEST_END_IN_TENS)?;
+    if is_expressible(Format::Far, end) {
+        Ok(end)
+    } else {
+        Err(LineFault::Number(index))
+    }
 }
 
 /// Word `index` as a run: its start, a colon, and its value.

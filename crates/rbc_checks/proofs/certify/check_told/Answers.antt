@@ -1,19 +1,19 @@
-use Rattle.std.proofs.Common.{◌≡◌, ap, sym, ◌∙◌, length, min, ◌==◌}
+use Rattle.std.proofs.Common.{◌≡◌, ap, ◌∙◌, ◌%◌, ◌==◌, min}
 use Rattle.rbc_model.specs.CheckText.{with_loss}
 use Rattle.rbc_model.specs.PriceChecks.{last_price}
 use Rattle.rbc_model.specs.PriceTables.{table_at}
+use Rattle.rbc_model.specs.Scales.{unit_of}
+use Rattle.rbc_price.specs.Columns.{stretches_of}
 use Rattle.rbc_table_laws.specs.PriceRows.{prices_of}
-use Rattle.rbc_checks.proofs.VerdictLemmas.{last_price-is}
+use Rattle.rbc_checks.proofs.VerdictLemmas.{no_table}
 use Rattle.rbc_checks.proofs.certify.check_told.Goals as goal
 
 pub returns : goal.returns
 returns g c =
     let parts = c.args.parts.now in
     let rows = prices_of c.args.prices.now.items in
-    let last = last_price-is g.V.Level.levels parts.limit parts.track rows c.runs-columns.ensures.track in
-    let count : length c.runs-columns.result.now ≡ length parts.track.steps = ap length c.runs-columns.ensures.runs in
     let price : c.price_at.result ≡ last_price g.V.Level.levels parts.limit parts.track rows =
-    c.price_at.ensures ∙ ap (λ j. table_at rows j (length c.runs-columns.result.now)) c.min.ensures
-    ∙ ap (λ n. table_at rows (min parts.limit n) n) count ∙ sym last in
+    c.price_at.ensures ∙ ap (λ j. table_at rows j c.column_count-columns.result) c.min.ensures
+    ∙ ap (λ n. table_at rows (min parts.limit n) n) c.column_count-columns.ensures.count in
     c.with_loss.ensures ∙ ap (λ p. with_loss (c.args.loss == p) c.check.result) price
     ∙ ap (with_loss (c.args.loss == last_price g.V.Level.levels parts.limit parts.track rows)) c.check.ensures.verdict

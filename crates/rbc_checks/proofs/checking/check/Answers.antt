@@ -1,6 +1,6 @@
 use Rattle.std.proofs.Common.{ap, not, Ok}
 use Rattle.std.proofs.lemmas.Result.{err_from_is_err_and}
-use Rattle.rbc_model.specs.declared.places.Format.TheVariants.{Near}
+use Rattle.rbc_model.specs.declared.places.Format.TheVariants.{Far}
 use Rattle.rbc_model.specs.CheckText.{Checking, IsChecked}
 use Rattle.rbc_session_laws.proofs.AllReadLemmas.{of_all_read}
 use Rattle.rbc_session_laws.proofs.CheckLemmas.{checks_are_answered}
@@ -36,5 +36,5 @@ returns-clause-checked g c =
 pub returns-clause-answers : goal.returns-clause-answers
 returns-clause-answers g c =
     let checked = returns-clause-checked g c in
-    of_all_read (IsChecked Near) AnswersBlocks (λ all input held text. checks_are_answered Near input held text all) _ _ _ _ (Ok (not c.checker-2.inside.refused))
+    of_all_read (IsChecked Far) AnswersBlocks (λ all input held text. checks_are_answered Far input held text all) _ _ _ _ (Ok (not c.checker-2.inside.refused))
     checked.0 c.in_ok-converse.ensures.end checked.1 checked.2

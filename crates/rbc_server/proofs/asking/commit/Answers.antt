@@ -1,7 +1,5 @@
-use Rattle.std.proofs.Common.{subst, ◌∙◌, ◌≡◌, ◌+◌}
-use Rattle.rbc_model.specs.declared.places.Format.TheVariants.{Near}
+use Rattle.std.proofs.Common.{subst, ◌∙◌, ◌+◌}
 use Rattle.rbc_model.specs.SoundTracks.{IsSound}
-use Rattle.rbc_model.specs.Tracks.{Track}
 use Rattle.rbc_server.proofs.AskingLemmas.{shown_named, shown_full, full_to_grants, never_stale, told_whole, granted_comes}
 use Rattle.rbc_server.proofs.asking.commit.Goals as goal
 
@@ -12,9 +10,8 @@ unreachable-requires c =
 
 pub returns-in-Ok-clause-comes : goal.returns-in-Ok-clause-comes
 returns-in-Ok-clause-comes c =
-    let near = subst (λ (t : Track). t.format ≡ Near) (c.deref-2.ensures ∙ c.track-2.ensures) c.farthest_end-end.ensures.near in
     granted_comes c.args.history.now c.commit.new.self c.args.candidate.now c.in-Ok.receipt c.place.result c.told_of.result
-    c.in-Ok.ensures.entered c.place.ensures c.told_of.ensures.told c.told_of.ensures.best c.told_of.ensures.chosen c.version-version.ensures.form near c.requires
+    c.in-Ok.ensures.entered c.place.ensures c.told_of.ensures.told c.told_of.ensures.best c.told_of.ensures.chosen c.version-version.ensures.form c.requires
 
 pub returns-in-Ok-clause-whole : goal.returns-in-Ok-clause-whole
 returns-in-Ok-clause-whole c =

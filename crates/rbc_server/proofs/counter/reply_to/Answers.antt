@@ -17,7 +17,7 @@ returns-in-Ok-clause-comes c =
     let is = subst (λ a. IsAnswered (history_on track entries) train a) c.in-Ok.is answered in
     subst (λ a. AnswersAsked track entries (grant_text track c.told_of.result) (entry_granted_in a) train) (sym c.in-Ok.is)
     (asked_granted track entries train c.in-Ok.granted is c.place-version.result c.told_of.result c.told_of.ensures.told c.told_of.ensures.best c.told_of.ensures.chosen
-    c.place-version.ensures c.section_count-sections.ensures.form c.farthest_end-end.ensures.near)
+    c.place-version.ensures c.section_count-sections.ensures.form)
 
 pub returns-in-Ok-clause-whole : goal.returns-in-Ok-clause-whole
 returns-in-Ok-clause-whole c =

@@ -1,4 +1,4 @@
-use Rattle.std.proofs.Common.{◌≡◌, ◌+◌, false, Bool, drop, Option, List, ℕ, Result, map}
+use Rattle.std.proofs.Common.{◌≡◌, ◌+◌, false, Bool, drop, Option, List, ℕ, Result}
 use Rattle.rbc_model.specs.Sessions.{Prints}
 use Rattle.rbc_model.specs.StepsReply.{price_lines}
 use Rattle.rbc_words.specs.PriceText.{prices_of, prices_text}

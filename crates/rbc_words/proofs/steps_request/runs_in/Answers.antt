@@ -1,6 +1,6 @@
 use Rattle.std.proofs.Common.{◌≡◌, ◌∷◌, ◌++◌, [], false, subst, arith}
 use Rattle.std.specs.Result.{is_ok}
-use Rattle.rbc_model.specs.declared.places.Format.TheVariants.{Near}
+use Rattle.rbc_model.specs.declared.places.Format.TheVariants.{Far}
 use Rattle.rbc_model.specs.Words.{words_of}
 use Rattle.rbc_model.specs.StepsText.{runs_in}
 use Rattle.rbc_words.proofs.RequestLemmas.{IsSoFar, pushed, one_more}
@@ -10,8 +10,8 @@ use Rattle.rbc_words.proofs.steps_request.runs_in.Goals as goal
 pub loop-last-preserved : goal.loop-last-preserved
 loop-last-preserved g c =
     let kind = g.V.Spelled.kind in
-    let all = runs_in kind Near c.args.limit 3 (words_of c.args.words.now) in
-    let here = subst (λ words. IsSoFar all (runs_in kind Near c.args.limit c.loop-last.index (c.loop-last.word.now ∷ c.loop-last.next.now ∷ words)) c.loop-last.refused c.loop-last.runs.items) c.in-Some-next_word-2.ensures.words c.loop-last.invariant.0 in
+    let all = runs_in kind Far c.args.limit 3 (words_of c.args.words.now) in
+    let here = subst (λ words. IsSoFar all (runs_in kind Far c.args.limit c.loop-last.index (c.loop-last.word.now ∷ c.loop-last.next.now ∷ words)) c.loop-last.refused c.loop-last.runs.items) c.in-Some-next_word-2.ensures.words c.loop-last.invariant.0 in
     let kept : c.if-refused.refused ≡ false → (c.loop-last.refused ≡ false) × (c.if-refused.runs.items ≡ c.loop-last.runs.items ++ c.in_ok-run.run' ∷ []) =
     elim c.if-refused.branch [
       | then-refused w ↦ λ e. absurd (cc)

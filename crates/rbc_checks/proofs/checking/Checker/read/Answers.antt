@@ -1,5 +1,5 @@
 use Rattle.std.proofs.Common.{◌≡◌, ◌∷◌, ◌++◌, [], List, ℕ, Bool, true, false, Option, sym, ◌∙◌, ap, subst}
-use Rattle.rbc_model.specs.declared.places.Format.TheVariants.{Near}
+use Rattle.rbc_model.specs.declared.places.Format.TheVariants.{Far}
 use Rattle.rbc_model.specs.declared.prices.Part.{Part}
 use Rattle.rbc_model.specs.CheckText.{Checking, CheckLine, LeavesOpen, check_line, part_of, goes_on, is_head}
 use Rattle.rbc_checks.specs.Replies.{lost_text}
@@ -15,7 +15,7 @@ asked inside now part line answer test same is asks told =
 
 pub returns-then-goes_on : goal.returns-then-goes_on
 returns-then-goes_on c =
-    let line = check_line Near c.args.line.now in
+    let line = check_line Far c.args.line.now in
     let part = c.part_read-part.ensures line c.parse_check-read.ensures in
     goes_with c.args.self.now line (lost_text c.keep-lost.result) c.keep-lost.new.self
     (asked _ _ _ line _ true c.self.view_is part c.goes_on.ensures c.if-goes_on.true)
@@ -23,7 +23,7 @@ returns-then-goes_on c =
 
 pub returns-then-is_head : goal.returns-then-is_head
 returns-then-is_head c =
-    let line = check_line Near c.args.line.now in
+    let line = check_line Far c.args.line.now in
     let part = c.part_read-part.ensures line c.parse_check-read.ensures in
     let after : List ℕ → Checking → Checking → Type 0 = λ reply last s. LeavesOpen (s.block ++ line ∷ []) s.refused [] reply last in
     begins c.args.self.now line (said_text c.close-said.result) (is_bad c.close-said.result)
@@ -34,7 +34,7 @@ returns-then-is_head c =
 
 pub returns : goal.returns
 returns c =
-    let line = check_line Near c.args.line.now in
+    let line = check_line Far c.args.line.now in
     let part = c.part_read-part.ensures line c.parse_check-read.ensures in
     rw c.close-said.ensures.closed
     (ends_it c.args.self.now line (said_text c.close-said.result) (is_bad c.close-said.result)
