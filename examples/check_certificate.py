@@ -8,7 +8,8 @@ It is written to be read: no step of it is clever. It shares no line with the pr
 
 import sys
 
-LONGEST_LINE, MOST_LINES, LONGEST_TRACK, FARTHEST_END, MOST_STEPS = 65_536, 1_000_000, 100_000, 32_000, 31
+LONGEST_LINE, MOST_LINES, LONGEST_TRACK, MOST_STEPS = 65_536, 1_000_000, 100_000, 31
+FARTHEST_END, FARTHEST_END_IN_TENS = 32_000, 80_000  # a message counts metres up to the first, and tens of metres up to the second
 KINDS = {"speed": (5, 600, 5), "grade": (-254, 254, 1)}  # lowest value, highest value, multiples that a message has
 
 
@@ -51,13 +52,15 @@ def judge(head, steps, table):
     kind, multiple = head[0], KINDS[head[0]][2]
     require(len(head) >= 5 and head[-2] == "end" and steps is not None and len(steps) >= 4 and steps[-2] == "loss")
     limit, end, told = number(head[1]), number(head[-1]), number(steps[-1])
-    require(1 <= limit <= MOST_STEPS and 1 <= end <= FARTHEST_END)
+    unit = 1 if end <= FARTHEST_END else 10
+    require(1 <= limit <= MOST_STEPS and 1 <= end <= FARTHEST_END_IN_TENS and end % unit == 0)
     runs, profile = rows(head[2:-2], kind, end), rows(steps[1:-2], kind, end)
     runs = [run for i, run in enumerate(runs) if i == 0 or run[1] != runs[i - 1][1]]
-    require(len(profile) <= MOST_STEPS and all(value % multiple == 0 for _, value in profile))
-    breaks = [start for start, _ in runs] + [end]
+    require(len(profile) <= MOST_STEPS and all(start % unit == 0 and value % multiple == 0 for start, value in profile))
+    down, up = [start // unit * unit for start, _ in runs], [-(-start // unit) * unit for start, _ in runs]
+    breaks = sorted({*down, *up, end})
     prices = [[number(word) for word in row] for row in table]
-    require([row[:1] for row in prices] == [[j] for j in range(1, min(limit, len(runs)) + 1)])
+    require([row[:1] for row in prices] == [[j] for j in range(1, min(limit, len(breaks) - 1) + 1)])
     require(all(len(row) == len(breaks) for row in prices))  # row[0] is the row's number, row[i] the price at break i
 
     # The profile is above the track at no metre.
@@ -65,11 +68,12 @@ def judge(head, steps, table):
         require(value_at(profile, metre) <= value_at(runs, metre), f"Above {metre}")
 
     # No price is above that of one step less, up to an earlier break, and what one step costs from there.
-    lengths = [breaks[i + 1] - breaks[i] for i in range(len(runs))]
+    ends = [start for start, _ in runs[1:]] + [end]
     faults = []
     for to in range(1, len(breaks)):
         for start in range(to):
-            between = [(value, length) for (_, value), length in zip(runs[start:to], lengths[start:to])]
+            parts = [(max(x, breaks[start]), min(y, breaks[to]), value) for (x, value), y in zip(runs, ends)]
+            between = [(value, y - x) for x, y, value in parts if x < y]
             given = min(value for value, _ in between) // multiple * multiple
             cost = sum((value - given) * length for value, length in between)
             for j, row in enumerate(prices, 1):

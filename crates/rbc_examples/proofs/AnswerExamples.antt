@@ -1,7 +1,7 @@
 -- What a whole session answers, computed: the chosen profile and its table of prices, the replies to lines, and the verdicts on certificates.
 use Rattle.std.proofs.Common.{◌≡◌, ℕ, true, false, List, [], ◌∷◌, ◌++◌, refl, codes}
 use Rattle.std.specs.Fmt.{digits}
-use Rattle.rbc_model.specs.declared.places.Format.TheVariants.{Near}
+use Rattle.rbc_model.specs.declared.places.Format.TheVariants.{Far}
 use Rattle.rbc_model.specs.Levels.{speed_levels}
 use Rattle.rbc_table_laws.specs.LeastTables.{least_to, made, least_price, filled, greatest_prices, break_back, steps_back, first_row, steps_read, chosen_steps}
 use Rattle.rbc_model.specs.HistoryText.{history_text}
@@ -113,7 +113,7 @@ open_block =
     ++ codes "steps 0:0 loss 0" ++ feed
     ++ codes "prices 1 0"
 
-check_computed : check_answers_of Near (certificate ++ forged ++ open_block)
+check_computed : check_answers_of Far (certificate ++ forged ++ open_block)
     ≡ codes "certified speed 4000" ++ feed
     ++ codes "refused NotAttained" ++ feed
     ++ codes "certified grade 0" ++ feed
@@ -121,12 +121,12 @@ unfolding digits
 check_computed = refl
 
 -- the one in the midst is not certified, and without it all are
-not_all_certified : are_all_certified Near (certificate ++ forged ++ open_block) ≡ false
+not_all_certified : are_all_certified Far (certificate ++ forged ++ open_block) ≡ false
 not_all_certified = refl
 
-all_certified : are_all_certified Near (certificate ++ open_block) ≡ true
+all_certified : are_all_certified Far (certificate ++ open_block) ≡ true
 all_certified = refl
 
 -- a text without a block has none that is refused
-none_certified : are_all_certified Near (codes "# none" ++ feed ++ feed ++ codes "refused Words") ≡ true
+none_certified : are_all_certified Far (codes "# none" ++ feed ++ feed ++ codes "refused Words") ≡ true
 none_certified = refl

@@ -2,11 +2,11 @@
 use Rattle.std.proofs.Common.{◌≡◌, ℕ, List, [], ◌∷◌, ◌++◌, refl}
 use Rattle.std.specs.Prelude.{codes}
 use Rattle.std.specs.Fmt.{digits}
-use Rattle.rbc_model.specs.declared.places.Format.TheVariants.{Near}
+use Rattle.rbc_model.specs.declared.places.Format.TheVariants.{Far}
 use Rattle.rbc_model.specs.CheckText.{check_text}
 
 abbrev checked : List (List ℕ) → List ℕ
-checked lines = check_text Near [] lines
+checked lines = check_text Far [] lines
 
 abbrev head : List ℕ
 head = codes "speed 2 0:160 100:120 150:160 end 300"

@@ -1,5 +1,6 @@
 -- Files: one that tells a track, and the first fault of others.
 use Rattle.std.specs.Prelude.{◌≡◌, List, [], ◌∷◌, ◌++◌, None, Ok, Err, Result, refl, pos, negsuc, codes}
+use Rattle.rbc_model.specs.declared.places.Format.TheVariants.{Far}
 use Rattle.rbc_model.specs.declared.files.FileTable.TheVariants.{Top, Section, Link, Group, Route}
 use Rattle.rbc_model.specs.declared.files.FileFault.{FileFault}
 use Rattle.rbc_model.specs.declared.files.FileFault.TheVariants.{Toml, Missing, Wrong, Unknown, Range, Runs, Track as BadTrack}
@@ -86,8 +87,12 @@ no_format = refl
 format_as_text : track_told ((codes "format", Text (codes "1")) ∷ []) ≡ Err (Wrong Top 1 Format)
 format_as_text = refl
 
-another_format : track_told ((codes "format", Number (pos 2)) ∷ []) ≡ Err (Range Top 1 Format)
+another_format : track_told ((codes "format", Number (pos 3)) ∷ []) ≡ Err (Range Top 1 Format)
 another_format = refl
+
+-- the second format is told with the track
+tells_far : track_told ((codes "format", Number (pos 2)) ∷ single_tables) ≡ Ok (record single { format = Far })
+tells_far = refl
 
 too_many_steps : track_told (format ++ (codes "speed_steps", Number (pos 32)) ∷ []) ≡ Err (Range Top 1 SpeedSteps)
 too_many_steps = refl

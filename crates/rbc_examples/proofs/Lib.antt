@@ -13,6 +13,9 @@ pub mod RefusalExamples
 pub mod LegExamples
 pub mod ArrivalExamples
 pub mod TrackExamples
+pub mod FarExamples
+pub mod FarLineExamples
+pub mod FarReachExamples
 pub mod FileExamples
 pub mod HistoryExamples
 pub mod ReceiptExamples

@@ -1,5 +1,6 @@
 -- Worked checks of price tables: a certificate, and forgeries of it.
-use Rattle.std.proofs.Common.{◌≡◌, ℕ, List, [], ◌∷◌, refl, Ok, Err}
+use Rattle.std.proofs.Common.{◌≡◌, ℕ, List, [], ◌∷◌, refl, Result, Ok, Err}
+use Rattle.rbc_model.specs.declared.prices.Reason.{Reason}
 use Rattle.rbc_model.specs.declared.prices.Reason.TheVariants.{Shape, Above, Inequality, NotAttained, Steps}
 use Rattle.rbc_model.specs.Levels.{speed_levels}
 use Rattle.rbc_model.specs.Profiles.{StepFunction}
@@ -65,3 +66,21 @@ rise = record { steps = (0, 100) ∷ (100, 115) ∷ (200, 125) ∷ (300, 140) �
 pub over_three_runs : price_check speed_levels 2 rise (record { steps = (0, 100) ∷ (300, 140) ∷ []; end = 400 })
     ((0 ∷ 1500 ∷ 4000 ∷ 8000 ∷ []) ∷ (0 ∷ 0 ∷ 1000 ∷ 4000 ∷ []) ∷ []) ≡ Err (Inequality 2 100 400)
 over_three_runs = refl
+
+-- ---- tens of metres: beyond 32,000 m the end and the cuts are multiples of ten
+
+-- a track that changes at one metre, and a profile that is cut at another, with a table that has two rows of prices for three breaks
+abbrev tens : ℕ → ℕ → Result (Unit {0}) Reason
+tens end cut =
+    price_check speed_levels 2 (record { steps = (0, 160) ∷ (31998, 120) ∷ []; end = end }) (record { steps = (0, 160) ∷ (cut, 120) ∷ []; end = end })
+    ((0 ∷ 0 ∷ 0 ∷ []) ∷ (0 ∷ 0 ∷ 0 ∷ []) ∷ [])
+
+pub uneven_end : tens 32013 31990 ≡ Err Shape
+uneven_end = refl
+
+-- though it is the track itself, and loses nothing
+pub uneven_cut : tens 32010 31998 ≡ Err Shape
+uneven_cut = refl
+
+pub even_cut : tens 32010 31990 ≡ Err NotAttained
+even_cut = refl

@@ -191,3 +191,59 @@ read_byte_counted = refl
 -- a message that says a byte more than there is
 pub read_byte_missing : read_message Near (with_field 1 L_MESSAGE 40) ≡ Err Short
 read_byte_missing = refl
+
+-- ---- both scales: up to 32,000 m the message counts in metres, and beyond in tens
+
+pub read_metres_far : read_message Far bytes_1 ≡ Ok authority_1
+read_metres_far = refl
+
+-- the least and the greatest end in tens
+abbrev ends_in_tens : ℕ → Authority
+ends_in_tens end = record { time = 0; group = record { country = 0; number = 0 }; nominal = true; end = end; speeds = (0, 600) ∷ (32000, 5) ∷ []; grades = (0, pos 254) ∷ [] }
+
+pub read_least_tens : read_message Far (message_bytes (ends_in_tens 32010)) ≡ Ok (ends_in_tens 32010)
+read_least_tens = refl
+
+pub read_most_tens : read_message Far (message_bytes (ends_in_tens 80000)) ≡ Ok (ends_in_tens 80000)
+read_most_tens = refl
+
+-- the bytes of the message in tens with field k, from 0 on, in its place
+abbrev pub with_tens_field : ℕ → FieldName → ℕ → List ℕ
+with_tens_field k name value = bytes_of_fields (set (message_3 authority_tens) k (name, value))
+
+pub read_tens_Q_SCALE_9_0 : read_message Far (with_tens_field 9 Q_SCALE 0) ≡ Err (Field Q_SCALE)
+read_tens_Q_SCALE_9_0 = refl
+
+pub read_tens_Q_SCALE_9_3 : read_message Far (with_tens_field 9 Q_SCALE 3) ≡ Err (Field Q_SCALE)
+read_tens_Q_SCALE_9_3 = refl
+
+-- 1,000 is no end in tens
+pub read_Q_SCALE_9_2_far : read_message Far (with_field 9 Q_SCALE 2) ≡ Err (Field L_ENDSECTION)
+read_Q_SCALE_9_2_far = refl
+
+-- 4,000 is an end in metres, but the later packets count in tens
+pub read_tens_Q_SCALE_9_1 : read_message Far (with_tens_field 9 Q_SCALE 1) ≡ Err (Field Q_SCALE)
+read_tens_Q_SCALE_9_1 = refl
+
+pub read_tens_L_ENDSECTION_13_3200 : read_message Far (with_tens_field 13 L_ENDSECTION 3200) ≡ Err (Field L_ENDSECTION)
+read_tens_L_ENDSECTION_13_3200 = refl
+
+pub read_tens_L_ENDSECTION_13_8001 : read_message Far (with_tens_field 13 L_ENDSECTION 8001) ≡ Err (Field L_ENDSECTION)
+read_tens_L_ENDSECTION_13_8001 = refl
+
+-- an end that may be, to which the distances of packet 21 do not add up
+pub read_tens_L_ENDSECTION_13_3201 : read_message Far (with_tens_field 13 L_ENDSECTION 3201) ≡ Err (Field D_GRADIENT)
+read_tens_L_ENDSECTION_13_3201 = refl
+
+pub read_tens_L_ENDSECTION_13_8000 : read_message Far (with_tens_field 13 L_ENDSECTION 8000) ≡ Err (Field D_GRADIENT)
+read_tens_L_ENDSECTION_13_8000 = refl
+
+-- a later packet with another scale than packet 15
+pub read_tens_Q_SCALE_21_1 : read_message Far (with_tens_field 21 Q_SCALE 1) ≡ Err (Field Q_SCALE)
+read_tens_Q_SCALE_21_1 = refl
+
+pub read_tens_Q_SCALE_35_1 : read_message Far (with_tens_field 35 Q_SCALE 1) ≡ Err (Field Q_SCALE)
+read_tens_Q_SCALE_35_1 = refl
+
+pub read_Q_SCALE_21_2_far : read_message Far (with_field 21 Q_SCALE 2) ≡ Err (Field Q_SCALE)
+read_Q_SCALE_21_2_far = refl

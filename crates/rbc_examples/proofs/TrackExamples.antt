@@ -1,5 +1,6 @@
 -- Which parts make a track, and the first reason why others do not.
 use Rattle.std.specs.Prelude.{◌≡◌, ℕ, List, [], ◌∷◌, ◌++◌, Some, None, Ok, Err, refl, pos, codes, replicate}
+use Rattle.rbc_model.specs.declared.places.Format.TheVariants.{Near}
 use Rattle.rbc_model.specs.declared.places.Direction.TheVariants.{Rising, Falling}
 use Rattle.rbc_model.specs.Names.{LegName}
 use Rattle.rbc_model.specs.SoundTracks.{track_refusal, size_refusal}
@@ -107,6 +108,7 @@ down name = record { section = name; direction = Falling }
 abbrev double_parts : Parts
 double_parts =
     record {
+      format = Near;
       speed_steps = 31;
       grade_steps = 31;
       sections = double.sections;
