@@ -3,7 +3,9 @@
 ghost use Rattle.std.specs.Prelude.{◌≤◌};
 
 use clap::{Arg, ArgAction, ArgMatches, Command, Error, value_parser};
+use rbc_server::Terms;
 use std::alloc::{AllocError, Global};
+use std::time::Duration;
 
 /// What the command line asks for.
 #[derive(Clone, Copy, Debug, PartialEq, Eq)]
@@ -38,6 +40,8 @@ pub struct Service<'a> {
     pub connections: usize,
     /// How many workers the sweep has, 1 to 8.
     pub workers: usize,
+    /// On what terms clients are served.
+    pub terms: Terms,
     pub ghost some: { (1 ≤ connections) × (1 ≤ workers) },
     pub ghost few: { (connections ≤ 8) × (workers ≤ 8) },
 }
@@ -134,6 +138,15 @@ fn serve<'a>(alloc: Global) -> Result<Command<'a>, AllocError> {
         "W",
         "How many workers serve all trains at the end, 1 to 8",
     );
+    let patience = Arg::new(alloc, "patience")
+        .long("patience")
+        .value_name("SECONDS")
+        .help("Ends a connection that says nothing, or takes nothing, for so long, 1 to 86400")
+        .action(ArgAction::Set);
+    let log = Arg::new(alloc, "log")
+        .long("log")
+        .help("Tells on standard error which connections begin and end")
+        .action(ArgAction::SetTrue);
     Command::new(alloc, "serve")
         .about(
             "Runs a centre on the track of a file for several connections at once, and serves every train at the end",
@@ -142,7 +155,9 @@ fn serve<'a>(alloc: Global) -> Result<Command<'a>, AllocError> {
         .arg(track_file(alloc))?
         .arg(port.value_parser(value_parser!(u16).range(1..)))?
         .arg(connections.value_parser(value_parser!(u8).range(1..=8)))?
-        .arg(workers.value_parser(value_parser!(u8).range(1..=8)))
+        .arg(workers.value_parser(value_parser!(u8).range(1..=8)))?
+        .arg(patience.value_parser(value_parser!(u32).range(1..=86_400)))?
+        .arg(log)
 }
 
 /// How many of something a command line asks for, 1 to 8. The parser accepts nothing else.
@@ -159,5 +174,14 @@ fn service_in<'a>(matches: &ArgMatches<'a>) -> Service<'a> {
         port: matches.get_one("port").unwrap_or(1),
         connections: count_in(matches, "connections"),
         workers: count_in(matches, "workers"),
+        terms: terms_in(matches),
+    }
+}
+
+/// On what terms a command line asks to serve clients.
+fn terms_in(matches: &ArgMatches) -> Terms {
+    Terms {
+        patience: matches.get_one("patience").map(Duration::from_secs),
+        is_logged: matches.get_flag("log"),
     }
 }

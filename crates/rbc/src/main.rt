@@ -15,16 +15,18 @@ use history::write_history;
 pub use load::{LoadFault, load};
 pub use rbc_checks::check;
 use rbc_model::Memory;
-use rbc_server::{Record, ServeFault};
+use rbc_server::{Port, Record, ServeFault};
 use rbc_track::Track;
 use rbc_words::Stream;
 use serve::{print_listening, serve};
 use std::env::Env;
 use std::fs::Files;
+use std::io::Eprint;
 use std::net::{Ipv4Addr, Net, TcpListener, TcpStream};
 use std::process::ExitCode;
 use std::sync::{Arc, Wait};
 use std::thread::Threads;
+use std::time::Clock;
 use std::{env, fs, io};
 pub use steps::steps;
 
@@ -47,6 +49,8 @@ fn run(
         + AllocGlobal
         + Threads
         + Wait
+        + Clock
+        + Eprint
         + Net<Listener = TcpListener, Stream = TcpStream>
         + Sync),
 ) -> Result<(), Failure> {
@@ -111,6 +115,8 @@ fn serve_centre(
         + AllocGlobal
         + Threads
         + Wait
+        + Clock
+        + Eprint
         + Net<Listener = TcpListener, Stream = TcpStream>
         + Sync),
     service: &Service,
@@ -122,7 +128,8 @@ fn serve_centre(
     };
     let mut writer = Stream::writer(alloc, io::writer(rt))?;
     print_listening(service.port, &mut writer)?;
-    serve(rt, alloc, &listener, track, service, &mut writer)
+    let port = Port::new(rt, listener, service.terms);
+    serve(rt, alloc, port, track, service, &mut writer)
 }
 
 /// The track of this file.

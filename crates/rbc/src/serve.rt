@@ -7,16 +7,17 @@ ghost use Rattle.rbc.specs.Listening.{listening_line};
 use crate::command_line::Service;
 use crate::failure::Failure;
 use rbc_model::Memory;
-use rbc_server::{Blank, Desk, DeskName, Record};
+use rbc_server::{Blank, Desk, DeskName, Port, Record};
 use rbc_streams::{Sink, WriteFailed, put};
 use rbc_track::Track;
 use rbc_words::print_number;
 use std::alloc::Global;
-use std::io::{Read, Write};
+use std::io::{Eprint, Read, Write};
 use std::marker::Brand;
-use std::net::OpenListener;
+use std::net::{OpenListener, OpenStream};
 use std::sync::{Arc, Wait};
 use std::thread::Threads;
+use std::time::Clock;
 
 /// Tells that the port is open, and hands it on.
 ///
@@ -49,14 +50,14 @@ fn print_port<W: Sink>(port: u16, writer: &mut W) -> Result<(), WriteFailed>
 ///
 /// `Memory` for the record or the desk, and those of [`rbc_server::serve`].
 pub(crate) fn serve<
-    S: Read + Write + Send + Drop,
-    N: OpenListener<Stream = S>,
+    S: Read + Write + OpenStream + Send + Drop,
+    N: OpenListener<Stream = S> + Drop,
     W: Sink,
-    T: Threads + Wait + Sync,
+    T: Threads + Wait + Clock + Eprint + Sync,
 >(
     rt: &T,
     alloc: Global,
-    listener: &N,
+    port: Port<N>,
     track: Arc<Track>,
     service: &Service,
     writer: &mut W,
@@ -70,7 +71,7 @@ pub(crate) fn serve<
     open::<Brand, S, N, W, T>(
         rt,
         alloc,
-        listener,
+        port,
         &lent,
         log,
         seats,
@@ -83,14 +84,14 @@ pub(crate) fn serve<
 /// Serves connections at a desk over the record.
 fn open<
     L: DeskName + Send + Sync,
-    S: Read + Write + Send + Drop,
-    N: OpenListener<Stream = S>,
+    S: Read + Write + OpenStream + Send + Drop,
+    N: OpenListener<Stream = S> + Drop,
     W: Sink,
-    T: Threads + Wait + Sync,
+    T: Threads + Wait + Clock + Eprint + Sync,
 >(
     rt: &T,
     alloc: Global,
-    listener: &N,
+    port: Port<N>,
     track: &Track,
     log: Record,
     seats: usize,
@@ -110,6 +111,6 @@ fn open<
     requires few { seats ≤ 16 }
 {
     let (desk, seats) = Desk::<L>::new(rt, alloc, log, seats, blank)?;
-    rbc_server::serve(rt, alloc, listener, track, desk, seats, connections, writer)?;
+    rbc_server::serve(rt, alloc, port, track, desk, seats, connections, writer)?;
     Ok(())
 }

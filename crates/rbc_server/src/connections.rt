@@ -7,17 +7,19 @@ ghost use Rattle.rbc_sweep.specs.Outcomes.{AreFirst};
 
 use crate::ends::End;
 use crate::session;
-use rbc_streams::Stream;
+use rbc_port::{Client, Port, PortFailed};
+use rbc_streams::{SessionFault, Stream};
 use rbc_sweep::{Desk, DeskName, OpenGate, Seat};
 use rbc_track::Track;
 use std::alloc::{AllocError, Global};
 use std::cell::RefCell;
-use std::io::{Read, Write};
-use std::net::OpenListener;
+use std::io::{Eprint, Read, Write};
+use std::net::{OpenListener, OpenStream};
 use std::snapshot::Snapshot;
 use std::sync::Wait;
 use std::thread;
 use std::thread::{Promise, PromisedHandle, Threads};
+use std::time::Clock;
 
 /// Why not all connections were served.
 #[derive(Clone, Copy, Debug, PartialEq, Eq)]
@@ -34,6 +36,12 @@ impl From<AllocError> for ConnectFault {
     }
 }
 
+impl From<PortFailed> for ConnectFault {
+    fn from(_failed: PortFailed) -> ConnectFault {
+        ConnectFault::Port
+    }
+}
+
 /// The seat has first what it had: its receipts, and what it was told.
 #[derive(Drop)]
 struct Keeps<L: DeskName>(Snapshot<Seat<L>>);
@@ -44,33 +52,52 @@ impl<L: DeskName> Promise<Seat<L>> for Keeps<L> {
     ghost kept_by = { λ promise seat. AreFirst promise.0.value seat };
 }
 
-/// A session with a peer, from this seat. A fault of the session ends the connection, and nothing else.
-fn connection<L: DeskName, S: Read + Write + Drop, T: Threads + Wait + Sync>(
+/// A session with a client, from this seat. A fault of the session ends the connection, and nothing else.
+fn connection<
+    L: DeskName,
+    S: Read + Write + OpenStream + Drop,
+    T: Threads + Wait + Clock + Eprint + Sync,
+>(
     rt: &T,
     alloc: Global,
     track: &Track,
     desk: &Desk<L>,
     mut seat: Seat<L>,
-    stream: S,
+    client: Client<S>,
 ) -> Seat<L>
     requires { track.now ≡ L.opened.track }
     ensures { AreFirst seat result }
 {
-    let stream = RefCell::new(stream);
-    if let Ok(mut writer) = Stream::writer(alloc, End::of(&stream)) {
-        let mut reader = Stream::reader(End::of(&stream));
-        let _ended = session(
-            rt,
-            alloc,
-            &mut reader,
-            &mut writer,
-            track,
-            desk,
-            &mut seat,
-            &OpenGate,
-        );
-    }
+    let client = RefCell::new(client);
+    let ended = talk(rt, alloc, &client, track, desk, &mut seat);
+    client.into_inner().let_go(rt, alloc, ended);
     seat
+}
+
+/// The session of a client.
+fn talk<L: DeskName, S: Read + Write + Drop, T: Threads + Wait + Sync>(
+    rt: &T,
+    alloc: Global,
+    client: &RefCell<Client<S>>,
+    track: &Track,
+    desk: &Desk<L>,
+    seat: &mut Seat<L>,
+) -> Result<(), SessionFault>
+    requires { track.now ≡ L.opened.track }
+    ensures { AreFirst seat.old seat.new }
+{
+    let mut writer = Stream::writer(alloc, End::of(client))?;
+    let mut reader = Stream::reader(End::of(client));
+    session(
+        rt,
+        alloc,
+        &mut reader,
+        &mut writer,
+        track,
+        desk,
+        seat,
+        &OpenGate,
+    )
 }
 
 /// Waits until these sessions have ended, and gives their seats back in order, in the room that is there for them.
@@ -91,8 +118,8 @@ fn join_all<L: DeskName, T: Threads>(
     back
 }
 
-/// Accepts a connection for each of the seats, in order, each with a thread of its own. Once all have ended it gives the
-/// seats back in their order, with room for so many more.
+/// Accepts a connection for each of the seats, in order, each with a thread of its own, and closes the port. Once all
+/// have ended it gives the seats back in their order, with room for so many more.
 ///
 /// # Errors
 ///
@@ -101,13 +128,13 @@ fn join_all<L: DeskName, T: Threads>(
 /// - `Memory`: no thread could be started for a connection, or there was no room for the seats.
 pub(crate) fn connect<
     L: DeskName + Send + Sync,
-    S: Read + Write + Send + Drop,
-    N: OpenListener<Stream = S>,
-    T: Threads + Wait + Sync,
+    S: Read + Write + OpenStream + Send + Drop,
+    N: OpenListener<Stream = S> + Drop,
+    T: Threads + Wait + Clock + Eprint + Sync,
 >(
     rt: &T,
     alloc: Global,
-    listener: &N,
+    port: Port<N>,
     track: &Track,
     desk: &Desk<L>,
     seats: Vec<Seat<L>>,
@@ -130,14 +157,18 @@ pub(crate) fn connect<
             ensures { IfOk result (λ served. AllZip AreFirst seats.items served.items
                 × (vec_len served ≤ vec_len seats) × (vec_capacity served ≡ vec_capacity back)) }
         {
+            let mut port = port;
             let mut fault = None;
             for seat in seats {
                 if fault.is_some() {
                     continue;
                 }
-                let Ok((stream, _)) = listener.accept() else {
-                    fault = Some(ConnectFault::Port);
-                    continue;
+                let client = match port.accept(rt, alloc) {
+                    Ok(client) => client,
+                    Err(failed) => {
+                        fault = Some(ConnectFault::from(failed));
+                        continue;
+                    }
                 };
                 match scope.spawn_with(
                     Keeps(Snapshot::of(&seat)),
@@ -145,12 +176,13 @@ pub(crate) fn connect<
                         requires { IsSync T.row × IsSend L.row × IsSync L.row × IsSend S.row
                             × (track.now ≡ L.opened.track) }
                         ensures { AreFirst seat result }
-                    { connection(rt, alloc, track, desk, seat, stream) },
+                    { connection(rt, alloc, track, desk, seat, client) },
                 ) {
                     Ok(handle) => handles.push_reserved(handle),
                     Err(_) => fault = Some(ConnectFault::Memory),
                 }
             }
+            drop(port);
             let served = join_all(rt, handles, back);
             match fault {
                 None => Ok(served),

@@ -14,6 +14,7 @@ mod sessions;
 mod telling;
 
 pub use histories::print_history;
+pub use rbc_port::{Port, Terms};
 pub use rbc_streams::SessionFault;
 pub use rbc_sweep::{Blank, Desk, DeskName, Record};
 pub use serving::{ServeFault, serve};

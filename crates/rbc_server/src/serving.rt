@@ -6,19 +6,21 @@ ghost use Rattle.rbc_model.specs.Histories.{IsLegal, Matches};
 ghost use Rattle.rbc_sweep.specs.Closing.{all_receipts};
 ghost use Rattle.rbc_sweep.specs.Later.{IsLater};
 ghost use Rattle.rbc_server.specs.Serving.{closed_line, IsAttended, IsCloseFault, IsServed, IsServeFault};
-ghost use Rattle.rbc_server.specs.declared.serving.ServeFault.TheVariants.{Port, Write as WriteFault};
+ghost use Rattle.rbc_server.specs.declared.serving.ServeFault.TheVariants.{Port as PortFault, Write as WriteFault};
 
 use crate::connections::{ConnectFault, connect};
 use crate::outcomes::{print_closed, print_outcomes};
 use rbc_model::Memory;
+use rbc_port::Port;
 use rbc_streams::{Sink, WriteFailed};
 use rbc_sweep::{CloseFault, Desk, DeskName, OpenGate, Record, Seat, sweep};
 use rbc_track::Track;
 use std::alloc::{AllocError, Global};
-use std::io::{Read, Write};
-use std::net::OpenListener;
+use std::io::{Eprint, Read, Write};
+use std::net::{OpenListener, OpenStream};
 use std::sync::Wait;
 use std::thread::Threads;
+use std::time::Clock;
 use thiserror::Error;
 
 /// Why a centre that serves connections gives no record back.
@@ -108,14 +110,14 @@ fn are_on_track<L: DeskName>(seats: &[Seat<L>])
 /// Those of [`serve`], but for `Close`.
 fn attend<
     L: DeskName + Send + Sync,
-    S: Read + Write + Send + Drop,
-    N: OpenListener<Stream = S>,
+    S: Read + Write + OpenStream + Send + Drop,
+    N: OpenListener<Stream = S> + Drop,
     W: Sink,
-    T: Threads + Wait + Sync,
+    T: Threads + Wait + Clock + Eprint + Sync,
 >(
     rt: &T,
     alloc: Global,
-    listener: &N,
+    port: Port<N>,
     track: &Track,
     desk: &Desk<L>,
     seats: Vec<Seat<L>>,
@@ -129,7 +131,7 @@ fn attend<
     requires few { vec_len seats ≤ 16 }
     ensures attended { IfOk result (λ kept.
         IsAttended L.opened.track connections seats.items kept.items (W.written writer.old) (W.written writer.new)) }
-    ensures port { result ≡ Err Port → writer.new ≡ writer.old }
+    ensures port { result ≡ Err PortFault → writer.new ≡ writer.old }
     ensures write { (result ≡ Err WriteFault) ↔ IsTrue (W.failed writer.new) }
     ensures close { IfErr result (IsServeFault L.opened L.parts seats.items) }
 {
@@ -138,7 +140,7 @@ fn attend<
     let mut seats = seats;
     let workers = seats.split_off(connections)?;
     are_on_track(workers.as_slice());
-    let mut served = connect(rt, alloc, listener, track, desk, seats, workers.len())?;
+    let mut served = connect(rt, alloc, port, track, desk, seats, workers.len())?;
     let (mut workers, outcomes) = sweep(rt, alloc, desk, workers, &OpenGate);
     print_outcomes(track, outcomes?.as_slice(), writer)?;
     served.append(&mut workers)?;
@@ -167,7 +169,7 @@ fn close_desk<L: DeskName, W: Sink, T: Wait>(
     ensures text { IfOk result (λ log.
         Appends (W.written writer.old) (W.written writer.new) (closed_line (length log.entries))) }
     ensures handed_on { OnOk result (W.held_back writer.new ≡ []) }
-    ensures port { result ≢ Err Port }
+    ensures port { result ≢ Err PortFault }
     ensures write { (result ≡ Err WriteFault) ↔ IsTrue (W.failed writer.new) }
     ensures close { IfErr result (IsCloseFault L.opened L.parts seats.items) }
 {
@@ -190,14 +192,14 @@ fn close_desk<L: DeskName, W: Sink, T: Wait>(
 /// - `Close`: the desk could not be closed.
 pub fn serve<
     L: DeskName + Send + Sync,
-    S: Read + Write + Send + Drop,
-    N: OpenListener<Stream = S>,
+    S: Read + Write + OpenStream + Send + Drop,
+    N: OpenListener<Stream = S> + Drop,
     W: Sink,
-    T: Threads + Wait + Sync,
+    T: Threads + Wait + Clock + Eprint + Sync,
 >(
     rt: &T,
     alloc: Global,
-    listener: &N,
+    port: Port<N>,
     track: &Track,
     desk: Desk<L>,
     seats: Vec<Seat<L>>,
@@ -221,20 +223,11 @@ pub fn serve<
     ensures handed_on { OnOk result (W.held_back writer.new ≡ []) }
 
     // Before the sweep nothing is written. A write fault is answered just where the writer failed.
-    ensures port { result ≡ Err Port → writer.new ≡ writer.old }
+    ensures port { result ≡ Err PortFault → writer.new ≡ writer.old }
     ensures write { (result ≡ Err WriteFault) ↔ IsTrue (W.failed writer.new) }
     ensures close { IfErr result (IsServeFault L.opened L.parts seats.items) }
 {
-    match attend(
-        rt,
-        alloc,
-        listener,
-        track,
-        &desk,
-        seats,
-        connections,
-        writer,
-    ) {
+    match attend(rt, alloc, port, track, &desk, seats, connections, writer) {
         Ok(seats) => close_desk(rt, desk, seats, writer),
         Err(fault) => {
             desk.end(rt);

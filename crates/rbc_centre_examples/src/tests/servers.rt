@@ -6,17 +6,18 @@ use super::PLAIN;
 use super::gates::wait_for;
 use super::sessions::{LINES, REPLIES};
 use super::telling::{record_of, shared_track};
-use rbc_server::{ServeFault, serve};
+use rbc_server::{Port, ServeFault, Terms, serve};
 use rbc_streams::Stream;
 use rbc_sweep::{Blank, Desk, DeskName, Record};
 use std::io;
-use std::io::{Error, ErrorKind, Read, Write};
+use std::io::{Eprint, Error, ErrorKind, Read, Write};
 use std::marker::Brand;
-use std::net::{Ipv4Addr, OpenListener, SocketAddr};
+use std::net::{Ipv4Addr, OpenListener, OpenStream, SocketAddr};
 use std::process::Abort;
 use std::sync::atomic::{AtomicU64, Ordering};
 use std::sync::{Mutex, Wait};
 use std::thread::Threads;
+use std::time::Clock;
 
 /// A peer that says its lines, or one that says nothing and stays until the other has been answered.
 #[derive(Drop)]
@@ -52,10 +53,13 @@ impl<'a, A: Wait> Write for Peer<'a, A> {
     }
 }
 
-/// Gives so many silent peers, then one that talks, and then no more.
+impl<'a, A> OpenStream for Peer<'a, A> {}
+
+/// Gives so many peers that are gone when they are accepted, so many silent ones, then one that talks, and then no more.
 #[derive(Drop)]
 struct Peers<'a, A> {
     rt: &'a A,
+    gone: u64,
     silent: u64,
     accepted: AtomicU64,
     answered: &'a AtomicU64,
@@ -66,7 +70,10 @@ impl<'a, A> OpenListener for Peers<'a, A> {
     type Stream = Peer<'a, A>;
 
     fn accept(&self) -> io::Result<(Peer<'a, A>, SocketAddr)> {
-        let number = self.accepted.fetch_add(1, Ordering::SeqCst);
+        let accepted = self.accepted.fetch_add(1, Ordering::SeqCst);
+        let Some(number) = accepted.checked_sub(self.gone) else {
+            return Err(Error::from(ErrorKind::ConnectionAborted));
+        };
         if number > self.silent {
             return Err(Error::from(ErrorKind::Other));
         }
@@ -82,19 +89,20 @@ impl<'a, A> OpenListener for Peers<'a, A> {
     }
 }
 
-/// Serves so many silent peers and one that talks, over so many connections, and sweeps with the seats that are left of
-/// four: how that ends, and what the server wrote.
+/// Serves so many silent peers and one that talks, after so many that are gone, over so many connections, and sweeps with
+/// the seats that are left of four: how that ends, and what the server wrote.
 fn served<'a, L: DeskName + Send + Sync, R>(
     rt: &'a R,
     history: Record,
     blank: Blank,
+    gone: u64,
     silent: u64,
     connections: usize,
     told: &'a Mutex<Vec<u8>>,
     answered: &'a AtomicU64,
 ) -> (Result<Record, ServeFault>, Vec<u8>)
 where
-    R: Threads + Wait + Abort + AllocGlobal + Sync,
+    R: Threads + Wait + Abort + AllocGlobal + Clock + Eprint + Sync,
     requires name { blank.ledger.name ≡ L.name }
     requires book { blank.journal ≡ L.book }
     requires parts { (blank.ledger.parts ≡ L.parts) × (4 ≡ L.parts) }
@@ -106,16 +114,21 @@ where
     assert!(rt; 1 <= connections && connections < seats.len());
     let peers = Peers {
         rt,
+        gone,
         silent,
         accepted: AtomicU64::new(0),
         answered,
         told,
     };
+    let terms = Terms {
+        patience: None,
+        is_logged: false,
+    };
     let mut writer = Stream::writer(alloc, Vec::new(alloc)).expect(rt, "room");
     let ended = serve(
         rt,
         alloc,
-        &peers,
+        Port::new(rt, peers, terms),
         &track,
         desk,
         seats,
@@ -138,18 +151,25 @@ fn has_no_port(rt: &impl Abort, ended: &Result<Record, ServeFault>, written: &[u
     assert!(rt; written.is_empty());
 }
 
-/// The talking peer was told all replies to its lines.
-fn is_answered(rt: &impl Abort, told: Mutex<Vec<u8>>) {
-    assert_eq!(rt; told.into_inner().as_slice(), REPLIES.as_bytes());
+/// The talking peer was told just this.
+fn is_told(rt: &impl Abort, told: Mutex<Vec<u8>>, replies: &str) {
+    assert_eq!(rt; told.into_inner().as_slice(), replies.as_bytes());
 }
 
-/// Silent peers, connections, and whether there is a peer for each connection.
-const CASES: [(u64, usize, bool); 4] = [(0, 1, true), (1, 2, true), (2, 3, true), (1, 3, false)];
+/// Peers that are gone, silent peers, connections, whether there is a peer for each connection, and what the talking peer is
+/// told. An accept is tried again 1,000 times.
+const CASES: [(u64, u64, usize, bool, &str); 5] = [
+    (0, 0, 1, true, REPLIES),
+    (1, 1, 2, true, REPLIES),
+    (1_000, 2, 3, true, REPLIES),
+    (0, 1, 3, false, REPLIES),
+    (1_001, 0, 1, false, ""),
+];
 
 // Where no further peer comes, the sessions that were begun end before that is told.
 #[test]
 fn talking_peer_is_answered_and_its_train_swept(rt: HostRuntime) {
-    for (silent, connections, is_served) in CASES {
+    for (gone, silent, connections, is_served, replies) in CASES {
         let history = record_of(&rt, rt.alloc(), PLAIN, &[]);
         let blank = Blank::new(4);
         let told = Mutex::new(Vec::new(rt.alloc()));
@@ -158,12 +178,13 @@ fn talking_peer_is_answered_and_its_train_swept(rt: HostRuntime) {
             &rt,
             history,
             blank,
+            gone,
             silent,
             connections,
             &told,
             &answered,
         );
-        is_answered(&rt, told);
+        is_told(&rt, told, replies);
         if is_served {
             has_swept(&rt, ended, &written);
         } else {

@@ -3,7 +3,7 @@ use Rattle.std.specs.Vec.Iter.{into_iter_items}
 use Rattle.rbc_sweep.specs.Outcomes.{AreFirst}
 use Rattle.rbc_server.proofs.ConnectionLemmas.{kept_by_handles, one_handed}
 use Rattle.rbc_server.proofs.connections.fn.connect.scope.Goals as goal
-use Rattle.rbc_server.proofs.connections.fn.connect.scope.Goals.{in-Ok-spawn_with, in-Err}
+use Rattle.rbc_server.proofs.connections.fn.connect.scope.Goals.{in-Ok-spawn_with, in-Err-spawn_with}
 
 pub returns-in-None-fault : goal.returns-in-None-fault
 returns-in-None-fault g c =
@@ -15,7 +15,7 @@ returns-in-None-fault g c =
     )
 
 pub loop-seat-preserved-after-spawn_with-2 : goal.loop-seat-preserved-after-spawn_with-2
-loop-seat-preserved-after-spawn_with-2 g c = elim c.match-spawn_with.branch [ in-Ok-spawn_with w ↦ search rules | in-Err w ↦ search rules ]
+loop-seat-preserved-after-spawn_with-2 g c = elim c.match-spawn_with.branch [ in-Ok-spawn_with w ↦ search rules | in-Err-spawn_with w ↦ search rules ]
 
 pub loop-seat-preserved : goal.loop-seat-preserved
 loop-seat-preserved g c =
@@ -29,5 +29,5 @@ loop-seat-preserved g c =
         search rules,
         search rules,
       )
-      | in-Err w ↦ search rules
+      | in-Err-spawn_with w ↦ search rules
     ]

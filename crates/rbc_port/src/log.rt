@@ -1,0 +1,103 @@
+//! The log on standard error: a line for each client that comes, and for each that goes.
+
+use rbc_model::SessionFault;
+use std::alloc::{AllocError, Global};
+use std::fmt;
+use std::fmt::Display;
+use std::io::Eprint;
+use std::net::SocketAddr;
+use std::time::{Clock, Duration, Instant};
+
+/// A log, or none. Its lines tell the seconds since the port was opened.
+#[derive(Clone, Copy, Debug)]
+pub(crate) struct Log {
+    opened: Option<Instant>,
+    is_kept: bool,
+}
+
+/// Why a client goes.
+#[derive(Clone, Copy, Debug, PartialEq, Eq)]
+pub(crate) enum Parting {
+    /// Its input ended.
+    End,
+    /// It said nothing, or took nothing, for as long as it was waited for.
+    Patience,
+    /// Its session ended with this fault.
+    Fault(SessionFault),
+}
+
+impl Display for Parting {
+    fn fmt<W: fmt::Write>(&self, f: &mut fmt::Formatter<W>) -> fmt::Result {
+        match self {
+            Parting::End => f.write_str("end of input"),
+            Parting::Patience => f.write_str("out of patience"),
+            Parting::Fault(fault) => fault.fmt(f),
+        }
+    }
+}
+
+impl Log {
+    /// A log from now on, if one is wanted.
+    pub(crate) fn new(rt: &impl Clock, is_kept: bool) -> Log {
+        Log {
+            opened: Instant::now(rt).ok(),
+            is_kept,
+        }
+    }
+
+    /// Tells that this client began.
+    pub(crate) fn tell_began(
+        self,
+        rt: &(impl Clock + Eprint),
+        alloc: Global,
+        number: usize,
+        address: &SocketAddr,
+    ) {
+        if self.is_kept {
+            let (seconds, millis) = self.time(rt);
+            print(
+                rt,
+                format!(in alloc;
+                    "{seconds}.{millis:03} s: connection {number} from {address} began\n"
+                ),
+            );
+        }
+    }
+
+    /// Tells that this client ended, after how many lines and why.
+    pub(crate) fn tell_ended(
+        self,
+        rt: &(impl Clock + Eprint),
+        alloc: Global,
+        number: usize,
+        address: &SocketAddr,
+        lines: u64,
+        parting: Parting,
+    ) {
+        if self.is_kept {
+            let (seconds, millis) = self.time(rt);
+            print(
+                rt,
+                format!(in alloc;
+                    "{seconds}.{millis:03} s: connection {number} from {address} ended after line {lines}: {parting}\n"
+                ),
+            );
+        }
+    }
+
+    // The seconds since the port was opened, and the milliseconds beside them.
+    fn time(self, rt: &impl Clock) -> (u64, u32) {
+        let passed = match self.opened {
+            Some(opened) => opened.elapsed(rt).unwrap_or(Duration::ZERO),
+            None => Duration::ZERO,
+        };
+        (passed.as_secs(), passed.subsec_millis())
+    }
+}
+
+// Prints a whole line at once, if it could be made. There is nobody to tell where that fails.
+fn print(rt: &impl Eprint, line: Result<String, AllocError>) {
+    if let Ok(line) = line {
+        let _ = rt.eprint(line.as_str());
+    }
+}

@@ -1,0 +1,127 @@
+//! The port, and how clients are accepted.
+
+use crate::client::Client;
+use crate::log::Log;
+use std::alloc::Global;
+use std::io::{Eprint, Error, ErrorKind};
+use std::net::{OpenListener, OpenStream, SocketAddr};
+use std::time::{Clock, Duration};
+use std::{io, thread};
+use thiserror::Error as ThisError;
+
+/// How often an accept that failed is tried again for one client.
+const MOST_RETRIES: u32 = 1_000;
+
+/// How long an accept waits where descriptors are wanting, in milliseconds.
+const PAUSE: u64 = 100;
+
+/// Linux's errors of an accept that finds too many files open: in the system, and in this process.
+const TOO_MANY_IN_SYSTEM: i32 = 23;
+
+const TOO_MANY_IN_PROCESS: i32 = 24;
+
+/// No client could be accepted.
+#[derive(Clone, Copy, Debug, PartialEq, Eq, ThisError)]
+#[error("no port")]
+pub struct PortFailed;
+
+/// On what terms clients are served.
+#[derive(Clone, Copy, Debug, PartialEq, Eq)]
+pub struct Terms {
+    /// How long a client may say nothing, or take nothing, if there is a limit.
+    pub patience: Option<Duration>,
+    /// Whether a log tells on standard error which clients come and go.
+    pub is_logged: bool,
+}
+
+/// A port that clients connect to. It is closed once it is dropped: who connects after that is refused at once.
+#[derive(Drop)]
+pub struct Port<N> {
+    listener: N,
+    patience: Option<Duration>,
+    log: Log,
+    accepted: usize,
+}
+
+/// Why an accept failed.
+#[derive(Clone, Copy, Debug, PartialEq, Eq)]
+enum Obstacle {
+    /// The client went before it was accepted, or a signal came.
+    Client,
+    /// No descriptor is left.
+    Descriptors,
+    /// Anything else.
+    Port,
+}
+
+impl<N> Port<N> {
+    /// The port of this listener, whose clients are served on these terms.
+    pub fn new(rt: &impl Clock, listener: N, terms: Terms) -> Port<N> {
+        Port {
+            listener,
+            patience: terms.patience,
+            log: Log::new(rt, terms.is_logged),
+            accepted: 0,
+        }
+    }
+}
+
+impl<S: OpenStream + Drop, N: OpenListener<Stream = S>> Port<N> {
+    /// Waits for the next client. An accept that fails for a reason of that one client is tried again, up to 1,000 times;
+    /// one that finds no descriptor left waits a tenth of a second before.
+    ///
+    /// # Errors
+    /// `PortFailed`, where an accept fails for any other reason, or for the 1,001st time.
+    pub fn accept(
+        &mut self,
+        rt: &(impl Clock + Eprint),
+        alloc: Global,
+    ) -> Result<Client<S>, PortFailed> {
+        for _ in 0..=MOST_RETRIES {
+            match self.try_accept() {
+                Ok((stream, address)) => {
+                    self.accepted = self.accepted.saturating_add(1);
+                    let client = Client::new(stream, address, self.accepted, self.log);
+                    client.tell_began(rt, alloc);
+                    return Ok(client);
+                }
+                Err(Obstacle::Client) => {}
+                Err(Obstacle::Descriptors) => thread::sleep(rt, Duration::from_millis(PAUSE)),
+                Err(Obstacle::Port) => return Err(PortFailed),
+            }
+        }
+        Err(PortFailed)
+    }
+
+    // Waits for a client, and sets how long it is waited for later.
+    fn try_accept(&self) -> Result<(S, SocketAddr), Obstacle> {
+        let (stream, address) = self
+            .listener
+            .accept()
+            .map_err(|error| met_obstacle(&error))?;
+        // Small replies go out at once, where the stream can do that.
+        let _ = stream.set_nodelay(true);
+        if self.patience.is_some() {
+            set_patience(&stream, self.patience).map_err(|_| Obstacle::Client)?;
+        }
+        Ok((stream, address))
+    }
+}
+
+// Lets a read or a write that takes longer fail.
+fn set_patience<S: OpenStream>(stream: &S, patience: Option<Duration>) -> io::Result<()> {
+    stream.set_read_timeout(patience)?;
+    stream.set_write_timeout(patience)
+}
+
+// What stood in the way of an accept.
+fn met_obstacle(error: &Error) -> Obstacle {
+    match error.raw_os_error() {
+        Some(TOO_MANY_IN_SYSTEM | TOO_MANY_IN_PROCESS) => return Obstacle::Descriptors,
+        _ => {}
+    }
+    match error.kind() {
+        ErrorKind::ConnectionAborted | ErrorKind::Interrupted => Obstacle::Client,
+        _ => Obstacle::Port,
+    }
+}
