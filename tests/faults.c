@@ -1,0 +1,115 @@
+/* Hinders the program that loads it, as these words of its environment say. It is loaded before the C library, by
+ * tests/memory and tests/streams.
+ *
+ *   FAULTS_MEMORY N           the N-th request for memory is refused
+ *   FAULTS_ON connection      what follows is of the first connection that is accepted, and not of standard input and output
+ *   FAULTS_PIECE N            a read gives at most N bytes
+ *   FAULTS_READ N             a read fails once N bytes were read
+ *   FAULTS_WRITE N            a write fails once N bytes were written
+ *   FAULTS_READ_SIGNALS N     each read is interrupted N times before it goes on
+ *   FAULTS_WRITE_SIGNALS N    each write is
+ *   FAULTS_TOLD FILE          is made when memory is refused
+ */
+#define _GNU_SOURCE
+#include <errno.h>
+#include <fcntl.h>
+#include <limits.h>
+#include <stdatomic.h>
+#include <stdlib.h>
+#include <string.h>
+#include <sys/socket.h>
+#include <sys/syscall.h>
+#include <unistd.h>
+
+extern void *__libc_malloc(size_t);
+extern void *__libc_calloc(size_t, size_t);
+extern void *__libc_realloc(void *, size_t);
+
+/* One direction of the stream that is hindered. */
+struct way {
+  int file;
+  long left;     /* bytes until it fails */
+  long piece;    /* bytes that a call moves at most */
+  long signals;  /* interruptions of each call */
+  long so_far;   /* of this call */
+};
+
+static struct way in, out;
+static int on_connection;
+static long refused;
+static atomic_long requests;
+
+static long number(const char *name, long otherwise) {
+  const char *word = getenv(name);
+  return word ? atol(word) : otherwise;
+}
+
+__attribute__((constructor)) static void begin(void) {
+  const char *on = getenv("FAULTS_ON");
+  on_connection = on && !strcmp(on, "connection");
+  in = (struct way){on_connection ? -1 : 0, number("FAULTS_READ", LONG_MAX), number("FAULTS_PIECE", LONG_MAX),
+                    number("FAULTS_READ_SIGNALS", 0), 0};
+  out = (struct way){on_connection ? -1 : 1, number("FAULTS_WRITE", LONG_MAX), LONG_MAX,
+                     number("FAULTS_WRITE_SIGNALS", 0), 0};
+  refused = number("FAULTS_MEMORY", 0);
+}
+
+static int is_refused(void) {
+  if (atomic_fetch_add(&requests, 1) + 1 != refused) return 0;
+  const char *told = getenv("FAULTS_TOLD");
+  if (told) syscall(SYS_close, syscall(SYS_open, told, O_CREAT | O_WRONLY, 0600));
+  errno = ENOMEM;
+  return 1;
+}
+
+void *malloc(size_t size) { return is_refused() ? NULL : __libc_malloc(size); }
+void *calloc(size_t count, size_t size) { return is_refused() ? NULL : __libc_calloc(count, size); }
+void *realloc(void *old, size_t size) { return is_refused() ? NULL : __libc_realloc(old, size); }
+
+/* How many of the bytes a call may move, or -1 where it fails. */
+static long may_move(struct way *way, int file, size_t count) {
+  if (file != way->file || count == 0) return (long)count;
+  if (way->so_far < way->signals) {
+    way->so_far++;
+    errno = EINTR;
+    return -1;
+  }
+  way->so_far = 0;
+  if (way->left == 0) {
+    errno = EIO;
+    return -1;
+  }
+  long most = way->left < way->piece ? way->left : way->piece;
+  return (long)count < most ? (long)count : most;
+}
+
+static ssize_t moved(struct way *way, int file, long count) {
+  if (file == way->file && count > 0) way->left -= count;
+  return count;
+}
+
+ssize_t read(int file, void *bytes, size_t count) {
+  long most = may_move(&in, file, count);
+  return most < 0 ? -1 : moved(&in, file, syscall(SYS_read, file, bytes, most));
+}
+
+ssize_t write(int file, const void *bytes, size_t count) {
+  long most = may_move(&out, file, count);
+  return most < 0 ? -1 : moved(&out, file, syscall(SYS_write, file, bytes, most));
+}
+
+ssize_t recv(int file, void *bytes, size_t count, int flags) {
+  long most = may_move(&in, file, count);
+  return most < 0 ? -1 : moved(&in, file, syscall(SYS_recvfrom, file, bytes, most, flags, NULL, NULL));
+}
+
+ssize_t send(int file, const void *bytes, size_t count, int flags) {
+  long most = may_move(&out, file, count);
+  return most < 0 ? -1 : moved(&out, file, syscall(SYS_sendto, file, bytes, most, flags, NULL, 0));
+}
+
+int accept4(int file, struct sockaddr *address, socklen_t *length, int flags) {
+  int accepted = (int)syscall(SYS_accept4, file, address, length, flags);
+  if (on_connection && in.file < 0 && accepted >= 0) in.file = out.file = accepted;
+  return accepted;
+}

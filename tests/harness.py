@@ -1,0 +1,149 @@
+"""What tests of the built program share: the program served on a port, talks with it line by line, and the faults of
+tests/faults.c."""
+import os
+import select
+import shutil
+import socket
+import subprocess
+import sys
+from concurrent.futures import ThreadPoolExecutor
+
+ROOT = os.path.dirname(os.path.dirname(os.path.realpath(__file__)))
+LONGEST_WAIT = 60  # seconds
+GRANT_WORDS = ("granted", "message", "speed", "grade", "steps", "prices", "packet")  # each has a line behind it
+MOST_PORTS = 20  # that are tried, where others take them
+
+
+def program():
+    """The program that the command line names, if any does."""
+    return os.path.realpath(sys.argv[1] if len(sys.argv) > 1 else f"{ROOT}/crates/rbc/out/rbc")
+
+
+def free_port():
+    with socket.socket() as probe:
+        probe.bind(("127.0.0.1", 0))
+        return probe.getsockname()[1]
+
+
+class Server:
+    """The program, which serves a track on a port of the system's choice."""
+
+    def __init__(self, command, track, connections, workers, environment=None):
+        for _ in range(MOST_PORTS):
+            self.port = free_port()
+            words = [command, "serve", track, "--port", str(self.port)]
+            words += ["--connections", str(connections), "--workers", str(workers)]
+            pipe = subprocess.PIPE
+            self.process = subprocess.Popen(words, stdin=subprocess.DEVNULL, stdout=pipe, stderr=pipe, bufsize=0, env=environment)
+            self.listening = self.first_line() == f"listening {self.port}\n".encode()
+            if self.listening:
+                return
+            self.status, self.written, self.told = self.end()
+            if self.told != "rbc: no port\n":
+                return
+
+    def first_line(self):
+        """The line that tells that the port is open, or nothing."""
+        if not select.select([self.process.stdout], [], [], LONGEST_WAIT)[0]:
+            self.process.kill()
+        return self.process.stdout.readline()
+
+    def end(self):
+        """The exit status, what was written behind the first line, and the text of standard error."""
+        try:
+            written, told = self.process.communicate(timeout=LONGEST_WAIT)
+        finally:
+            self.process.kill()
+        return self.process.returncode, written.decode(), told.decode()
+
+
+class Talk:
+    """Lines that are sent, and replies that are read: over a connection, or over the pipes of a process."""
+
+    def __init__(self, send, replies):
+        self.send = send
+        self.replies = replies
+
+    def reply(self):
+        """The lines of the next reply, which are none where the talk has ended."""
+        lines = []
+        while True:
+            try:
+                line = self.replies.readline()
+            except ConnectionError:
+                line = ""
+            if not line:
+                return lines
+            lines.append(line.rstrip("\n"))
+            if line.split(" ")[0].rstrip("\n") not in GRANT_WORDS:
+                return lines
+
+    def ask(self, line):
+        try:
+            self.send(line.encode() + b"\n")
+        except OSError:
+            return []
+        return self.reply()
+
+
+class Connection(Talk):
+    def __init__(self, port):
+        self.socket = socket.create_connection(("127.0.0.1", port), timeout=LONGEST_WAIT)
+        super().__init__(self.socket.sendall, self.socket.makefile("r", encoding="ascii"))
+
+    def end(self):
+        """Sends no more, and gives what is left to read."""
+        try:
+            self.socket.shutdown(socket.SHUT_WR)
+            rest = self.replies.read()
+        except OSError:
+            rest = ""
+        self.close()
+        return rest
+
+    def close(self):
+        self.replies.close()
+        self.socket.close()
+
+
+def build_faults(room):
+    """The environments that hinder a program, as a function of the faults that tests/faults.c tells."""
+    compiler = next(filter(None, map(shutil.which, ("cc", "gcc", "clang"))))
+    library = f"{room}/faults.so"
+    subprocess.run([compiler, "-shared", "-fPIC", "-O1", "-o", library, f"{ROOT}/tests/faults.c"], check=True)
+
+    def hindered(**faults):
+        words = {f"FAULTS_{name.upper()}": str(value) for name, value in faults.items()}
+        return {**os.environ, "LD_PRELOAD": library, **words}
+
+    return hindered
+
+
+def all_of(task, cases):
+    """What a task tells of each case, side by side, in their order."""
+    with ThreadPoolExecutor(os.cpu_count()) as workers:
+        return list(workers.map(task, cases))
+
+
+class Count:
+    """Counts what passed and what failed, and tells each failure in a line."""
+
+    def __init__(self):
+        self.passed = self.failed = 0
+
+    def tell(self, name, fault):
+        """A case, and what is wrong with it, if anything is."""
+        if fault:
+            self.failed += 1
+            print(f"failed: {name}: {fault}"[:1000], flush=True)
+        else:
+            self.passed += 1
+
+    def tell_all(self, name, faults):
+        """Cases of one name, each with what is wrong with it: the first fault is told."""
+        wrong = [fault for fault in faults if fault]
+        self.tell(f"{name} ({len(faults)} runs, {len(wrong)} wrong)", wrong[0] if wrong else (None if faults else "no run"))
+
+    def end(self):
+        print(f"{self.passed} passed, {self.failed} failed")
+        sys.exit(1 if self.failed else 0)
