@@ -25,6 +25,9 @@ extern void *__libc_malloc(size_t);
 extern void *__libc_calloc(size_t, size_t);
 extern void *__libc_realloc(void *, size_t);
 
+/* In place of a file: none is hindered yet, and none any more. */
+enum { NOT_YET = -1, OVER = -2 };
+
 /* One direction of the stream that is hindered. */
 struct way {
   int file;
@@ -47,9 +50,9 @@ static long number(const char *name, long otherwise) {
 __attribute__((constructor)) static void begin(void) {
   const char *on = getenv("FAULTS_ON");
   on_connection = on && !strcmp(on, "connection");
-  in = (struct way){on_connection ? -1 : 0, number("FAULTS_READ", LONG_MAX), number("FAULTS_PIECE", LONG_MAX),
+  in = (struct way){on_connection ? NOT_YET : 0, number("FAULTS_READ", LONG_MAX), number("FAULTS_PIECE", LONG_MAX),
                     number("FAULTS_READ_SIGNALS", 0), 0};
-  out = (struct way){on_connection ? -1 : 1, number("FAULTS_WRITE", LONG_MAX), LONG_MAX,
+  out = (struct way){on_connection ? NOT_YET : 1, number("FAULTS_WRITE", LONG_MAX), LONG_MAX,
                      number("FAULTS_WRITE_SIGNALS", 0), 0};
   refused = number("FAULTS_MEMORY", 0);
 }
@@ -110,6 +113,11 @@ ssize_t send(int file, const void *bytes, size_t count, int flags) {
 
 int accept4(int file, struct sockaddr *address, socklen_t *length, int flags) {
   int accepted = (int)syscall(SYS_accept4, file, address, length, flags);
-  if (on_connection && in.file < 0 && accepted >= 0) in.file = out.file = accepted;
+  if (on_connection && in.file == NOT_YET && accepted >= 0) in.file = out.file = accepted;
   return accepted;
+}
+
+int close(int file) {
+  if (on_connection && file == in.file) in.file = out.file = OVER;
+  return (int)syscall(SYS_close, file);
 }

@@ -95,11 +95,18 @@ class Connection(Talk):
         """Sends no more, and gives what is left to read."""
         try:
             self.socket.shutdown(socket.SHUT_WR)
-            rest = self.replies.read()
         except OSError:
-            rest = ""
-        self.close()
-        return rest
+            pass  # the program has closed it
+        return self.rest()
+
+    def rest(self):
+        """What is left to read, up to where the program closes the connection."""
+        try:
+            return self.replies.read()
+        except ConnectionError:
+            return ""  # it did so with lines unread
+        finally:
+            self.close()
 
     def close(self):
         self.replies.close()
