@@ -109,6 +109,10 @@ class Connection(Talk):
             self.close()
 
     def close(self):
+        try:
+            self.socket.shutdown(socket.SHUT_RDWR)  # also wakes a thread that sends
+        except OSError:
+            pass  # the program has closed it
         self.replies.close()
         self.socket.close()
 
