@@ -175,11 +175,26 @@ fn fault_of(rt: &impl Abort, bits: &[usize]) -> Option<Fault> {
     read_message(&bytes).err()
 }
 
+/// The bytes are no message for this reason, or an authority that is written as just these bytes.
+fn are_told(rt: &(impl Abort + AllocGlobal), bytes: &[u8], outcome: Option<Fault>, bit: usize) {
+    match read_message(bytes) {
+        Ok(authority) => {
+            assert_eq!(rt; outcome, None, "at {bit}");
+            let written = write_message(rt.alloc(), &authority).expect(rt, "room");
+            assert_eq!(rt; written.as_slice(), bytes, "at {bit}");
+        }
+        Err(fault) => assert_eq!(rt; outcome, Some(fault), "at {bit}"),
+    }
+}
+
 #[test]
 fn each_change_of_one_bit(rt: HostRuntime) {
     for (first, end, outcome) in &ONE_BIT {
         for bit in *first..*end {
-            assert_eq!(rt; fault_of(&rt, &[bit]), *outcome, "at {bit}");
+            assert!(rt; bit < 312);
+            let mut bytes = MESSAGE;
+            bytes[bit / 8] ^= 0x80 >> (bit % 8);
+            are_told(&rt, &bytes, *outcome, bit);
         }
     }
 }
@@ -191,15 +206,23 @@ fn each_change_of_one_bit_in_tens(rt: HostRuntime) {
             assert!(rt; bit < 336);
             let mut bytes = MESSAGE_IN_TENS;
             bytes[bit / 8] ^= 0x80 >> (bit % 8);
-            match read_message(&bytes) {
-                Ok(authority) => {
-                    assert_eq!(rt; *outcome, None, "at {bit}");
-                    let written = write_message(rt.alloc(), &authority).expect(&rt, "room");
-                    assert_eq!(rt; written.as_slice(), bytes.as_slice(), "at {bit}");
-                }
-                Err(fault) => assert_eq!(rt; *outcome, Some(fault), "at {bit}"),
-            }
+            are_told(&rt, &bytes, *outcome, bit);
         }
+    }
+}
+
+#[test]
+fn messages_that_are_cut(rt: HostRuntime) {
+    for count in 0..MESSAGE.len() {
+        assert_eq!(rt;
+            read_message(&MESSAGE[..count]).err(),
+            Some(Fault::Short),
+            "at {count}"
+        );
+    }
+    for count in 0..MESSAGE_IN_TENS.len() {
+        let cut = &MESSAGE_IN_TENS[..count];
+        assert_eq!(rt; read_message(cut).err(), Some(Fault::Short), "at {count}");
     }
 }
 
