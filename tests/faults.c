@@ -2,7 +2,8 @@
  * tests/memory and tests/streams.
  *
  *   FAULTS_MEMORY N           the N-th request for memory is refused
- *   FAULTS_ON connection      what follows is of the first connection that is accepted, and not of standard input and output
+ *   FAULTS_ON WHAT            what follows is not of standard input and output, but of the first connection that is accepted
+ *                             (`connection`), or of the first or second file that is opened (`track`, `history`)
  *   FAULTS_PIECE N            a read gives at most N bytes
  *   FAULTS_READ N             a read fails once N bytes were read
  *   FAULTS_WRITE N            a write fails once N bytes were written
@@ -14,6 +15,7 @@
 #include <errno.h>
 #include <fcntl.h>
 #include <limits.h>
+#include <stdarg.h>
 #include <stdatomic.h>
 #include <stdlib.h>
 #include <string.h>
@@ -38,7 +40,8 @@ struct way {
 };
 
 static struct way in, out;
-static int on_connection;
+static const char *on;  /* NULL: standard input and output */
+static int opened;      /* files so far */
 static long refused;
 static atomic_long requests;
 
@@ -48,11 +51,10 @@ static long number(const char *name, long otherwise) {
 }
 
 __attribute__((constructor)) static void begin(void) {
-  const char *on = getenv("FAULTS_ON");
-  on_connection = on && !strcmp(on, "connection");
-  in = (struct way){on_connection ? NOT_YET : 0, number("FAULTS_READ", LONG_MAX), number("FAULTS_PIECE", LONG_MAX),
+  on = getenv("FAULTS_ON");
+  in = (struct way){on ? NOT_YET : 0, number("FAULTS_READ", LONG_MAX), number("FAULTS_PIECE", LONG_MAX),
                     number("FAULTS_READ_SIGNALS", 0), 0};
-  out = (struct way){on_connection ? NOT_YET : 1, number("FAULTS_WRITE", LONG_MAX), LONG_MAX,
+  out = (struct way){on ? NOT_YET : 1, number("FAULTS_WRITE", LONG_MAX), LONG_MAX,
                      number("FAULTS_WRITE_SIGNALS", 0), 0};
   refused = number("FAULTS_MEMORY", 0);
 }
@@ -111,13 +113,28 @@ ssize_t send(int file, const void *bytes, size_t count, int flags) {
   return most < 0 ? -1 : moved(&out, file, syscall(SYS_sendto, file, bytes, most, flags, NULL, 0));
 }
 
+/* From now on this file is hindered, if it is the one that was meant. */
+static void hinder_if(const char *what, int file) {
+  if (on && !strcmp(on, what) && in.file == NOT_YET && file >= 0) in.file = out.file = file;
+}
+
 int accept4(int file, struct sockaddr *address, socklen_t *length, int flags) {
   int accepted = (int)syscall(SYS_accept4, file, address, length, flags);
-  if (on_connection && in.file == NOT_YET && accepted >= 0) in.file = out.file = accepted;
+  hinder_if("connection", accepted);
   return accepted;
 }
 
+int open(const char *path, int flags, ...) {
+  va_list more;
+  va_start(more, flags);
+  int file = (int)syscall(SYS_open, path, flags, va_arg(more, mode_t));
+  va_end(more);
+  opened++;
+  hinder_if(opened == 1 ? "track" : "history", file);
+  return file;
+}
+
 int close(int file) {
-  if (on_connection && file == in.file) in.file = out.file = OVER;
+  if (on && file == in.file) in.file = out.file = OVER;
   return (int)syscall(SYS_close, file);
 }
