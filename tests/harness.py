@@ -117,11 +117,21 @@ class Connection(Talk):
         self.socket.close()
 
 
+def compiler():
+    """A C compiler: the machine's, or that of the kit, beside the page that `rt doc` names."""
+    for name in "cc", "gcc", "clang":
+        if shutil.which(name):
+            return [name], shutil.which(name)
+    page = subprocess.run(["rt", "doc"], capture_output=True, text=True, check=True).stdout.strip()
+    return ["clang", "-fuse-ld=lld"], f"{os.path.dirname(page)}/toolchain/bin/clang"
+
+
 def build_faults(room):
     """The environments that hinder a program, as a function of the faults that tests/faults.c tells."""
-    compiler = next(filter(None, map(shutil.which, ("cc", "gcc", "clang"))))
+    words, executable = compiler()
     library = f"{room}/faults.so"
-    subprocess.run([compiler, "-shared", "-fPIC", "-O1", "-o", library, f"{ROOT}/tests/faults.c"], check=True)
+    words += ["-shared", "-fPIC", "-O1", "-nostdlib", "-o", library, f"{ROOT}/tests/faults.c"]
+    subprocess.run(words, executable=executable, check=True)
 
     def hindered(**faults):
         words = {f"FAULTS_{name.upper()}": str(value) for name, value in faults.items()}
