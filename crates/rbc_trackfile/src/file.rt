@@ -152,9 +152,10 @@ pub fn read_parts(alloc: Global, table: &Table) -> Result<Parts, OrMemory<FileFa
 /// # Errors
 ///
 /// `Refused` with the file's first fault: `Toml`, then those of `read_parts`, and then `Track` with the refusal of
-/// `Track::new`. `Memory` may come in place of a fault.
+/// `Track::new`. `Memory` may come in place of a fault, unless the bytes are no UTF-8, or are blank.
 pub fn read(alloc: Global, text: &[u8]) -> Result<Track, OrMemory<FileFault>>
-    ensures { AnswersOrMemory result (track_told text.now) }
+    ensures track { AnswersOrMemory result (track_told text.now) }
+    ensures memory { result ≡ Err NoMemory → IsUtf8 text.now × ¬ IsBlank text.now }
 {
     track_in(alloc, text)
 }
@@ -162,7 +163,8 @@ pub fn read(alloc: Global, text: &[u8]) -> Result<Track, OrMemory<FileFault>>
 /// The same, step by step.
 #[tactic(auto, unfolding(crate::specs::Told::file_told))]
 fn track_in(alloc: Global, text: &[u8]) -> Result<Track, OrMemory<FileFault>>
-    ensures { AnswersOrMemory result (file_told text.now) }
+    ensures told { AnswersOrMemory result (file_told text.now) }
+    ensures memory { result ≡ Err NoMemory → IsUtf8 text.now × ¬ IsBlank text.now }
 {
     let table = parse(alloc, text)?;
     let parts = read_parts(alloc, &table)?;
