@@ -56,7 +56,7 @@ one_by line longer (Some leg) e = record { leg = leg; is = gained_is (has_sectio
 pub one_ahead : (locks : Locks) (line longer : Line) → Some longer ≡ longer_ahead locks line → IsOneAhead line longer
 one_ahead locks line longer e = one_by line longer (option_and_then (next locks) (last_leg line)) e
 
-last_leg-push : (line : Line) (leg : Leg) → last_leg (line ++ leg ∷ []) ≡ Some leg
+pub last_leg-push : (line : Line) (leg : Leg) → last_leg (line ++ leg ∷ []) ≡ Some leg
 last_leg-push [] leg = refl
 last_leg-push (a ∷ []) leg = refl
 last_leg-push (a ∷ b ∷ line) leg = last_leg-push (b ∷ line) leg

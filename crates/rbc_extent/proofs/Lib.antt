@@ -6,3 +6,4 @@ mod LeavingLemmas
 mod LengthenedLemmas
 mod PositionLemmas
 mod OutcomeLemmas
+mod WalkLemmas

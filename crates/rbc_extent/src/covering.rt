@@ -1,11 +1,12 @@
 //! The line of a report: legs that are dropped, and legs that are added along the locks.
 
-ghost use Rattle.std.specs.Prelude.{◌≡◌, length, true, IfOk, IsTrue};
+ghost use Rattle.std.specs.Prelude.{◌≡◌, length, true, Err, IfOk, IsTrue, is_some};
 ghost use Rattle.rbc_model.specs.Answers.{AnswersAs};
 ghost use Rattle.rbc_model.specs.Lines.{has_leg};
 ghost use Rattle.rbc_model.specs.Locks.{lengthened, longer_ahead};
 ghost use Rattle.rbc_model.specs.Placing.{has_front, leg_told, without_legs_behind};
 ghost use Rattle.rbc_model.specs.SoundTracks.{IsSound, is_good_group};
+ghost use Rattle.rbc_model.specs.declared.memory.OrMemory.TheVariants.{Refused};
 ghost use Rattle.rbc_model.specs.declared.refusals.Refusal.TheVariants.{Offline};
 ghost use Rattle.rbc_scene_laws.specs.Good.{IsGoodLocks};
 ghost use Rattle.rbc_extent.specs.PlacingSteps.{found_or, rear_step, front_step, covering_step};
@@ -33,7 +34,7 @@ fn sections_of(line: &Line) -> usize
 ///
 /// - `Offline`, where the locks do not lead to the leg.
 /// - `Memory`.
-pub(crate) fn continued_to(
+fn continued_to(
     alloc: Global,
     locks: &Locks,
     line: Line,
@@ -60,6 +61,63 @@ pub(crate) fn continued_to(
         }
     }
     Err(OrMemory::Refused(Refusal::Offline))
+}
+
+/// Whether the locks lead from the end of the line to the leg, before they lead back onto the line, or the line has it
+/// already. It takes no memory.
+fn leads_to(locks: &Locks, line: &Line, leg: Leg) -> bool
+    requires { IsGoodLocks line.now.track locks.now }
+    ensures { result ≡ is_some (lengthened (length line.now.track.sections) (longer_ahead locks.now)
+        (λ l. has_leg l leg) line.now.legs) }
+{
+    if line.has_leg(leg) {
+        return true;
+    }
+    // A line has each section once.
+    let _legs = line.legs();
+    let sections = sections_of(line);
+    let mut last = line.last();
+    for _added in 0..sections {
+        let Some(next) = locks.next(last) else {
+            return false;
+        };
+        if line.has_section(next.section) {
+            return false;
+        }
+        if is_same_leg(&leg, &next) {
+            return true;
+        }
+        last = next;
+    }
+    false
+}
+
+/// A copy of the line, continued along the locks as far as needed to have the leg. Nothing is copied before it is
+/// found that the locks lead there.
+///
+/// # Errors
+///
+/// - `Offline`, where the locks do not lead to the leg.
+/// - `Memory`, where they do.
+pub(crate) fn continuation(
+    alloc: Global,
+    locks: &Locks,
+    line: &Line,
+    leg: Leg,
+) -> Result<Line, OrMemory<Refusal>>
+    requires { IsGoodLocks line.now.track locks.now }
+    ensures line { AnswersAs (λ l. l.legs) result (found_or Offline
+        (lengthened (length line.now.track.sections) (longer_ahead locks.now) (λ l. has_leg l leg) line.now.legs)) }
+    ensures track { IfOk result (λ l. l.track ≡ line.now.track) }
+    ensures has { IfOk result (λ l. has_leg l.legs leg ≡ true) }
+    ensures offline { found_or Offline (lengthened (length line.now.track.sections) (longer_ahead locks.now)
+        (λ l. has_leg l leg) line.now.legs) ≡ Err Offline → result ≡ Err (Refused Offline) }
+{
+    if leads_to(locks, line, leg) {
+        continued_to(alloc, locks, line.copy(alloc)?, leg)
+    } else {
+        Err(OrMemory::Refused(Refusal::Offline))
+    }
 }
 
 /// Drops the legs before both the leg told and the leg with the train's rear. It takes no memory.

@@ -9,14 +9,14 @@ ghost use Rattle.rbc_model.specs.Placing.{has_front, leg_told, place, placed_on}
 ghost use Rattle.rbc_model.specs.SoundTracks.{IsSound, is_good_group};
 ghost use Rattle.rbc_model.specs.Tracks.{group_named};
 ghost use Rattle.rbc_model.specs.declared.memory.OrMemory.TheVariants.{Refused};
-ghost use Rattle.rbc_model.specs.declared.refusals.Refusal.TheVariants.{UnknownGroup};
+ghost use Rattle.rbc_model.specs.declared.refusals.Refusal.TheVariants.{Offline, UnknownGroup};
 ghost use Rattle.rbc_scene_laws.specs.Good.{IsGoodLocks};
 ghost use Rattle.rbc_extent.specs.Findings.{finding_view};
 ghost use Rattle.rbc_extent.specs.PlacingSteps.{finding, finding_from, locating_step};
 
 use crate::Placed;
 use crate::counting::{leg_told, metres_ahead, origin_on, rear_from};
-use crate::covering::{continued_to, covering};
+use crate::covering::{continuation, covering};
 use crate::finding::Finding;
 use rbc_line::Line;
 use rbc_locks::Locks;
@@ -35,12 +35,12 @@ use std::sync::Arc;
 /// # Errors
 ///
 /// `Refused` with the first of these:
-/// - `UnknownGroup`: the track has no such balise group. This is told before any memory is asked for.
+/// - `UnknownGroup`: the track has no such balise group.
 /// - `Offline`: the locks do not lead from the known line to the leg told.
 /// - `Unplaced`: the locks do not lead to the rear or to the front, or lead back onto the line.
 /// - `TooFar`: the front lies further from the group than an authority may end.
 ///
-/// `Memory` may come in place of all but the first.
+/// `Memory` may come in place of the last two. The first two are told before any memory is asked for.
 pub fn place(
     alloc: Global,
     track: &Arc<Track>,
@@ -55,6 +55,8 @@ pub fn place(
     ensures track { IfOk result (λ p. p.track ≡ arc_value track.now) }
     ensures unknown { group_named (arc_value track.now) report.now.group ≡ None
         → result ≡ Err (Refused UnknownGroup) }
+    ensures offline { place (arc_value track.now) locks.now (option_map (λ line. line.now.legs) known.entry) report.now
+        ≡ Err Offline → result ≡ Err (Refused Offline) }
 {
     let finding = find(alloc, track, locks, known, report)?;
     Ok(finding.placed)
@@ -77,6 +79,8 @@ pub(crate) fn find(
     ensures sound { IsSound (arc_value track.now) }
     ensures unknown { group_named (arc_value track.now) report.now.group ≡ None
         → result ≡ Err (Refused UnknownGroup) }
+    ensures offline { finding (arc_value track.now) locks.now (option_map (λ line. line.now.legs) known.entry) report.now
+        ≡ Err Offline → result ≡ Err (Refused Offline) }
 {
     match group_of(track, report) {
         Some(group) => find_from(alloc, track, locks, known, report, &group),
@@ -111,6 +115,8 @@ fn find_from(
     ensures finding { AnswersAs finding_view result (finding_from (arc_value track.now) locks.now
         (option_map (λ line. line.now.legs) known.entry) report.now group.now) }
     ensures track { IfOk result (λ f. f.placed.track ≡ arc_value track.now) }
+    ensures offline { finding_from (arc_value track.now) locks.now (option_map (λ line. line.now.legs) known.entry)
+        report.now group.now ≡ Err Offline → result ≡ Err (Refused Offline) }
 {
     let leg = leg_told(group, report);
     let start = located(alloc, track, locks, known, leg)?;
@@ -136,9 +142,11 @@ fn located(
         (locating_step (arc_value track.now) locks.now leg (option_map (λ line. line.now.legs) known.entry)) }
     ensures track { IfOk result (λ l. l.track ≡ arc_value track.now) }
     ensures has { IfOk result (λ l. has_leg l.legs leg ≡ true) }
+    ensures offline { locating_step (arc_value track.now) locks.now leg (option_map (λ line. line.now.legs) known.entry)
+        ≡ Err Offline → result ≡ Err (Refused Offline) }
 {
     match known {
-        Some(line) => continued_to(alloc, locks, line.copy(alloc)?, leg),
+        Some(line) => continuation(alloc, locks, line, leg),
         None => Ok(Line::new(alloc, track, leg)?),
     }
 }

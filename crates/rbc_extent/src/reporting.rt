@@ -6,7 +6,7 @@ ghost use Rattle.rbc_model.specs.Answers.{AnswersAs};
 ghost use Rattle.rbc_model.specs.Placing.{reported};
 ghost use Rattle.rbc_model.specs.Tracks.{Track as TrackValue, group_named};
 ghost use Rattle.rbc_model.specs.declared.memory.OrMemory.TheVariants.{Refused};
-ghost use Rattle.rbc_model.specs.declared.refusals.Refusal.TheVariants.{UnknownGroup};
+ghost use Rattle.rbc_model.specs.declared.refusals.Refusal.TheVariants.{Offline, UnknownGroup};
 ghost use Rattle.rbc_scene_laws.specs.Good.{IsGoodLocks, IsGoodTrain};
 ghost use Rattle.rbc_extent.specs.Findings.{authority_left, finding_view};
 
@@ -28,12 +28,12 @@ use std::sync::Arc;
 /// # Errors
 ///
 /// `Refused` with the first of these:
-/// - `UnknownGroup`: the track has no such balise group. This is told before any memory is asked for.
+/// - `UnknownGroup`: the track has no such balise group.
 /// - `Offline`: the locks do not lead from the known line to the leg told.
 /// - `Unplaced`: the locks do not lead to the rear or to the front, or lead back onto the line.
 /// - `TooFar`: the front lies further from the group than an authority may end.
 ///
-/// `Memory` may come in place of all but the first.
+/// `Memory` may come in place of the last two. The first two are told before any memory is asked for.
 pub fn reported(
     alloc: Global,
     track: &Arc<Track>,
@@ -48,6 +48,8 @@ pub fn reported(
     ensures track { IfOk result (λ t. t.track ≡ arc_value track.now) }
     ensures unknown { group_named (arc_value track.now) report.now.group ≡ None
         → result ≡ Err (Refused UnknownGroup) }
+    ensures offline { reported (arc_value track.now) locks.now (option_map (λ train. train.now.train) known.entry)
+        report.now ≡ Err Offline → result ≡ Err (Refused Offline) }
 {
     let finding = find(alloc, track, locks, line_of(known), report)?;
     let authority = authority_left(known, &finding);

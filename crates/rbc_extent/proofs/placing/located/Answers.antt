@@ -23,10 +23,14 @@ continued-located line_of locks leg track o x e same =
     ap (λ (t : Track). found_or Offline (lengthened (length t.sections) (longer_ahead locks) (λ l. has_leg l leg) (line_of x).legs)) (let here : IfSome (Some x) (λ y. (line_of y).track ≡ track) = subst (λ p. IfSome p (λ y. (line_of y).track ≡ track)) e same in here)
     ∙ ap (λ p. locating_step track locks leg (option_map (λ y. (line_of y).legs) p)) (sym e)
 
-pub returns-in_ok-copy-in-Some-clause-line : goal.returns-in_ok-copy-in-Some-clause-line
+pub returns-in-Some-clause-line : goal.returns-in-Some-clause-line
 unfolding continued
-returns-in_ok-copy-in-Some-clause-line c =
-    subst (AnswersAs (λ (l : LineOnTrack). l.legs) c.continued_to.result)
-    (ap (continued c.args.locks.now c.args.leg) c.in_ok-copy-in-Some.ensures
-    ∙ continued-located (λ line. line.now) c.args.locks.now c.args.leg (arc_value c.args.track.now) c.args.known c.in-Some.line c.in-Some.is c.requires.known)
-    c.continued_to.ensures.line
+returns-in-Some-clause-line c =
+    subst (AnswersAs (λ (l : LineOnTrack). l.legs) c.continuation.result)
+    (continued-located (λ line. line.now) c.args.locks.now c.args.leg (arc_value c.args.track.now) c.args.known c.in-Some.line c.in-Some.is c.requires.known)
+    c.continuation.ensures.line
+
+pub returns-in-Some-clause-offline : goal.returns-in-Some-clause-offline
+unfolding continued
+returns-in-Some-clause-offline c lost =
+    c.continuation.ensures.offline (continued-located (λ line. line.now) c.args.locks.now c.args.leg (arc_value c.args.track.now) c.args.known c.in-Some.line c.in-Some.is c.requires.known ∙ lost)
