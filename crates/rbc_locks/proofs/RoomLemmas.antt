@@ -1,15 +1,18 @@
 -- A route of a sound track finds room where none of its sections is locked, and nothing behind the legs that its rows are behind.
-use Rattle.std.proofs.Common.{◌≡◌, ℕ, ◌<◌, true, false, not, List, [], ◌∷◌, length, map, Option, Some, None, refl, sym, ◌∙◌, subst, arith, length-set, nat_lt}
+use Rattle.std.proofs.Common.{◌≡◌, ℕ, ◌<◌, true, false, not, List, [], ◌∷◌, length, map, Option, Some, None, Result, Ok, refl, sym, ap, ◌∙◌, subst, arith, length-set, nat_lt}
 use Rattle.std.specs.Prelude.{is_some, ◌==◌, slice_get, option_map, filter_map, fold}
 use Rattle.std.specs.Option.{option_map_or, option_or}
 use Rattle.std.specs.List.{AllByRecursion, list_all}
+use Rattle.std.specs.Result.{result_err}
+use Rattle.rbc_model.specs.Results.{unless}
 use Rattle.rbc_model.specs.declared.places.Leg.{Leg}
 use Rattle.rbc_model.specs.declared.tracks.Lock.{Lock}
+use Rattle.rbc_model.specs.declared.refusals.Refusal.{Refusal}
 use Rattle.rbc_model.specs.declared.refusals.Refusal.TheVariants.{Clash, LinkTaken}
 use Rattle.rbc_model.specs.Tracks.{Track, Route, is_linked}
 use Rattle.rbc_model.specs.SoundTracks.{IsSound, sections_differ, is_leg_of, is_good_entry, is_good_route}
 use Rattle.rbc_model.specs.Lines.{has_section}
-use Rattle.rbc_model.specs.Locks.{Locks, row, next, clash, taken_link, needed_rows, with_leg_before, with_row}
+use Rattle.rbc_model.specs.Locks.{Locks, row, next, clash, taken_link, locked, needed_rows, with_leg_before, with_row}
 use Rattle.rbc_scene_laws.proofs.BasicLemmas.{EachPair, or_false_left, or_false_right, and_left, and_right, not_false, number_apart, each_weaker, each_both, the_some}
 use Rattle.rbc_scene_laws.proofs.TrainListLemmas.{find-none}
 use Rattle.rbc_scene_laws.proofs.RowLemmas.{row-set_other}
@@ -113,3 +116,19 @@ no_taken_link locks route h = by_clash (clash locks route) (taken_link locks rou
 pub length-with_rows : (number : ℕ) (needs : List Need) (locks : Locks) → length (fold (with_row number) locks needs) ≡ length locks
 length-with_rows number [] locks = refl
 length-with_rows number (need ∷ needs) locks = length-with_rows number needs (with_row number locks need) ∙ length-set locks need.0.section (Some (the_lock number need))
+
+-- ---- why a route can't be locked
+
+err-unless : {A E : Type 0} (first second : Option E) (x : A) → option_or first second ≡ result_err (unless first (unless second (Ok x)))
+err-unless None None x = refl
+err-unless None (Some refusal) x = refl
+err-unless (Some refusal) second x = refl
+
+abbrev all_locked : Locks → ℕ → Route → Result Locks Refusal
+all_locked locks number route =
+    unless (option_map Clash (clash locks route)) (unless (option_map LinkTaken (taken_link locks route)) (Ok (fold (with_row number) locks (needed_rows route))))
+
+pub err-locked : (track : Track) (locks : Locks) (number : ℕ) (route : Route) → slice_get track.routes number ≡ Some route → lock_refusal locks route ≡ result_err (locked track locks number)
+err-locked track locks number route there =
+    err-unless (option_map Clash (clash locks route)) (option_map LinkTaken (taken_link locks route)) (fold (with_row number) locks (needed_rows route))
+    ∙ ap (λ found. result_err (option_map_or (all_locked locks number) found (Ok locks))) (sym there)

@@ -1,6 +1,7 @@
 //! The lock rows of a track's sections.
 
 ghost use Rattle.std.specs.Prelude.{◌≡◌, ◌<◌, length, IfOk, fold};
+ghost use Rattle.std.specs.Result.{result_err};
 ghost use Rattle.rbc_model.specs.Locks.{no_locks, locked, freed, row, next, prev};
 ghost use Rattle.rbc_model.specs.Locks.{clash, taken_link, needed_rows, with_row};
 ghost use Rattle.rbc_scene_laws.specs.Good.{OneRowBehindEach};
@@ -86,6 +87,14 @@ impl Locks {
         rows.resize(sections, None)?;
         let next_legs = NextTable::new(alloc, sections)?;
         Ok(Locks { rows, next_legs })
+    }
+
+    /// Why a route can't be locked, if it can't: what `lock` would answer.
+    pub fn refusal(&self, track: &Track, route: RouteId) -> Option<Refusal>
+        requires { route < length track.now.routes }
+        ensures { result ≡ result_err (locked track.now self.now route) }
+    {
+        refusal_of(self, track.route_at(route))
     }
 
     /// Locks the sections of a route, each in the direction of the route's leg and behind the route's leg before it;

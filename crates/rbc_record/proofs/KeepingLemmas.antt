@@ -1,6 +1,6 @@
 -- A record keeps what it keeps, when an entry is added that may follow.
-use Rattle.std.proofs.Common.{◌≡◌, ℕ, ◌<◌, List, [], ◌∷◌, ◌++◌, true, false, length, map, take, Result, Ok, Err, refl, sym, ap, ◌∙◌, subst, arith, length-append}
-use Rattle.std.specs.Prelude.{IsTrue, is_ok, IfOk}
+use Rattle.std.proofs.Common.{◌≡◌, ℕ, ◌<◌, Bool, cond, List, [], ◌∷◌, ◌++◌, true, false, Option, Some, None, length, map, take, Result, Ok, Err, refl, sym, ap, ◌∙◌, subst, arith, length-append}
+use Rattle.std.specs.Prelude.{IsTrue, is_ok, IfOk, option_map}
 use Rattle.std.proofs.lemmas.Bool.{leb-false}
 use Rattle.std.proofs.lemmas.List.{map-append}
 use Rattle.std.specs.Result.{result_unwrap_or}
@@ -22,12 +22,15 @@ use Rattle.rbc_grant_laws.specs.Candidates.{IsCandidateOf}
 use Rattle.rbc_grant_laws.proofs.CandidateLemmas.{MayFollow-candidate, is_ok-candidate, view-train}
 use Rattle.rbc_grant.specs.SameViews.{is_same_view-decides}
 use Rattle.rbc_grant.specs.ScenesOnTracks.{SceneOnTrack}
+use Rattle.rbc_grant.specs.Steps.{told_at_once}
 use Rattle.rbc_model.specs.declared.limits.TheConstants.{MOST_ENTRIES}
 use Rattle.rbc_scene_laws.proofs.KeptLemmas.{IsBestHistory-of_legal}
 use Rattle.rbc_record.specs.declared.entry.Entry.{Entry as EntryHeld}
 use Rattle.rbc_record.specs.declared.entry.Entry.TheVariants.{Heard as HeardHeld, Granted as GrantedHeld}
 use Rattle.rbc_record.specs.Entries.{entry_of}
-use Rattle.rbc_record.specs.Entering.{is_just, is_shown}
+use Rattle.rbc_record.specs.declared.faults.ApplyFault.{ApplyFault}
+use Rattle.rbc_record.specs.declared.faults.ApplyFault.TheVariants.{Full as FullToTold, Refused as RefusedByScene}
+use Rattle.rbc_record.specs.Entering.{is_just, is_shown, refused_at_once}
 use Rattle.rbc_record.specs.Records.{HistoryOnTrack, IsKept, history_on, is_full, scene_now}
 use Rattle.rbc_record.proofs.HistoryLemmas.{IsLegal-take}
 
@@ -56,6 +59,17 @@ shown_before scene entries now is kept v h =
 pub train_shown : (track : Track) (scene : Scene) (number : ℕ) (result : Result View (OrMemory ViewFault)) → AnswersOrMemory result (view track scene number) → IfOk result (λ v. v.train ≡ number)
 train_shown track scene number (Ok v) h = view-train track scene number v h
 train_shown track scene number (Err fault) h = tt
+
+-- ---- room
+
+not_full_by : (full : Bool) (fault : Option ApplyFault) → cond full (Some FullToTold) fault ≡ None → full ≡ false
+not_full_by true fault none = cc
+not_full_by false fault none = refl
+
+-- what is not refused at once has room
+pub not_full : (history : HistoryOnTrack) (told : Told) → refused_at_once history told ≡ None → is_full history ≡ false
+not_full history told none =
+    not_full_by (is_full history) (option_map (λ refusal. RefusedByScene refusal) (told_at_once history.track (scene_now history) told)) none
 
 -- ---- one entry more
 

@@ -1,5 +1,5 @@
 -- What may be entered in a history, and what a call that enters it answers and leaves.
-use Rattle.std.specs.Prelude.{◌≡◌, Bool, false, if◌then◌else◌, length, Result, Ok, Err}
+use Rattle.std.specs.Prelude.{◌≡◌, Bool, false, if◌then◌else◌, length, Option, Some, option_map, Result, Ok, Err}
 use Rattle.std.specs.Result.{result_map_both}
 use Rattle.rbc_model.specs.declared.memory.OrMemory.{OrMemory}
 use Rattle.rbc_model.specs.declared.memory.OrMemory.TheVariants.{Refused, Memory}
@@ -13,6 +13,7 @@ use Rattle.rbc_model.specs.Histories.{Entry, Heard, Granted, Receipt}
 use Rattle.rbc_model.specs.Views.{View, view}
 use Rattle.rbc_grant.specs.SameViews.{is_same_view}
 use Rattle.rbc_grant.specs.Candidates.{Candidate}
+use Rattle.rbc_grant.specs.Steps.{told_at_once}
 use Rattle.rbc_record.specs.declared.faults.ApplyFault.{ApplyFault}
 use Rattle.rbc_record.specs.declared.faults.ApplyFault.TheVariants.{Full as FullToTold, Refused as RefusedByScene}
 use Rattle.rbc_record.specs.declared.faults.CommitFault.{CommitFault}
@@ -25,6 +26,13 @@ entry_told history told =
     if is_full history
     then Err FullToTold
     else result_map_both (λ after. Heard told) (λ refusal. RefusedByScene refusal) (step history.track (scene_now history) (Tell told))
+
+-- why what is told is not entered, where nothing has to grow to see it: the history is full, or its scene refuses it at once
+abbrev pub refused_at_once : HistoryOnTrack → Told → Option ApplyFault
+refused_at_once history told =
+    if is_full history
+    then Some FullToTold
+    else option_map (λ refusal. RefusedByScene refusal) (told_at_once history.track (scene_now history) told)
 
 -- a refusal of the scene is one of the record
 abbrev pub as_apply_fault : OrMemory Refusal → OrMemory ApplyFault

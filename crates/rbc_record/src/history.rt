@@ -1,6 +1,6 @@
 //! The record of a track.
 
-ghost use Rattle.std.specs.Prelude.{◌≡◌, ◌++◌, ◌∷◌, ◌<◌, ◌≤◌, ℕ, [], length, map, take, true, false, slice_get, option_map, None, Ok, Err, IfOk, vec_len, vec_capacity};
+ghost use Rattle.std.specs.Prelude.{◌≡◌, ◌++◌, ◌∷◌, ◌<◌, ◌≤◌, ℕ, [], length, map, take, true, false, slice_get, option_map, None, Ok, Err, IfOk, IfSome, vec_len, vec_capacity};
 ghost use Rattle.std.specs.Arc.{arc_value};
 ghost use Rattle.std.specs.Option.{option_copied};
 ghost use Rattle.rbc_model.specs.declared.limits.TheConstants.{MOST_ENTRIES};
@@ -15,7 +15,7 @@ ghost use Rattle.rbc_grant.specs.Steps.{IsOfTrack};
 ghost use Rattle.rbc_record.specs.declared.faults.ApplyFault.TheVariants.{Full as FullToTold};
 ghost use Rattle.rbc_record.specs.declared.faults.CommitFault.TheVariants.{Full as FullToGrants, Stale};
 ghost use Rattle.rbc_record.specs.Entries.{entry_of};
-ghost use Rattle.rbc_record.specs.Entering.{EntersOrMemory, as_apply_fault, entry_told, entry_granted, is_shown};
+ghost use Rattle.rbc_record.specs.Entering.{EntersOrMemory, as_apply_fault, entry_told, entry_granted, is_shown, refused_at_once};
 ghost use Rattle.rbc_record.specs.Headline.{EachEndIsFarthest, EachProfileIsBest};
 ghost use Rattle.rbc_record.specs.Records.{scene_now, is_full};
 
@@ -136,6 +136,20 @@ impl Record {
         self.entries.len() >= MOST_ENTRIES
     }
 
+    /// Why what is told would not be entered, where nothing has to grow to see it: `Full`, or what [`Scene::refusal`] tells.
+    pub fn refusal(&self, told: &Told) -> Option<ApplyFault>
+        requires { IsOfTrack self.now.track told.now }
+        ensures at_once { result ≡ refused_at_once self.now told.now }
+        ensures refused { IfSome result (λ fault. entry_told self.now told.now ≡ Err fault) }
+        ensures best { IsBestHistory self.now.track self.now.entries }
+    {
+        if self.is_full() {
+            return Some(ApplyFault::Full);
+        }
+        let refusal = self.scene.refusal(told)?;
+        Some(ApplyFault::Refused(refusal))
+    }
+
     /// Enters what a train or the interlocking tells. Where it is refused, or memory is, nothing changes.
     ///
     /// # Errors
@@ -144,15 +158,16 @@ impl Record {
     /// - `Full`, before all else: the record has 100,000 entries,
     /// - `Refused` with the refusal of the scene.
     ///
-    /// `Memory` may come in place of `Refused`.
+    /// `Memory` comes in place of no refusal that [`Record::refusal`] tells.
     pub fn apply(&mut self, alloc: Global, told: &Told) -> Result<Receipt, OrMemory<ApplyFault>>
         requires { IsOfTrack self.old.track told.now }
         ensures entered { EntersOrMemory result self.old self.new (entry_told self.old told.now) }
         ensures full { is_full self.old ≡ true → result ≡ Err (Refused FullToTold) }
+        ensures at_once { IfSome (refused_at_once self.old told.now) (λ fault. result ≡ Err (Refused fault)) }
         ensures best { IsBestHistory self.new.track self.new.entries }
     {
-        if self.is_full() {
-            return Err(OrMemory::Refused(ApplyFault::Full));
+        if let Some(fault) = self.refusal(told) {
+            return Err(OrMemory::Refused(fault));
         }
         self.entries.reserve(1)?;
         match self.scene.tell(alloc, told) {

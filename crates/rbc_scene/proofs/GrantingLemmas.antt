@@ -1,25 +1,19 @@
 -- Grants: the line that a grant continues, and the scene after it.
-use Rattle.std.proofs.Common.{◌≡◌, ℕ, ◌+◌, ◌-◌, ◌<◌, ◌≤◌, max, Bool, true, false, cond, ◌&&◌, List, [], ◌∷◌, ◌++◌, length, take, drop, Option, Some, None, Result, Ok, Err, Bor, refl, sym, ap, ◌∙◌, subst, arith, inl, inr, nat_lt, nat_le}
+use Rattle.std.proofs.Common.{◌≡◌, ℕ, ◌+◌, ◌-◌, ◌<◌, ◌≤◌, max, Bool, true, false, cond, ◌&&◌, List, [], ◌∷◌, ◌++◌, length, take, drop, Option, Some, None, Result, Ok, Err, Bor, refl, sym, ap, ◌∙◌, subst, arith, inl, inr}
 use Rattle.std.specs.Prelude.{is_some, ◌==◌, find, map, option_map, ℤ, pos, IfOk}
 use Rattle.std.specs.Option.{option_copied, option_map_or}
 use Rattle.std.specs.List.{AllByRecursion}
-use Rattle.std.proofs.lemmas.Bool.{eqb-true, leb-true}
+use Rattle.std.proofs.lemmas.Bool.{eqb-true}
 use Rattle.std.proofs.lemmas.List.{take_at, take-append-drop}
 use Rattle.std.proofs.lemmas.List.Elements.{recursion_from_All}
-use Rattle.rbc_model.specs.declared.memory.OrMemory.{OrMemory}
-use Rattle.rbc_model.specs.declared.memory.OrMemory.TheVariants.{Refused, Memory}
-use Rattle.rbc_model.specs.declared.places.Format.{Format}
-use Rattle.rbc_model.specs.declared.places.Format.TheVariants.{Near}
 use Rattle.rbc_model.specs.declared.refusals.Obstacle.{Obstacle}
 use Rattle.rbc_model.specs.declared.refusals.Refusal.{Refusal}
 use Rattle.rbc_model.specs.declared.refusals.Refusal.TheVariants.{NotSafe, UnknownTrain}
-use Rattle.rbc_model.specs.Answers.{AnswersAs, RefusesOrMemory}
 use Rattle.rbc_model.specs.Events.{after_grant, with_authority, with_train}
 use Rattle.rbc_model.specs.Histories.{AuthoritiesAreApart}
 use Rattle.rbc_model.specs.Lines.{Line, legs_begun_before, line_length}
 use Rattle.rbc_model.specs.Locks.{Locks}
 use Rattle.rbc_model.specs.Obstacles.{way}
-use Rattle.rbc_model.specs.Scales.{farthest, is_expressible}
 use Rattle.rbc_model.specs.Scenes.{Scene, train_numbered}
 use Rattle.rbc_model.specs.Tracks.{Track, metres_of}
 use Rattle.rbc_model.specs.Trains.{Train}
@@ -27,7 +21,7 @@ use Rattle.rbc_model.specs.Views.{is_expressible_end, is_safe, reach, start_of, 
 use Rattle.rbc_model.proofs.EndLemmas.{IsSafe-is_safe}
 use Rattle.rbc_model.proofs.ScanLemmas.{le_or_lt}
 use Rattle.rbc_scene_laws.specs.Good.{IsGoodLocks, IsGoodScene, IsGoodTrain}
-use Rattle.rbc_scene_laws.proofs.BasicLemmas.{and_left, and_right, both, clash, either, the_some}
+use Rattle.rbc_scene_laws.proofs.BasicLemmas.{and_left, the_some}
 use Rattle.rbc_scene_laws.proofs.GrantingLemmas.{good_after_grant}
 use Rattle.rbc_scene_laws.proofs.LengtheningLemmas.{ahead_fully}
 use Rattle.rbc_scene_laws.proofs.OnLineLemmas.{OnLine-IsLine}

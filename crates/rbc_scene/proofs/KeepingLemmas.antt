@@ -1,20 +1,22 @@
 -- Scenes stay good, change by change, and each change is the definition's.
 use Rattle.std.proofs.Common.{◌≡◌, ℕ, Bool, true, false, cond, List, [], ◌∷◌, Option, Some, None, Result, Ok, Err, Bor, refl, sym, ap, ◌∙◌, subst, ◌+◌, ◌<◌, ◌≤◌, ◌&&◌, nat_lt, nat_le}
-use Rattle.std.specs.Prelude.{is_some, ◌==◌, find, not, option_map}
+use Rattle.std.specs.Prelude.{is_some, ◌==◌, is_none, find, not, option_map, slice_set, IfSome}
 use Rattle.std.specs.Option.{option_copied, option_map_or}
 use Rattle.std.proofs.lemmas.Bool.{leb-true, ltb-true}
-use Rattle.std.specs.Result.{result_map_both}
+use Rattle.std.specs.Result.{result_err, result_map_both}
 use Rattle.rbc_model.specs.declared.refusals.Refusal.{Refusal}
-use Rattle.rbc_model.specs.declared.refusals.Refusal.TheVariants.{Busy, Crowded, UnknownTrain, YieldRange}
+use Rattle.rbc_model.specs.declared.refusals.Refusal.TheVariants.{Busy, Crowded, NotLocked, UnknownGroup, UnknownTrain, YieldRange}
+use Rattle.rbc_model.specs.declared.reports.Told.{Told}
+use Rattle.rbc_model.specs.declared.reports.Told.TheVariants.{Report as ToldReport, Lock as ToldLock, Free as ToldFree, Leave as ToldLeave, GiveBack as ToldGiveBack}
 use Rattle.rbc_model.specs.Results.{unless}
-use Rattle.rbc_model.specs.Tracks.{Track}
+use Rattle.rbc_model.specs.Tracks.{Track, group_named}
 use Rattle.rbc_model.specs.SoundTracks.{IsSound}
 use Rattle.rbc_model.specs.Reports.{Report}
 use Rattle.rbc_model.specs.Trains.{Train}
 use Rattle.rbc_model.specs.Locks.{Locks, no_locks, row, locked, freed}
 use Rattle.rbc_model.specs.Placing.{reported}
 use Rattle.rbc_model.specs.Scenes.{Scene, train_numbered}
-use Rattle.rbc_model.specs.Events.{after_give_back, after_leave, after_report, cut_at, stands_on, with_locks, with_train, without_train}
+use Rattle.rbc_model.specs.Events.{after_free, after_give_back, after_leave, after_lock, after_report, after_told, cut_at, stands_on, with_locks, with_train, without_train}
 use Rattle.rbc_model.specs.Histories.{AuthoritiesAreApart}
 use Rattle.rbc_scene_laws.specs.Good.{IsGoodScene}
 use Rattle.rbc_scene_laws.proofs.BasicLemmas.{and_left, and_right, the_some}
@@ -26,10 +28,10 @@ use Rattle.rbc_scene_laws.proofs.LockingLemmas.{good_after_lock}
 use Rattle.rbc_scene_laws.proofs.ReportingLemmas.{good_after_report}
 use Rattle.rbc_way.specs.Changes.{ChangesAs}
 use Rattle.rbc_way.specs.TrainsOnTracks.{TrainOnTrack}
-use Rattle.rbc_way.specs.Books.{Book, HoldsOfTrain, book_with, book_without, number_in, scene_of, train_in}
+use Rattle.rbc_way.specs.Books.{Book, HoldsOfTrain, book_with, book_without, scene_of, train_in}
 use Rattle.rbc_way.specs.Entries.{on_track}
 use Rattle.rbc_scene.specs.ScenesOnTracks.{SceneOnTrack, IsKept, scene_on}
-use Rattle.rbc_scene.specs.Steps.{StepsTo, end_cut, end_given_back, is_crowded}
+use Rattle.rbc_scene.specs.Steps.{StepsTo, end_cut, end_given_back, is_crowded, told_at_once}
 
 -- the scene's empty start
 pub kept_empty : (track : Track) (locks : Locks) (book : Book) → locks ≡ no_locks track → book ≡ record { track = track; trains = [] } → IsSound track → IsKept (scene_on locks book)
@@ -64,17 +66,28 @@ module _ (locks : Locks) (book : Book) (kept : IsKept (scene_on locks book)) whe
   }
   kept_free new section (Err refusal) idle h = subst (λ l. IsKept (scene_on l book)) (sym h.1) kept
 
+  -- whether its row goes, or it has none
+  abbrev going : Bool → ℕ → Result Scene Refusal
+  going b section =
+      let rows : Result Locks Refusal = cond b (Ok (slice_set locks section None)) (Err (NotLocked section)) in
+      result_map_both (with_locks scene) (λ r. r) rows
+
+  idle_by : (b : Bool) (section : ℕ) (o : Option Train) → result_err (cond b (unless (option_map (λ (train : Train). Busy section train.report.train) o) (going b section)) (going b section)) ≡ None → o ≡ None
+  idle_by true section None h = refl
+  idle_by true section (Some train) h = cc
+  idle_by false section None h = refl
+  idle_by false section (Some train) h = cc
+
+  -- nobody stands on a section that can be freed
+  pub idle : (now : SceneOnTrack) → scene_on locks book ≡ now → (section : ℕ) (told : Option Refusal) → told ≡ result_err (after_free now.track now.scene section) → told ≡ None → find (stands_on book.track section) book.trains ≡ None
+  idle now is section told h none =
+      idle_by (is_some (row locks section)) section (find (stands_on book.track section) book.trains)
+      (ap (λ (s : SceneOnTrack). result_err (after_free s.track s.scene section)) is ∙ sym h ∙ none)
+
   -- ---- a train leaves
 
   pub kept_left : (new : Book) (number : ℕ) → new ≡ book_without book number → IsKept (scene_on locks new)
   kept_left new number e = subst (λ b. IsKept (scene_on locks b)) (sym e) (record { sound = kept.sound; good = good_without_train book.track scene number kept.good })
-
-none_mapped : {X Y : Type 0} (f : X → Y) (o : Option X) → option_map f o ≡ None → o ≡ None
-none_mapped f None h = refl
-none_mapped f (Some x) h = cc
-
-pub nobody : (test : Train → Bool) (trains : List Train) (r : Option ℕ) → r ≡ option_map number_in (find test trains) → r ≡ None → find test trains ≡ None
-nobody test trains r e n = none_mapped number_in (find test trains) (sym e ∙ n)
 
 -- a train that is not there leaves none behind
 stay_by : (b : Bool) (x : Train) (o : Option Train) (xs fs : List Train) → is_some (cond b (Some x) o) ≡ false → (is_some o ≡ false → fs ≡ xs) → cond (not b) (x ∷ fs) fs ≡ x ∷ xs
@@ -227,3 +240,29 @@ module _ (locks : Locks) (book : Book) (now : SceneOnTrack) (is : scene_on locks
           g.steps ∙ ap (λ (s : SceneOnTrack). Ok (with_train s.scene (cut_at s.track g.train to))) (sym is) ∙ ap (λ (b : Book). Ok (record { locks = locks; trains = b.trains })) (sym as_cut),
           ap (λ (b : Book). b.track) as_cut ∙ ap (λ (s : SceneOnTrack). s.track) is,
         )
+
+-- ---- what is refused at once
+
+unknown_group : (track : Track) (locks : Locks) (known : Option Train) (report : Report) → group_named track report.group ≡ None → reported track locks known report ≡ Err UnknownGroup
+unknown_group track locks known report none = rw none refl
+
+refused-err : (answer : Result Scene Refusal) → IfSome (result_err answer) (λ refusal. answer ≡ Err refusal)
+refused-err (Ok _) = tt
+refused-err (Err refusal) = refl
+
+crowded-else : {G : Type 0} (crowded : Bool) (group : Option G) (answer : Result Scene Refusal) → (group ≡ None → answer ≡ Err UnknownGroup)
+    → IfSome (cond crowded (Some Crowded) (cond (is_none group) (Some UnknownGroup) None)) (λ refusal. cond crowded (Err Crowded) answer ≡ Err refusal)
+crowded-else true group answer h = refl
+crowded-else false None answer h = h refl
+crowded-else false (Some group) answer h = tt
+
+-- what is refused at once is refused as the definition says
+pub refuses_at_once : (track : Track) (scene : Scene) (told : Told) → IfSome (told_at_once track scene told) (λ refusal. after_told track scene told ≡ Err refusal)
+refuses_at_once track scene (ToldReport report) =
+    crowded-else (is_crowded scene report) (group_named track report.group)
+    (result_map_both (with_train scene) (λ (r : Refusal). r) (reported track scene.locks (train_numbered scene report.train) report))
+    (λ none. ap (result_map_both (with_train scene) (λ (r : Refusal). r)) (unknown_group track scene.locks (train_numbered scene report.train) report none))
+refuses_at_once track scene (ToldLock route) = refused-err (after_lock track scene route)
+refuses_at_once track scene (ToldFree section) = refused-err (after_free track scene section)
+refuses_at_once track scene (ToldLeave train) = refused-err (after_leave scene train)
+refuses_at_once track scene (ToldGiveBack train distance) = refused-err (after_give_back track scene train distance)

@@ -1,6 +1,7 @@
 -- What a call on a scene answers, and what it leaves.
-use Rattle.std.specs.Prelude.{◌≡◌, ◌<◌, ℕ, ◌+◌, nat_lt, nat_le, not, ◌&&◌, Bool, if◌then◌else◌, length, is_some, is_none, Option, Some, None, Result, Ok, Err, ℤ, pos}
+use Rattle.std.specs.Prelude.{◌≡◌, ◌<◌, ℕ, ◌+◌, nat_lt, nat_le, not, ◌&&◌, ◌||◌, Bool, if◌then◌else◌, length, is_some, is_none, Option, Some, None, Result, Ok, Err, ℤ, pos}
 use Rattle.std.specs.Option.{option_map_or}
+use Rattle.std.specs.Result.{result_err}
 use Rattle.rbc_model.specs.declared.limits.TheConstants.{MOST_TRAINS}
 use Rattle.rbc_model.specs.declared.memory.OrMemory.{OrMemory}
 use Rattle.rbc_model.specs.declared.refusals.Refusal.{Refusal}
@@ -11,6 +12,8 @@ use Rattle.rbc_model.specs.declared.reports.Event.TheVariants.{Tell, Grant}
 use Rattle.rbc_model.specs.declared.reports.Told.{Told}
 use Rattle.rbc_model.specs.declared.reports.Told.TheVariants.{Report as ToldReport, Lock as ToldLock}
 use Rattle.rbc_model.specs.Answers.{RefusesOrMemory}
+use Rattle.rbc_model.specs.Events.{after_told}
+use Rattle.rbc_model.specs.Scales.{farthest}
 use Rattle.rbc_model.specs.Tracks.{Track, group_named}
 use Rattle.rbc_model.specs.Reports.{Report}
 use Rattle.rbc_model.specs.Trains.{Train}
@@ -61,16 +64,27 @@ abbrev pub MayNeedMemory : Event → Type 0
 MayNeedMemory (Tell told) = IsReportTold told
 MayNeedMemory (Grant train distance) = Unit {0}
 
--- the refusal of a report that is told before any memory is asked for
+-- why what is told is refused, where nothing has to grow to see it: of a report, that there are too many trains or no such group; of all else, each refusal
 abbrev pub told_at_once : Track → Scene → Told → Option Refusal
 told_at_once track scene (ToldReport report) =
     if is_crowded scene report then Some Crowded else (if is_none (group_named track report.group) then Some UnknownGroup else None)
-told_at_once track scene _ = None
+told_at_once track scene told = result_err (after_told track scene told)
+
+-- No way is so clear that the train's authority may end so many metres from its group: no message tells so many, or the place does not lie beyond
+-- the front, or metres are taken back.
+abbrev pub is_out_of_range : Track → Train → ℕ → Bool
+is_out_of_range track train distance =
+    let to = train.origin + distance in nat_lt (farthest track.format) distance || nat_le to train.front || nat_lt to train.to
+
+-- why a grant is refused, where nothing has to grow to see it
+abbrev pub granted_at_once : Track → Scene → ℕ → ℕ → Option Refusal
+granted_at_once track scene number distance =
+    option_map_or (λ train. if is_out_of_range track train distance then Some NotSafe else None) (train_numbered scene number) (Some (UnknownTrain number))
 
 -- the same for whatever may happen
 abbrev pub refused_at_once : Track → Scene → Event → Option Refusal
 refused_at_once track scene (Tell told) = told_at_once track scene told
-refused_at_once track scene (Grant train distance) = if is_none (train_numbered scene train) then Some (UnknownTrain train) else None
+refused_at_once track scene (Grant train distance) = granted_at_once track scene train distance
 
 -- what stands at the reach of the train of this number, and where: so many metres from the start of its line
 abbrev pub reach_of : Track → Scene → ℕ → Result (Obstacle × ℤ) Refusal

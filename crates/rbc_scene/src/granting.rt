@@ -1,11 +1,14 @@
 //! What a grant gives a train: an authority up to a safe end, on a line that has its metres.
 
-ghost use Rattle.std.specs.Prelude.{◌≡◌, ◌≤◌, ◌<◌, IfOk};
+ghost use Rattle.std.specs.Prelude.{◌≡◌, ◌≤◌, ◌<◌, true, Err, IfOk};
+ghost use Rattle.rbc_model.specs.declared.memory.OrMemory.TheVariants.{Refused};
+ghost use Rattle.rbc_model.specs.declared.refusals.Refusal.TheVariants.{NotSafe};
 ghost use Rattle.rbc_model.specs.Answers.{AnswersAs};
 ghost use Rattle.rbc_model.specs.Events.{with_authority};
 ghost use Rattle.rbc_model.specs.Lines.{line_length};
 ghost use Rattle.rbc_model.specs.Scenes.{Scene};
 ghost use Rattle.rbc_scene.specs.Grants.{granted_train, line_to};
+ghost use Rattle.rbc_scene.specs.Steps.{is_out_of_range};
 ghost use Rattle.rbc_scene_laws.specs.Good.{IsGoodLocks};
 ghost use Rattle.rbc_way.specs.Reaches.{BeginsWay, scene_of};
 
@@ -56,6 +59,7 @@ pub(crate) fn granted_to(
     ensures track { IfOk result (λ granted. granted.line.track ≡ book.now.track) }
     ensures granted { AnswersAs (λ g. with_authority train.now.train g.line.legs g.from g.to) result
         (granted_train book.now.track (scene_of locks.now book.now.trains) train.now.train distance) }
+    ensures range { is_out_of_range book.now.track train.now.train distance ≡ true → result ≡ Err (Refused NotSafe) }
 {
     let line = train.line();
     if distance > line.track().farthest_end() {
@@ -64,6 +68,9 @@ pub(crate) fn granted_to(
     prove!(train.origin() <= train.front());
     prove!(train.front() <= line.length());
     let to = train.origin() + distance;
+    if to <= train.front() || to < train.to() {
+        return Err(OrMemory::Refused(Refusal::NotSafe));
+    }
     let found = reach(alloc, locks, book, train)?;
     if !found.may_end_at(train, to) {
         return Err(OrMemory::Refused(Refusal::NotSafe));

@@ -2,9 +2,10 @@
 
 ghost use Rattle.std.specs.Prelude.{◌≡◌, ◌<◌, length, false, true, None, Some, Err, IfOk, IfSome};
 ghost use Rattle.std.specs.Arc.{arc_value};
-ghost use Rattle.std.specs.Result.{result_map_both};
+ghost use Rattle.std.specs.Result.{result_err, result_map_both};
 ghost use Rattle.rbc_model.specs.declared.memory.OrMemory.TheVariants.{Refused, Memory as NoMemory};
-ghost use Rattle.rbc_model.specs.declared.refusals.Refusal.TheVariants.{Crowded, UnknownGroup, UnknownTrain};
+ghost use Rattle.rbc_model.specs.declared.refusals.Refusal.TheVariants.{Crowded, NotSafe, UnknownGroup, UnknownTrain};
+ghost use Rattle.rbc_model.specs.declared.reports.Told.TheVariants.{Report as ToldReport};
 ghost use Rattle.rbc_model.specs.Answers.{AnswersAs, AnswersOrMemory};
 ghost use Rattle.rbc_model.specs.Events.{after_free, after_give_back, after_grant, after_leave, after_lock, after_report, after_told, step, with_authority};
 ghost use Rattle.rbc_model.specs.Histories.{AuthoritiesAreApart, HeldAreLocked};
@@ -14,7 +15,8 @@ ghost use Rattle.rbc_model.specs.Tracks.{group_named};
 ghost use Rattle.rbc_model.specs.Trains.{Train as KnownTrain};
 ghost use Rattle.rbc_scene.specs.Grants.{granted_train};
 ghost use Rattle.rbc_scene_laws.specs.Good.{IsGoodScene};
-ghost use Rattle.rbc_scene.specs.Steps.{IsEventOfTrack, IsOfTrack, IsReportTold, MayNeedMemory, StepsOrMemory, StepsTo, end_cut, end_given_back, is_crowded, reach_of, refused_at_once, told_at_once};
+ghost use Rattle.rbc_scene.specs.Steps.{IsEventOfTrack, IsOfTrack, IsReportTold, MayNeedMemory, StepsOrMemory, StepsTo};
+ghost use Rattle.rbc_scene.specs.Steps.{end_cut, end_given_back, granted_at_once, is_crowded, is_out_of_range, reach_of, refused_at_once, told_at_once};
 
 use crate::granting::{Granted, granted_to};
 use rbc_model::limits::MOST_TRAINS;
@@ -140,6 +142,19 @@ impl Scene {
         self.book.get(report.train()).is_none() && self.book.len() >= MOST_TRAINS
     }
 
+    /// Why the report is refused, where nothing has to grow to see it.
+    fn report_refusal(&self, report: &Report) -> Option<Refusal>
+        ensures { result ≡ told_at_once self.now.track self.now.scene (ToldReport report.now) }
+    {
+        if self.is_crowded(report) {
+            return Some(Refusal::Crowded);
+        }
+        match self.book.track().group(report.group()) {
+            Some(_) => None,
+            None => Some(Refusal::UnknownGroup),
+        }
+    }
+
     /// The train that reports, after its report.
     fn train_after(&self, alloc: Global, report: &Report) -> Result<Train, OrMemory<Refusal>>
         ensures reported { AnswersAs (λ t. t.train) result (reported self.now.track self.now.scene.locks
@@ -173,13 +188,21 @@ impl Scene {
     pub fn free(&mut self, section: SectionId) -> Result<(), Refusal>
         ensures { StepsTo result self.old self.new (after_free self.old.track self.old.scene section) }
     {
-        if self.locks.row(section).is_none() {
-            return Err(Refusal::NotLocked(section));
-        }
-        if let Some(train) = self.book.standing_on(section) {
-            return Err(Refusal::Busy(section, train));
+        if let Some(refusal) = self.free_refusal(section) {
+            return Err(refusal);
         }
         self.locks.free(section)
+    }
+
+    /// Why the section can't be freed, if it can't.
+    fn free_refusal(&self, section: SectionId) -> Option<Refusal>
+        ensures { result ≡ result_err (after_free self.now.track self.now.scene section) }
+    {
+        if self.locks.row(section).is_none() {
+            return Some(Refusal::NotLocked(section));
+        }
+        let train = self.book.standing_on(section)?;
+        Some(Refusal::Busy(section, train))
     }
 
     /// A train leaves. It takes no memory.
@@ -215,6 +238,23 @@ impl Scene {
         Ok(())
     }
 
+    /// Why the train can't leave, if it can't.
+    fn leave_refusal(&self, train: u32) -> Option<Refusal>
+        ensures { result ≡ result_err (after_leave self.now.scene train) }
+    {
+        match self.book.get(train) {
+            Some(_) => None,
+            None => Some(Refusal::UnknownTrain(train)),
+        }
+    }
+
+    /// Why the train can't give that back, if it can't.
+    fn give_back_refusal(&self, train: u32, distance: u32) -> Option<Refusal>
+        ensures { result ≡ result_err (after_give_back self.now.track self.now.scene train distance) }
+    {
+        self.end_given_back(train, distance).err()
+    }
+
     /// The place at which the train's authority ends once it has given back what lies beyond.
     fn end_given_back(&self, train: u32, distance: u32) -> Result<u32, Refusal>
         ensures { result ≡ end_given_back self.now.scene train distance }
@@ -232,11 +272,12 @@ impl Scene {
     /// # Errors
     ///
     /// `Refused` with the first of these:
-    /// - `UnknownTrain`, before any memory is asked for: there is no train of this number,
+    /// - `UnknownTrain`: there is no train of this number,
     /// - `NotSafe`: the place does not lie beyond the front, takes something back, has an obstacle before it, or no
     ///   message can give it.
     ///
-    /// `Memory` may come in place of `NotSafe`.
+    /// `Memory` may come in place of `NotSafe`, but not where there is no such train, or where no obstacle is needed to
+    /// see it: the place lies beyond the farthest end, or not beyond the front, or it takes something back.
     pub fn grant(
         &mut self,
         alloc: Global,
@@ -245,7 +286,8 @@ impl Scene {
     ) -> Result<(), OrMemory<Refusal>>
         ensures granted { StepsOrMemory result self.old self.new
             (after_grant self.old.track self.old.scene train distance) }
-        ensures unknown { train_numbered self.old.scene train ≡ None → result ≡ Err (Refused (UnknownTrain train)) }
+        ensures at_once { IfSome (granted_at_once self.old.track self.old.scene train distance)
+            (λ refusal. result ≡ Err (Refused refusal)) }
     {
         let Granted { line, from, to } = self.granted(alloc, train, distance)?;
         self.book.set_held(train, line, from, to);
@@ -264,6 +306,8 @@ impl Scene {
         ensures granted { (known : KnownTrain) → train_numbered self.now.scene train ≡ Some known
             → AnswersAs (λ g. with_authority known g.line.legs g.from g.to) result
             (granted_train self.now.track self.now.scene known distance) }
+        ensures range { (known : KnownTrain) → train_numbered self.now.scene train ≡ Some known
+            → is_out_of_range self.now.track known distance ≡ true → result ≡ Err (Refused NotSafe) }
     {
         match self.book.get(train) {
             Some(known) => granted_to(alloc, &self.locks, &self.book, known, distance),
@@ -271,11 +315,30 @@ impl Scene {
         }
     }
 
+    /// Why what is told would be refused, where nothing has to grow to see it. Of a report that is `Crowded` or
+    /// `UnknownGroup`; of all else it is each refusal.
+    #[tactic(auto, using(crate::proofs::KeepingLemmas::refuses_at_once))]
+    pub fn refusal(&self, told: &Told) -> Option<Refusal>
+        requires { IsOfTrack self.now.track told.now }
+        ensures at_once { result ≡ told_at_once self.now.track self.now.scene told.now }
+        ensures refused { IfSome result (λ refusal.
+            after_told self.now.track self.now.scene told.now ≡ Err refusal) }
+    {
+        match told {
+            Told::Report(report) => self.report_refusal(report),
+            Told::Lock(route) => self.locks.refusal(self.book.track(), *route),
+            Told::Free(section) => self.free_refusal(*section),
+            Told::Leave(train) => self.leave_refusal(*train),
+            Told::GiveBack(train, distance) => self.give_back_refusal(*train, *distance),
+        }
+    }
+
     /// What is told happens. Where it is refused, or memory is, nothing changes.
     ///
     /// # Errors
     ///
-    /// Those of the call for its kind. `Memory` comes only for a report.
+    /// Those of the call for its kind. `Memory` comes only for a report, and in place of no refusal that
+    /// [`Scene::refusal`] tells.
     pub fn tell(&mut self, alloc: Global, told: &Told) -> Result<(), OrMemory<Refusal>>
         requires { IsOfTrack self.old.track told.now }
         ensures told { StepsOrMemory result self.old self.new (after_told self.old.track self.old.scene told.now) }
@@ -297,7 +360,8 @@ impl Scene {
     ///
     /// # Errors
     ///
-    /// Those of the call for its kind. `Memory` comes only for a report and a grant.
+    /// Those of the call for its kind. `Memory` comes only for a report and a grant, and only where memory is needed to
+    /// see whether they are refused.
     pub fn apply(&mut self, alloc: Global, event: &Event) -> Result<(), OrMemory<Refusal>>
         requires { IsEventOfTrack self.old.track event.now }
         ensures steps { StepsOrMemory result self.old self.new (step self.old.track self.old.scene event.now) }

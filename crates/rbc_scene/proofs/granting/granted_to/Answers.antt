@@ -1,7 +1,5 @@
 -- The search tells whether the end is safe, and its legs have the metre before it.
-use Rattle.std.proofs.Common.{◌≡◌, ℕ, ◌+◌, min, ap, sym, ◌∙◌, subst, ◌&&◌}
-use Rattle.rbc_model.specs.Lines.{Line}
-use Rattle.rbc_model.specs.Scenes.{Scene}
+use Rattle.std.proofs.Common.{◌+◌, min, ap, sym, ◌∙◌, subst, ◌&&◌}
 use Rattle.rbc_model.specs.Tracks.{Track}
 use Rattle.rbc_model.specs.Views.{is_expressible_end, is_safe, reach}
 use Rattle.rbc_scene_laws.specs.Good.{IsGoodLocks}
@@ -31,5 +29,5 @@ returns-clause-granted c =
     (c.in_ok-line.ensures.legs scene (subst (λ (t : Track). IsGoodLocks t c.args.locks.now) (sym of_track) c.requires.locks)
     (subst (λ (t : Track). BeginsWay t scene train c.in_ok-found.found.line) (sym of_track) c.in_ok-found.ensures.line)
     ∙ (λ j. line_to (of_track j) scene train (origin j + c.args.distance)))
-    (c.min-from.ensures ∙ (λ j. min (c.from.ensures.from j) (c.front-3.ensures.front j)))
+    (c.min-from.ensures ∙ (λ j. min (c.from.ensures.from j) (c.front-4.ensures.front j)))
     (ap (λ n. n + c.args.distance) origin)

@@ -1,6 +1,6 @@
 -- A place on the train's line needs no leg more; for one behind it the line that was walked is cut behind the place.
-use Rattle.std.proofs.Common.{◌≡◌, ℕ, ◌-◌, ◌<◌, ◌≤◌, length, take, ap, sym, ◌∙◌, subst, arith}
-use Rattle.rbc_model.specs.Lines.{Line, legs_begun_before, line_length}
+use Rattle.std.proofs.Common.{◌≡◌, ◌-◌, ◌<◌, ◌≤◌, length, take, ap, ◌∙◌, subst, arith}
+use Rattle.rbc_model.specs.Lines.{legs_begun_before, line_length}
 use Rattle.rbc_model.specs.Tracks.{Track}
 use Rattle.rbc_way.specs.OnTracks.{LineOnTrack}
 use Rattle.rbc_scene.proofs.GrantingLemmas.{copied_as, line_to-far, line_to-near, some_begun}
