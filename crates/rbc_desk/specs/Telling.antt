@@ -1,18 +1,18 @@
 -- What is answered to what is told at the desk.
-use Rattle.std.specs.Prelude.{◌≡◌, false, Result, Err}
+use Rattle.std.specs.Prelude.{◌≡◌, None, Result, Err}
 use Rattle.rbc_model.specs.declared.memory.OrMemory.{OrMemory}
 use Rattle.rbc_model.specs.declared.memory.OrMemory.TheVariants.{Memory}
 use Rattle.rbc_model.specs.declared.reports.Told.{Told}
 use Rattle.rbc_model.specs.Histories.{Receipt}
 use Rattle.rbc_snap.specs.ApplyFault.{ApplyFault}
-use Rattle.rbc_snap.specs.Entering.{EntersOrMemory, entry_told}
-use Rattle.rbc_snap.specs.Records.{HistoryOnTrack, is_full}
+use Rattle.rbc_snap.specs.Entering.{EntersOrMemory, entry_told, refused_at_once}
+use Rattle.rbc_snap.specs.Records.{HistoryOnTrack}
 use Rattle.rbc_snap.specs.Later.{IsLater}
 
 -- It is entered behind some legal history that goes on from all that had been told, or refused after that history as the definitions say; or
--- memory was refused, where that history is not full. What is told then is that history, with what was entered.
+-- memory was refused, where nothing refuses it at once there. What is told then is that history, with what was entered.
 pub record IsToldThen (begun after : HistoryOnTrack) (told : Told) (answer : Result Receipt (OrMemory ApplyFault)) : Type 0 where
   pub before : HistoryOnTrack
   pub later : IsLater begun before
   pub entered : EntersOrMemory answer before after (entry_told before told)
-  pub room : answer ≡ Err Memory → is_full before ≡ false
+  pub needed : answer ≡ Err Memory → refused_at_once before told ≡ None

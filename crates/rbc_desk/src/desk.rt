@@ -151,7 +151,7 @@ impl<L: DeskName> Desk<L> {
     /// # Errors
     ///
     /// Those of [`Record::apply`], for a legal history that goes on from all that the seat was told, and that it is told
-    /// then; `Memory` may come in place of `Refused`, but not of `Full`. The seat has no new receipt.
+    /// then; `Memory` comes in place of none that [`Record::refusal`] tells. The seat has no new receipt.
     pub fn event<R: Wait>(
         &self,
         rt: &R,

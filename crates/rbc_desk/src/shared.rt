@@ -189,8 +189,8 @@ impl<L: DeskName> Shared<L> {
             eye,
         } = seat;
         press.bring(rt, eye);
-        if is_full(log) {
-            return Err(OrMemory::Refused(ApplyFault::Full));
+        if let Some(fault) = log.refusal(told) {
+            return Err(OrMemory::Refused(fault));
         }
         found.reserve(1)?;
         receipts.reserve(1)?;

@@ -17,7 +17,7 @@ use Rattle.rbc_model.specs.SessionReply.{SessionRefusal, BadEvent, Full, Memory,
 use Rattle.rbc_session_laws.specs.declared.demand.Demand.{Demand}
 use Rattle.rbc_session_laws.specs.declared.demand.Demand.TheVariants.{Nothing, Event, Authority}
 use Rattle.rbc_session_laws.specs.Demands.{demand_in}
-use Rattle.rbc_session_laws.specs.Turns.{IsRefused, IsGivenUp, IsAccepted, IsGranted, AnswersAsker, AnswersDemand, AnswersLine}
+use Rattle.rbc_session_laws.specs.Turns.{IsRefused, IsGivenUp, IsToldInVain, IsAccepted, IsGranted, AnswersAsker, AnswersDemand, AnswersLine}
 use Rattle.rbc_session_laws.specs.Answers.{Answer, refused, told_answer, grant_answer, asker_answer, demand_answer, line_answer, grant_of, speed_prices_of, grade_prices_of}
 use Rattle.rbc_session_laws.specs.Laws.{LinesAreAnswered}
 use Rattle.rbc_session_laws.proofs.GrantLemmas.{grants_are_one}
@@ -31,12 +31,12 @@ module _ (track : Track) (before : List Entry) (reply : List ℕ) (added : Optio
 
   told_by : (told : Told) (full : Bool) (after : Result Scene Refusal)
       → MatchBool full (IsRefused track before reply added Full)
-      (MatchResult after (λ _. IsAccepted track before reply added told) (λ refusal. IsRefused track before reply added (BadEvent refusal)) ⊎ IsGivenUp track before reply added)
+      (MatchResult after (λ _. IsAccepted track before reply added told) (λ refusal. IsRefused track before reply added (BadEvent refusal)) ⊎ IsToldInVain track before reply added told)
       → Is (cond full (refused track before Full) (told_answer track before told after))
   told_by told true after h = h
   told_by told false (Ok after) (inl h) = h
   told_by told false (Err refusal) (inl h) = h
-  told_by told false after (inr h) = never h
+  told_by told false after (inr (h, needed)) = never h
 
   granted : (train : ℕ) (shown : View) → view track (replay track before) train ≡ Ok shown → IsGranted track before reply added train shown → Is (grant_answer track before shown)
   granted train shown e (grant, speed_rows, grade_rows, g, said, entry) =
@@ -82,12 +82,12 @@ different xs ys differ e = let same = eq-eqb (slice_index xs 0) (slice_index ys 
 module _ (track : Track) (before : List Entry) (reply : List ℕ) (added : Option Entry) (lost : reply ≡ refused_reply track Memory) where
   none_told : (told : Told) (full : Bool) (after : Result Scene Refusal)
       → MatchBool full (IsRefused track before reply added Full)
-      (MatchResult after (λ _. IsAccepted track before reply added told) (λ refusal. IsRefused track before reply added (BadEvent refusal)) ⊎ IsGivenUp track before reply added)
+      (MatchResult after (λ _. IsAccepted track before reply added told) (λ refusal. IsRefused track before reply added (BadEvent refusal)) ⊎ IsToldInVain track before reply added told)
       → added ≡ None
   none_told told true after h = h.1
   none_told told false (Ok after) (inl h) = absurd (different (accepted_reply (length before + 1)) (refused_reply track Memory) refl (sym h.0 ∙ lost))
   none_told told false (Err refusal) (inl h) = h.1
-  none_told told false after (inr h) = h.1
+  none_told told false after (inr (h, needed)) = h.1
 
   none_asked : (train : ℕ) (shown : View) (full : Bool) → MatchBool full (IsRefused track before reply added Full) (IsGranted track before reply added train shown) → added ≡ None
   none_asked train shown true h = h.1

@@ -23,7 +23,7 @@ use Rattle.rbc_model.specs.SessionReply.{SessionRefusal, BadEvent, Full, Memory,
 use Rattle.rbc_session_laws.specs.declared.demand.Demand.{Demand}
 use Rattle.rbc_session_laws.specs.declared.demand.Demand.TheVariants.{Nothing, Event, Authority}
 use Rattle.rbc_session_laws.specs.Demands.{demand_in}
-use Rattle.rbc_session_laws.specs.Turns.{IsRefused, IsGivenUp, IsAccepted, IsGranted, AnswersAsker, AnswersDemand, AnswersLine}
+use Rattle.rbc_session_laws.specs.Turns.{IsRefused, IsGivenUp, IsToldInVain, IsAccepted, IsGranted, AnswersAsker, AnswersDemand, AnswersLine}
 
 -- ---- the lines of two texts
 
@@ -102,12 +102,12 @@ module _ (track : Track) (before : List Entry) (reply : List ℕ) (added : Optio
 
   told_whole : (told : Told) (full : Bool) (after : Result Scene Refusal)
       → MatchBool full (IsRefused track before reply added Full)
-      (MatchResult after (λ _. IsAccepted track before reply added told) (λ refusal. IsRefused track before reply added (BadEvent refusal)) ⊎ IsGivenUp track before reply added)
+      (MatchResult after (λ _. IsAccepted track before reply added told) (λ refusal. IsRefused track before reply added (BadEvent refusal)) ⊎ IsToldInVain track before reply added told)
       → IsWhole reply
   told_whole told true after h = refused_whole Full h
   told_whole told false (Ok after) (inl h) = ends (line_of (codes "ok" ∷ decimal (length before + 1) ∷ [])) (line_ends (codes "ok" ∷ decimal (length before + 1) ∷ [])) h.0
   told_whole told false (Err refusal) (inl h) = refused_whole (BadEvent refusal) h
-  told_whole told false after (inr h) = refused_whole Memory h
+  told_whole told false after (inr (h, needed)) = refused_whole Memory h
 
   asked_whole : (train : ℕ) (shown : View) (full : Bool) → MatchBool full (IsRefused track before reply added Full) (IsGranted track before reply added train shown) → IsWhole reply
   asked_whole train shown true h = refused_whole Full h

@@ -1,9 +1,12 @@
 -- A session of the centre: what a line is answered after the entries of a history, and which entry it adds.
-use Rattle.std.specs.Prelude.{◌≡◌, ℕ, ◌+◌, List, [], length, Option, Some, None, Result, Ok, Err, ◌⊎◌, MatchBool, MatchResult}
+use Rattle.std.specs.Prelude.{◌≡◌, ℕ, ◌+◌, nat_le, Bool, false, not, ◌&&◌, ◌||◌, is_some, is_none, List, [], length, Option, Some, None, Result, Ok, Err, ◌⊎◌, MatchBool, MatchResult}
+use Rattle.std.specs.Result.{is_err}
+use Rattle.rbc_model.specs.declared.limits.TheConstants.{MOST_TRAINS}
 use Rattle.rbc_model.specs.declared.refusals.ViewFault.{ViewFault}
 use Rattle.rbc_model.specs.declared.refusals.ViewFault.TheVariants.{UnknownTrain, Blocked}
 use Rattle.rbc_model.specs.declared.refusals.Refusal.TheVariants.{UnknownTrain as NoSuchTrain}
 use Rattle.rbc_model.specs.declared.reports.Told.{Told}
+use Rattle.rbc_model.specs.declared.reports.Told.TheVariants.{Report}
 use Rattle.rbc_model.specs.declared.reports.Event.TheVariants.{Tell}
 use Rattle.rbc_model.specs.Levels.{speed_levels, grade_levels}
 use Rattle.rbc_model.specs.Profiles.{IsChosenProfile, value_at}
@@ -12,8 +15,8 @@ use Rattle.rbc_model.specs.Scales.{unit_of}
 use Rattle.rbc_model.specs.declared.places.Format.TheVariants.{Far}
 use Rattle.rbc_model.specs.Messages.{message_bytes}
 use Rattle.rbc_model.specs.Reading.{read_message}
-use Rattle.rbc_model.specs.Tracks.{Track}
-use Rattle.rbc_model.specs.Scenes.{Scene}
+use Rattle.rbc_model.specs.Tracks.{Track, group_named}
+use Rattle.rbc_model.specs.Scenes.{Scene, train_numbered}
 use Rattle.rbc_model.specs.Events.{step}
 use Rattle.rbc_model.specs.Views.{View, view}
 use Rattle.rbc_model.specs.Histories.{Entry, Heard, Granted, Grants, IsBest, is_full, replay}
@@ -35,6 +38,15 @@ pub record IsGrantFor (track : Track) (scene : Scene) (number : ℕ) (view : Vie
   pub grade_prices : IsGreatestSoundTable grade_levels (unit_of grant.authority.end) view.grade_steps grant.authority.end view.grades grade_rows
   pub message : read_message Far (message_bytes grant.authority) ≡ Ok grant.authority
 
+-- ---- what needs no memory
+
+-- Whether what is told is refused before anything has to grow: a report where there are too many trains, or no such group; of all else what the
+-- scene refuses.
+abbrev pub is_refused_at_once : Track → Scene → Told → Bool
+is_refused_at_once track scene (Report report) =
+    not (is_some (train_numbered scene report.train)) && nat_le MOST_TRAINS (length scene.trains) || is_none (group_named track report.group)
+is_refused_at_once track scene told = is_err (step track scene (Tell told))
+
 -- ---- what a line comes to
 
 -- After these entries a line is answered by this reply, and adds this entry, or none.
@@ -47,6 +59,10 @@ module _ (track : Track) (before : List Entry) (reply : List ℕ) (added : Optio
   abbrev pub IsGivenUp : Type 0
   IsGivenUp = IsRefused Memory
 
+  -- the same for what is told, where it is not refused before anything has to grow
+  abbrev pub IsToldInVain : Told → Type 0
+  IsToldInVain told = IsGivenUp × (is_refused_at_once track (replay track before) told ≡ false)
+
   -- what is told is added, and the reply tells the version after it
   abbrev pub IsAccepted : Told → Type 0
   IsAccepted told = (reply ≡ accepted_reply (length before + 1)) × (added ≡ Some (Heard told))
@@ -56,7 +72,7 @@ module _ (track : Track) (before : List Entry) (reply : List ℕ) (added : Optio
   AnswersEvent told =
       MatchBool (is_full before)
       (IsRefused Full)
-      (MatchResult (step track (replay track before) (Tell told)) (λ after. IsAccepted told) (λ refusal. IsRefused (BadEvent refusal)) ⊎ IsGivenUp)
+      (MatchResult (step track (replay track before) (Tell told)) (λ after. IsAccepted told) (λ refusal. IsRefused (BadEvent refusal)) ⊎ IsToldInVain told)
 
   -- what the train is granted is added, and the reply tells it with the version after it
   abbrev pub IsGranted : ℕ → View → Type 0
