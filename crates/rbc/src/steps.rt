@@ -55,8 +55,8 @@ impl Answers<()> for Certifier {
     }
 }
 
-/// Answers each line of the reader, in order, up to the end of the input or the first fault. Each reply is handed on
-/// before the next line is read.
+/// Answers each line of the reader, in order, up to the end of the input or the first fault. Before each read of
+/// the reader all replies so far are handed on.
 ///
 /// # Errors
 /// `Memory` before anything is read or written. Then, for each line in order: `Read` where the reader fails, `Write`

@@ -1,9 +1,9 @@
 -- Worked sessions: the lines of an input, and how far a session goes over them.
-use Rattle.std.proofs.Common.{◌≡◌, ℕ, suc, ◌≤◌, List, [], ◌∷◌, ◌++◌, length, refl, lit<, lit≤, replicate, codes}
+use Rattle.std.proofs.Common.{◌≡◌, ℕ, suc, ◌≤◌, List, [], ◌∷◌, ◌++◌, length, refl, lit<, lit≤, replicate, codes, arith}
 use Rattle.std.proofs.Common.{Some, Ok, Err}
 use Rattle.std.proofs.lemmas.List.Elements.{All-nil, All-cons}
 use Rattle.rbc_model.specs.declared.limits.TheConstants.{LONGEST_LINE}
-use Rattle.rbc_model.specs.declared.sessions.SessionFault.TheVariants.{Write, Lines, Overlong}
+use Rattle.rbc_model.specs.declared.sessions.SessionFault.TheVariants.{Read, Write, Lines, Overlong}
 use Rattle.rbc_model.specs.Sessions.{lines_of}
 use Rattle.rbc_model.specs.Talks.{EachByItself, Answered, AreShort, Ends, IsTalk}
 
@@ -73,6 +73,23 @@ keeps_a_part = record {
   ends = ((codes "ab", codes "c", refl, refl), (codes "a" ∷ [], codes "bc", refl, one_short (codes "a") (lit≤ tt)));
 }
 
+-- a reader that fails in the last line: the line that had ended is treated, and what came of the next is not
+pub stops_at_a_read_fault : IsTalk LONGEST_LINE Echoes tt tt two_lines (Some []) (Some (codes "a")) (Err Read)
+stops_at_a_read_fault = record {
+  treated = codes "a" ∷ [];
+  rest = codes "bc" ∷ [];
+  text = codes "a";
+  lines = refl;
+  few = lit≤ tt;
+  answered = (codes "a", [], tt, refl, refl, (refl, refl));
+  ends = (refl, one_short (codes "a") (lit≤ tt), refl);
+}
+
+-- no line that had ended is left over there
+pub treats_all_before_a_read_fault : Ends LONGEST_LINE (two_lines ++ feed) (Some []) (Some (codes "a")) (codes "a" ∷ []) (codes "bc" ∷ [])
+    (codes "a") (Err Read) → ⊥
+treats_all_before_a_read_fault (wrote, short, all) = omega (arith, all)
+
 -- the line that is too long is answered, and no line after it
 pub stops_at_an_overlong_line : IsTalk LONGEST_LINE Echoes tt tt (codes "a" ++ feed ++ replicate 4097 98 ++ feed ++ codes "c")
     (Some []) (Some (codes "a" ++ replicate 4097 98)) (Err Overlong)
@@ -88,8 +105,8 @@ stops_at_an_overlong_line = record {
 
 -- no line is treated after a million
 pub stops_after_a_million : (treated : List (List ℕ)) (text : List ℕ) → length treated ≡ 1000000 → AreShort LONGEST_LINE treated
-    → Ends LONGEST_LINE (Some []) (Some text) treated (codes "b" ∷ []) text (Err Lines)
-stops_after_a_million treated text million short = (refl, short, million, lit< tt)
+    → (input : List ℕ) → Ends LONGEST_LINE input (Some []) (Some text) treated (codes "b" ∷ []) text (Err Lines)
+stops_after_a_million treated text million short input = (refl, short, million, lit< tt)
 
 -- ---- each line is answered by how many came before it
 

@@ -4,7 +4,7 @@ use Rattle.std.specs.Io.KnownBytes.{Appends}
 use Rattle.rbc_model.specs.declared.limits.TheConstants.{MOST_LINES}
 use Rattle.rbc_model.specs.declared.sessions.SessionFault.{SessionFault}
 use Rattle.rbc_model.specs.declared.sessions.SessionFault.TheVariants.{Read, Write, Lines, Overlong, Memory}
-use Rattle.rbc_model.specs.Sessions.{lines_of, WritesPart}
+use Rattle.rbc_model.specs.Sessions.{lines_of, line_feeds, WritesPart}
 
 -- Answers state line reply next: in this state the line is answered by this reply, and the next state follows.
 abbrev pub Answering : Type 0 → Type 1
@@ -37,16 +37,18 @@ module _ (longest : ℕ) where
   abbrev pub AreShortButLast : List (List ℕ) → Type 0
   AreShortButLast lines = (before : List (List ℕ)) × (line : List ℕ) × (lines ≡ before ++ line ∷ []) × AreShort before
 
-  -- How far a talk went that ended so, and how much of its text it wrote: these lines were treated, and the rest was not.
-  abbrev pub Ends : Option (List ℕ) → Option (List ℕ) → List (List ℕ) → List (List ℕ) → List ℕ
+  -- How far a talk over this input went that ended so, and how much of its text it wrote: these lines were treated, and the rest was not.
+  -- Where the reader failed, each line that had ended was treated.
+  abbrev pub Ends : List ℕ → Option (List ℕ) → Option (List ℕ) → List (List ℕ) → List (List ℕ) → List ℕ
       → Result (Unit {0}) SessionFault → Type 0
-  Ends old new treated rest text (Ok done) = Appends old new text × AreShort treated × (rest ≡ [])
-  Ends old new treated rest text (Err Lines) =
+  Ends input old new treated rest text (Ok done) = Appends old new text × AreShort treated × (rest ≡ [])
+  Ends input old new treated rest text (Err Lines) =
       Appends old new text × AreShort treated × (length treated ≡ MOST_LINES) × (0 < length rest)
-  Ends old new treated rest text (Err Overlong) = Appends old new text × IsStoppedByLast treated
-  Ends old new treated rest text (Err Read) = Appends old new text × AreShort treated
-  Ends old new treated rest text (Err Write) = WritesPart old new text × AreShortButLast treated
-  Ends old new treated rest text (Err Memory) = Appends old new text × (treated ≡ [])
+  Ends input old new treated rest text (Err Overlong) = Appends old new text × IsStoppedByLast treated
+  Ends input old new treated rest text (Err Read) =
+      Appends old new text × AreShort treated × (length treated ≡ line_feeds input)
+  Ends input old new treated rest text (Err Write) = WritesPart old new text × AreShortButLast treated
+  Ends input old new treated rest text (Err Memory) = Appends old new text × (treated ≡ [])
 
   -- A talk over this input, from the first state to the last, that ended so. Its first lines were treated: each is
   -- answered, and the text is made of the replies.
@@ -58,4 +60,4 @@ module _ (longest : ℕ) where
     pub lines : lines_of input ≡ treated ++ rest
     pub few : length treated ≤ MOST_LINES
     pub answered : Answered Answers first treated text last
-    pub ends : Ends old new treated rest text result
+    pub ends : Ends input old new treated rest text result

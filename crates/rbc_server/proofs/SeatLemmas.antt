@@ -78,7 +78,7 @@ not_told_at_desk told fault track old new on since same =
         before = before;
         later = since.later;
         answered = subst (λ t. AnswersEvent before.track before.entries (refused_reply t (refusal_view (told_refusal fault))) None told) (told_on old.told new.told told (Err fault) track on since)
-            (not_told_answers before told fault entered.0 (λ e. since.room (ap Err e)));
+            (not_told_answers before told fault entered.0 (λ e. since.needed (ap Err e)));
         next = tt;
         told = entered.1 ∙ nothing_added before;
       },

@@ -89,8 +89,8 @@ seat_session before after input old new result t =
       few = subst (λ n. n ≤ MOST_LINES) (ap (λ (l : List (List ℕ)). length l) (sym told.of_lines) ∙ length-map _ _) t.few;
       each = told.right;
       receipts = told.receipts;
-      ends = subst (λ l. Ends LONGEST_LINE old new l t.rest (replies_at_seat told.turns) result) (sym told.of_lines)
-          (subst (λ x. Ends LONGEST_LINE old new t.treated t.rest x result) told.said t.ends);
+      ends = subst (λ l. Ends LONGEST_LINE input old new l t.rest (replies_at_seat told.turns) result) (sym told.of_lines)
+          (subst (λ x. Ends LONGEST_LINE input old new t.treated t.rest x result) told.said t.ends);
     }
 
 pub seat_grown : (before after : Seated) (input : List ℕ) (old new : Option (List ℕ)) (result : Result (Unit {0}) SessionFault)

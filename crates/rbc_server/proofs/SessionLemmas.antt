@@ -73,6 +73,6 @@ session_turns first last input old new result t =
       few = subst (λ n. n ≤ MOST_LINES) (ap (λ (l : List (List ℕ)). length l) (sym told.of_lines) ∙ length-map _ _) t.few;
       each = told.right;
       entries = told.entries;
-      ends = subst (λ l. Ends LONGEST_LINE old new l t.rest (replies_to told.turns) result) (sym told.of_lines)
-          (subst (λ x. Ends LONGEST_LINE old new t.treated t.rest x result) told.said t.ends);
+      ends = subst (λ l. Ends LONGEST_LINE input old new l t.rest (replies_to told.turns) result) (sym told.of_lines)
+          (subst (λ x. Ends LONGEST_LINE input old new t.treated t.rest x result) told.said t.ends);
     }

@@ -47,4 +47,4 @@ pub record IsSeatSession (before after : Seated) (input : List ℕ) (old new : O
   pub few : length turns ≤ MOST_LINES
   pub each : AreInTurn before.told turns after.told
   pub receipts : after.receipts ≡ before.receipts ++ receipts_gained turns
-  pub ends : Ends LONGEST_LINE old new (lines_at_seat turns) rest (replies_at_seat turns) result
+  pub ends : Ends LONGEST_LINE input old new (lines_at_seat turns) rest (replies_at_seat turns) result

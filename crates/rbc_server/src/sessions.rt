@@ -20,8 +20,8 @@ use std::sync::Wait;
 use std::thread::Threads;
 
 /// Answers each line of the reader, in order, up to the end of the input or the first fault: each after what the record
-/// has by then. The record gains an entry for each line that is accepted. Each reply is handed on before the next line
-/// is read.
+/// has by then. The record gains an entry for each line that is accepted. Before each read of the reader all replies so
+/// far are handed on.
 ///
 /// # Errors
 ///
@@ -75,8 +75,8 @@ pub fn run<R: Source, W: Sink>(
 /// Answers each line of the reader at a desk, in order, up to the end of the input or the first fault. The seat gains a
 /// receipt for each line that is accepted, and none for any other. Each line is answered as after a history that goes on
 /// from all that the seat had been told, and the seat is told that history: other seats may enter what they are told and
-/// asked meanwhile. Each reply is handed on before the next line is read. The track is that of the desk. Trains that ask
-/// pass the gate, outside the desk's lock.
+/// asked meanwhile. Before each read of the reader all replies so far are handed on. The track is that of the desk.
+/// Trains that ask pass the gate, outside the desk's lock.
 ///
 /// # Errors
 ///

@@ -40,4 +40,4 @@ pub record IsSession (track : Track) (before after : List Entry) (input : List �
   pub each : (place : ℕ) (turn : Turn) → slice_get turns place ≡ Some turn
       → AnswersLine track (before ++ entries_added (take place turns)) turn.line turn.reply turn.added
   pub entries : after ≡ before ++ entries_added turns
-  pub ends : Ends LONGEST_LINE old new (lines_treated turns) rest (replies_to turns) result
+  pub ends : Ends LONGEST_LINE input old new (lines_treated turns) rest (replies_to turns) result

@@ -1,8 +1,8 @@
 -- The lines of some bytes, by their first line.
-use Rattle.std.proofs.Common.{◌≡◌, ℕ, ◌+◌, ◌<◌, ◌≤◌, suc, List, [], ◌∷◌, ◌++◌, length, take, drop, refl, sym, ap, ◌∙◌, arith, take-append-drop}
+use Rattle.std.proofs.Common.{◌≡◌, ℕ, ◌+◌, ◌<◌, ◌≤◌, suc, Bool, true, false, ◌==◌, if◌then◌else◌, List, [], ◌∷◌, ◌++◌, length, take, drop, refl, sym, ap, ◌∙◌, arith, take-append-drop}
 use Rattle.std.proofs.lemmas.Bool.{ne_eqb}
 use Rattle.std.proofs.lemmas.List.{length-take-le}
-use Rattle.rbc_model.specs.Sessions.{lines_of, with_front}
+use Rattle.rbc_model.specs.Sessions.{lines_of, with_front, line_feeds}
 use Rattle.rbc_streams.specs.LineReading.{HasNoLineFeed}
 
 -- no line feed in front, and none behind
@@ -32,6 +32,18 @@ lines_of_last (byte ∷ []) none some = lines_of_front byte [] (no_feed_head byt
 lines_of_last (byte ∷ next ∷ line) none some =
     lines_of_front byte (next ∷ line) (no_feed_head byte (next ∷ line) none)
     ∙ ap (with_front byte) (lines_of_last (next ∷ line) (no_feed_tail byte (next ∷ line) none) (omega arith))
+
+-- one more byte in front of one line more than so many
+more_in_front : (is_feed : Bool) (byte : ℕ) (lines : List (List ℕ)) (n : ℕ) → length lines ≡ suc n
+    → length (if is_feed then [] ∷ lines else with_front byte lines) ≡ suc (if is_feed then suc n else n)
+more_in_front true byte lines n long = ap suc long
+more_in_front false byte [] n long = absurd (omega (arith, long))
+more_in_front false byte (line ∷ lines) n long = long
+
+-- with a line feed behind them, bytes have one line more than they have line feeds
+pub lines_of_fed : (bytes : List ℕ) → length (lines_of (bytes ++ 10 ∷ [])) ≡ suc (line_feeds bytes)
+lines_of_fed [] = refl
+lines_of_fed (byte ∷ bytes) = more_in_front (byte == 10) byte (lines_of (bytes ++ 10 ∷ [])) (line_feeds bytes) (lines_of_fed bytes)
 
 -- the first line has the byte in front
 in_front : (byte : ℕ) (lines : List (List ℕ)) → (first : List ℕ) × (others : List (List ℕ)) × (with_front byte lines ≡ first ∷ others) × (1 ≤ length first)

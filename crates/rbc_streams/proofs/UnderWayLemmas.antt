@@ -2,17 +2,17 @@
 use Rattle.std.proofs.Common.{◌≡◌, ℕ, suc, ◌+◌, ◌<◌, ◌≤◌, Bool, true, false, inl, inr, List, [], ◌∷◌, ◌++◌, length}
 use Rattle.std.proofs.Common.{Option, Result, Ok, Err, refl, sym, ap, ◌∙◌, subst, arith, lit<, lit≤, append_assoc}
 use Rattle.std.proofs.Common.{append-nil, if◌then◌else◌, ◌==◌}
-use Rattle.std.proofs.lemmas.List.{length-append}
-use Rattle.std.proofs.lemmas.List.Elements.{All-append, All-nil, All-cons}
-use Rattle.std.specs.Io.KnownBytes.{Consumes, Appends}
-use Rattle.std.proofs.KnownBytes.{Consumes-nil, Appends-nil, Consumes-trans, Appends-trans}
+use Rattle.std.proofs.lemmas.List.{length-append, take-append-le, take_all}
+use Rattle.std.proofs.lemmas.List.Elements.{All-append, All-nil, All-cons, All-take}
+use Rattle.std.specs.Io.KnownBytes.{Consumes, Appends, Keeps}
+use Rattle.std.proofs.KnownBytes.{Consumes-nil, Appends-nil, Consumes-trans, Appends-trans, Appends-kept}
 use Rattle.rbc_model.specs.declared.limits.TheConstants.{MOST_LINES}
 use Rattle.rbc_model.specs.declared.sessions.SessionFault.{SessionFault}
 use Rattle.rbc_model.specs.declared.sessions.SessionFault.TheVariants.{Read, Write, Lines, Overlong, Memory}
 use Rattle.rbc_model.specs.Sessions.{lines_of, with_front, WritesPart}
 use Rattle.rbc_model.specs.Talks.{Answered, AreShort, Ends, IsTalk}
-use Rattle.rbc_streams.specs.LineReading.{LineReading, GivesLine}
-use Rattle.rbc_streams.proofs.LineLemmas.{lines_of_line, lines_of_last}
+use Rattle.rbc_streams.specs.LineReading.{LineReading, GivesLine, HasNoLineFeed, Goes}
+use Rattle.rbc_streams.proofs.LineLemmas.{lines_of_line, lines_of_last, lines_of_fed}
 
 -- ---- lines
 
@@ -58,6 +58,14 @@ answered_then Answers first now next (front ∷ lines) line text reply (r, rest,
   ap (λ l. l ++ reply) whole ∙ append_assoc r rest reply,
   answered_then Answers second now next lines line rest reply later answers,
 )
+
+-- the last of some lines
+last_of : (lines : List (List ℕ)) → 0 < length lines → (before : List (List ℕ)) × (line : List ℕ) × (lines ≡ before ++ line ∷ [])
+last_of [] some = absurd (omega arith)
+last_of (line ∷ []) some = ([], line, refl)
+last_of (line ∷ next ∷ lines) some =
+    let last = last_of (next ∷ lines) (omega arith) in
+    (line ∷ last.0, last.1, ap (λ l. line ∷ l) last.2)
 
 -- ---- a talk under way, and over
 
@@ -135,7 +143,7 @@ module _ (longest : ℕ) {State : Type 0} (Answers : State → List ℕ → List
 
   -- it stops before the lines that are pending
   stops : (result : Result (Unit {0}) SessionFault) → n ≤ MOST_LINES
-      → Ends longest written0 written u.treated (lines_of pending) u.text result
+      → Ends longest u.input written0 written u.treated (lines_of pending) u.text result
       → IsOver longest Answers first now left0 left written0 written result
   stops result few how = (
     u.input,
@@ -151,8 +159,46 @@ module _ (longest : ℕ) {State : Type 0} (Answers : State → List ℕ → List
     },
   )
 
-  pub fails_reading : n ≤ MOST_LINES → IsOver longest Answers first now left0 left written0 written (Err Read)
-  fails_reading few = stops (Err Read) few (u.wrote, u.short)
+  -- the reader fails where no line that had ended is pending
+  pub fails_reading : HasNoLineFeed pending → ended ≡ false → n ≤ MOST_LINES
+      → IsOver longest Answers first now left0 left written0 written (Err Read)
+  fails_reading none going few =
+      let feed : List ℕ = 10 ∷ [] in
+      let whole = u.splits feed (λ over. cc (over, going)) ∙ ap (λ l. u.treated ++ l) (lines_of_line pending [] none) in
+      let count = sym (lines_of_fed u.input) ∙ ap length whole ∙ length-append u.treated (pending ∷ []) in
+      stops (Err Read) few (u.wrote, u.short, omega (arith, count))
+
+  -- what was written is handed on
+  pub hands_on : (written' : Option (List ℕ)) → Keeps written written' → IsUnderWay longest Answers first now left0 left written0 written' ended n pending
+  hands_on written' kept = record {
+    input = u.input;
+    text = u.text;
+    treated = u.treated;
+    took = u.took;
+    wrote = Appends-kept written0 written written' u.text u.wrote kept;
+    count = u.count;
+    short = u.short;
+    answered = u.answered;
+    splits = u.splits;
+  }
+
+  -- the writer fails as it hands on the replies
+  pub fails_handing_on : 0 < n → n ≤ MOST_LINES → IsOver longest Answers first now left0 left written0 written (Err Write)
+  fails_handing_on some few =
+      let last = last_of u.treated (rw u.count some) in
+      let short = subst (AreShort longest) last.2 u.short in
+      let front = subst (AreShort longest) (take-append-le (length last.0) last.0 (last.1 ∷ []) (omega arith) ∙ take_all (length last.0) last.0 (omega arith))
+      (All-take (λ line. length line ≤ longest) (length last.0) (last.0 ++ last.1 ∷ []) short) in
+      stops (Err Write) few ((u.text, [], sym (append-nil u.text), u.wrote), (last.0, last.1, last.2, front))
+
+  -- it fails on the way to the next line
+  pub stops_between : (lines : LineReading) (fault : SessionFault) → lines.ended ≡ ended → Goes pending lines (Err fault)
+      → (fault ≡ Write → 0 < n) → n ≤ MOST_LINES → IsOver longest Answers first now left0 left written0 written (Err fault)
+  stops_between lines Read at (kept, none, going) some few = fails_reading none (sym at ∙ going) few
+  stops_between lines Write at same some few = fails_handing_on (some refl) few
+  stops_between lines Lines at gone some few = absurd gone
+  stops_between lines Overlong at gone some few = absurd gone
+  stops_between lines Memory at gone some few = absurd gone
 
   pub ends : pending ≡ [] → n ≤ MOST_LINES → IsOver longest Answers first now left0 left written0 written (Ok tt)
   ends none few = stops (Ok tt) few (u.wrote, u.short, ap lines_of none)
@@ -186,7 +232,7 @@ module _ (longest : ℕ) {State : Type 0} (Answers : State → List ℕ → List
     -- it stops with this line, which is answered
     stops_with : (result : Result (Unit {0}) SessionFault) (line reply : List ℕ) (others : List (List ℕ))
         → n < MOST_LINES → lines_of pending ≡ line ∷ others → Answers now line reply next
-        → Ends longest written0 written' (u.treated ++ line ∷ []) others (u.text ++ reply) result
+        → Ends longest u.input written0 written' (u.treated ++ line ∷ []) others (u.text ++ reply) result
         → IsOver longest Answers first next left0 left written0 written' result
     stops_with result line reply others few front answers how = (
       u.input,

@@ -1,7 +1,9 @@
 -- Reading line by line: what a reader of lines holds, and what comes of a step to the next line.
-use Rattle.std.specs.Prelude.{◌≡◌, ◌≢◌, ℕ, Bool, true, false, ◌+◌, ◌<◌, ◌≤◌, List, [], ◌∷◌, ◌++◌, length, take, Option, Result, MatchResult, ◌⊎◌}
+use Rattle.std.specs.Prelude.{◌≡◌, ◌≢◌, ℕ, Bool, true, false, ◌+◌, ◌<◌, ◌≤◌, List, [], ◌∷◌, ◌++◌, length, take, Option, Result, Ok, Err, MatchResult, ◌⊎◌}
 use Rattle.std.specs.List.{All}
 use Rattle.std.specs.Io.KnownBytes.{IsAtEnd}
+use Rattle.rbc_model.specs.declared.sessions.SessionFault.{SessionFault}
+use Rattle.rbc_model.specs.declared.sessions.SessionFault.TheVariants.{Read as ReadFault, Write as WriteFault, Lines, Overlong as TooLong, Memory}
 use Rattle.rbc_streams.specs.declared.line_reader.Advance.{Advance}
 use Rattle.rbc_streams.specs.declared.line_reader.Advance.TheVariants.{Line, Overlong, End}
 
@@ -49,9 +51,18 @@ Steps input now Line = GivesLine input now
 Steps input now Overlong = KeepsInput input now × IsOverlong input now.longest
 Steps input now End = KeepsInput input now × (input ≡ []) × (now.ended ≡ true)
 
--- the same of a step that may fail: then nothing that came is lost
+-- the same of a step that may fail: then nothing that came is lost, no line that had ended is left, and the input did not end
 abbrev pub Advances : {E : Type 0} → List ℕ → LineReading → Result Advance E → Type 0
-Advances input now result = MatchResult result (Steps input now) (λ _. KeepsInput input now)
+Advances input now result = MatchResult result (Steps input now) (λ _. KeepsInput input now × HasNoLineFeed input × (now.ended ≡ false))
+
+-- The same of a step before whose reads what was written is handed on. Where that fails nothing is read.
+abbrev pub Goes : List ℕ → LineReading → Result Advance SessionFault → Type 0
+Goes input now (Ok step) = Steps input now step
+Goes input now (Err ReadFault) = KeepsInput input now × HasNoLineFeed input × (now.ended ≡ false)
+Goes input now (Err WriteFault) = now.pending ≡ input
+Goes input now (Err Lines) = ⊥
+Goes input now (Err TooLong) = ⊥
+Goes input now (Err Memory) = ⊥
 
 -- The input is seen to end only where nothing is left to read.
 abbrev pub KnowsEnd : LineReading → Option (List ℕ) → Type 0

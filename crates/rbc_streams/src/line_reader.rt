@@ -90,6 +90,7 @@ impl LineReader {
         ensures pending { 0 < length self.old.pending → (self.new ≡ self.old) × (reader.new ≡ reader.old) }
         ensures input { (taken : List ℕ) × Consumes (R.left reader.old) (R.left reader.new) taken
             × (self.old.ended ≡ true → taken ≡ []) × (self.new.pending ≡ self.old.pending ++ taken) }
+        ensures fault { OnErr result ((self.new.pending ≡ []) × (self.new.ended ≡ false)) }
         ensures answer { IfOk result (λ more. MatchBool more (0 < length self.new.pending)
             ((self.new.pending ≡ []) × (self.new.ended ≡ true))) }
         ensures end { KnowsEnd self.old (R.left reader.old) → KnowsEnd self.new (R.left reader.new) }
@@ -103,8 +104,19 @@ impl LineReader {
         Ok(self.fill(reader)? > 0)
     }
 
-    /// Goes on to the next line, and tells what came of that. An input that was seen to end is not read again. After a
-    /// fault all that came is still pending.
+    /// Goes on to the next line, if the bytes that came tell it, and tells what came of that. Reads nothing.
+    pub fn step(&mut self) -> Option<Advance>
+        ensures some { IfSome result (Steps self.old.pending self.new) }
+        ensures not_the_end { IfSome result (λ step. step ≢ Advance.End) }
+        ensures none { IfNone result (self.new ≡ self.old) }
+        ensures longest { self.new.longest ≡ self.old.longest }
+        ensures ended { self.new.ended ≡ self.old.ended }
+    {
+        self.first_line(0)
+    }
+
+    /// Goes on to the next line, and tells what came of that. Reads only if no whole line is pending. An input that was
+    /// seen to end is not read again. After a fault all that came is still pending.
     ///
     /// # Errors
     /// The reader failed.
@@ -155,6 +167,7 @@ impl LineReader {
         requires within { searched ≤ length self.old.pending }
         requires none_yet { HasNoLineFeed (take searched self.old.pending) }
         ensures some { IfSome result (Steps self.old.pending self.new) }
+        ensures not_the_end { IfSome result (λ step. step ≢ Advance.End) }
         ensures none { IfNone result ((self.new ≡ self.old) × HasNoLineFeed self.old.pending
             × (length self.old.pending ≤ self.old.longest)) }
         ensures longest { self.new.longest ≡ self.old.longest }
@@ -203,7 +216,7 @@ impl LineReader {
         ensures ok { IfOk result (λ count. (more : List ℕ) × (length more ≡ count)
             × (self.new.pending ≡ self.old.pending ++ more) × Consumes (R.left reader.old) (R.left reader.new) more
             × (self.old.ended ≡ true → more ≡ []) × (count ≡ 0 → self.new.ended ≡ true)) }
-        ensures err { OnErr result ((self.new.pending ≡ self.old.pending)
+        ensures err { OnErr result ((self.new.pending ≡ self.old.pending) × (self.new.ended ≡ false)
             × Keeps (R.left reader.old) (R.left reader.new)) }
         ensures end { KnowsEnd self.old (R.left reader.old) → KnowsEnd self.new (R.left reader.new) }
         ensures ended { self.old.ended ≡ true → self.new.ended ≡ true }

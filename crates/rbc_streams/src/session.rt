@@ -1,9 +1,10 @@
 //! The loop of a session: lines are read, answered and handed on, up to the end of the input or the first fault.
 
-ghost use Rattle.std.specs.Prelude.{◌≡◌, ◌↔◌, ◌<◌, ℕ, List, [], length, true, false, IsTrue, OnOk, Err};
-ghost use Rattle.std.specs.Io.KnownBytes.{Consumes, IsAtEnd};
+ghost use Rattle.std.specs.Prelude.{◌≡◌, ◌↔◌, ◌<◌, ◌++◌, ◌⊎◌, ℕ, List, [], length, true, false, IsTrue, OnOk, Ok, Err};
+ghost use Rattle.std.specs.Io.KnownBytes.{Consumes, Keeps, IsAtEnd};
 ghost use Rattle.rbc_model.specs.Sessions.{Prints};
 ghost use Rattle.rbc_model.specs.Talks.{IsTalk};
+ghost use Rattle.rbc_streams.specs.LineReading.{Goes, KnowsEnd};
 
 use crate::{Advance, Answers, LineReader, Sink, Source, WriteFailed};
 use rbc_model::SessionFault;
@@ -11,8 +12,8 @@ use rbc_model::limits::MOST_LINES;
 use std::alloc::Global;
 use std::thread::Threads;
 
-/// Answers each line of the reader, in order, up to the end of the input or the first fault. Each reply is handed on
-/// before the next line is read.
+/// Answers each line of the reader, in order, up to the end of the input or the first fault. Before each read of the
+/// reader all replies so far are handed on.
 ///
 /// # Errors
 /// `Memory` before anything is read or written. Then, for each line in order: `Read` where the reader fails, `Write`
@@ -49,9 +50,9 @@ pub fn converse<C, A: Answers<C>, R: Source, W: Sink>(
     ensures handed_on { W.failed writer.new ≡ false → W.held_back writer.old ≡ [] → W.held_back writer.new ≡ [] }
 {
     let mut lines = LineReader::new(alloc, A::longest_line())?;
-    for _ in 0..MOST_LINES {
-        match lines.advance(reader)? {
-            Advance::Line => answer(rt, alloc, lines.line(), writer, answerer, help)?,
+    for count in 0..MOST_LINES {
+        match next_line(&mut lines, reader, writer, count > 0)? {
+            Advance::Line => answerer.answer(rt, alloc, help, lines.line(), writer)?,
             Advance::Overlong => {
                 refuse(writer, answerer, help)?;
                 return Err(SessionFault::Overlong);
@@ -59,28 +60,45 @@ pub fn converse<C, A: Answers<C>, R: Source, W: Sink>(
             Advance::End => return Ok(()),
         }
     }
+    writer.flush()?;
     if lines.has_more(reader)? {
         return Err(SessionFault::Lines);
     }
     Ok(())
 }
 
-/// Answers a line, and hands the reply on.
-fn answer<C, A: Answers<C>, W: Sink>(
-    rt: &(impl Threads + Sync),
-    alloc: Global,
-    line: &[u8],
+/// Goes on to the next line. Where the bytes that came don't tell it, the replies to the lines before it are handed on,
+/// if there are any, and then the reader is read.
+fn next_line<R: Source, W: Sink>(
+    lines: &mut LineReader,
+    reader: &mut R,
     writer: &mut W,
-    answerer: &mut A,
-    help: &C,
-) -> Result<(), WriteFailed>
-    requires { W.failed writer.old ≡ false }
-    ensures reply { (reply : List ℕ) × A.answers (A.state answerer.old) line.now reply (A.state answerer.new)
-        × Prints (W.written writer.old) (W.written writer.new) (W.failed writer.new) reply result }
-    ensures handed_on { OnOk result (W.held_back writer.new ≡ []) }
+    answered: bool,
+) -> Result<Advance, SessionFault>
+    requires reader { R.failed reader.old ≡ false }
+    requires writer { W.failed writer.old ≡ false }
+    ensures read { (result ≡ Err SessionFault.Read) ↔ IsTrue (R.failed reader.new) }
+    ensures write { (result ≡ Err SessionFault.Write) ↔ IsTrue (W.failed writer.new) }
+    ensures next { (taken : List ℕ) × Consumes (R.left reader.old) (R.left reader.new) taken
+        × (lines.old.ended ≡ true → taken ≡ []) × Goes (lines.old.pending ++ taken) lines.new result }
+    ensures end { KnowsEnd lines.old (R.left reader.old) → KnowsEnd lines.new (R.left reader.new) }
+    ensures ended { lines.old.ended ≡ true → lines.new.ended ≡ true }
+    ensures longest { lines.new.longest ≡ lines.old.longest }
+    ensures written { Keeps (W.written writer.old) (W.written writer.new) }
+    // Where no line was answered yet nothing is handed on, and that can't fail.
+    ensures unanswered { answered ≡ false → writer.new ≡ writer.old }
+    ensures answered { result ≡ Err SessionFault.Write → answered ≡ true }
+    // The reader is read only where nothing is held back.
+    ensures handed_on { (reader.new ≡ reader.old) ⊎ (answered ≡ true → W.held_back writer.new ≡ []) }
+    ensures handed_on_at_end { result ≡ Ok Advance.End → answered ≡ true → W.held_back writer.new ≡ [] }
 {
-    answerer.answer(rt, alloc, help, line, writer)?;
-    writer.flush()
+    if let Some(step) = lines.step() {
+        return Ok(step);
+    }
+    if answered {
+        writer.flush()?;
+    }
+    Ok(lines.advance(reader)?)
 }
 
 /// Answers a line that is too long, and hands the reply on.

@@ -4,6 +4,7 @@ ghost use Rattle.std.specs.Prelude.{◌≡◌, IfOk};
 
 use rbc_streams::{Answers, SessionFault, Sink, Stream, WriteFailed, converse, put};
 use std::alloc::Global;
+use std::cell::RefCell;
 use std::io;
 use std::io::{Error, ErrorKind, Read, Write};
 use std::thread::Threads;
@@ -206,4 +207,74 @@ fn interruptions_and_faults_in_a_session(rt: HostRuntime) {
         assert_eq!(rt; outcome, case.outcome);
         assert_eq!(rt; writer.into_writer().taken.as_slice(), case.taken);
     }
+}
+
+/// A peer who sends its text in pieces, and notes at each read how much of the replies it has got, and in how many writes.
+#[derive(Drop)]
+struct Peer {
+    pieces: &'static [&'static [u8]],
+    got: usize,
+    writes: usize,
+    at_reads: Vec<(usize, usize)>,
+}
+
+/// An end of the stream to a peer.
+#[derive(Drop)]
+struct PeerEnd<'a> {
+    peer: &'a RefCell<Peer>,
+}
+
+impl Read for PeerEnd<'_> {
+    fn read(&mut self, buf: &mut [u8]) -> io::Result<usize> {
+        let Ok(mut peer) = self.peer.try_borrow_mut() else {
+            return Err(Error::from(ErrorKind::ResourceBusy));
+        };
+        let turn = peer.at_reads.len();
+        let seen = (peer.got, peer.writes);
+        if peer.at_reads.push(seen).is_err() {
+            return Err(Error::from(ErrorKind::OutOfMemory));
+        }
+        let Some(first) = peer.pieces.get(turn) else {
+            return Ok(0);
+        };
+        let mut piece: &[u8] = first;
+        piece.read(buf)
+    }
+}
+
+impl Write for PeerEnd<'_> {
+    fn write(&mut self, buf: &[u8]) -> io::Result<usize> {
+        let Ok(mut peer) = self.peer.try_borrow_mut() else {
+            return Err(Error::from(ErrorKind::ResourceBusy));
+        };
+        peer.got = peer.got.saturating_add(buf.len());
+        peer.writes = peer.writes.saturating_add(1);
+        Ok(buf.len())
+    }
+
+    fn flush(&mut self) -> io::Result<()> {
+        Ok(())
+    }
+}
+
+/// At each read the replies to all lines before it are there, those to the lines of one piece by one write.
+#[test]
+fn replies_are_there_at_each_read(rt: HostRuntime) {
+    let peer = RefCell::new(Peer {
+        pieces: &[b"a\nbc\nd", b"e", b"f\n\ng"],
+        got: 0,
+        writes: 0,
+        at_reads: Vec::new(rt.alloc()),
+    });
+    let mut reader = Stream::reader(PeerEnd { peer: &peer });
+    let mut writer = Stream::writer(rt.alloc(), PeerEnd { peer: &peer }).expect(&rt, "room");
+    let outcome = converse(&rt, rt.alloc(), &mut reader, &mut writer, &mut Echo, &());
+    assert_eq!(rt; outcome, Ok(()));
+    let peer = peer.try_borrow_mut().expect(&rt, "free");
+    assert_eq!(rt;
+        peer.at_reads.as_slice(),
+        &[(0, 0), (3, 1), (3, 1), (6, 2)][..]
+    );
+    assert_eq!(rt; peer.got, 7);
+    assert_eq!(rt; peer.writes, 3);
 }

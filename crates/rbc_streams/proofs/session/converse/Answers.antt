@@ -1,12 +1,19 @@
-use Rattle.std.proofs.Common.{refl, sym, ◌∙◌, subst, arith, add-one}
+use Rattle.std.proofs.Common.{◌≡◌, Bool, true, false, Err, refl, ap, sym, ◌∙◌, subst, arith, add-one}
+use Rattle.std.specs.Bool.{IsTrue}
+use Rattle.std.proofs.lemmas.Bool.{ltb-true}
 use Rattle.std.proofs.lemmas.Result.{err_from_is_err_and}
-use Rattle.rbc_streams.specs.LineReading.{Steps, IsOverlong}
+use Rattle.std.proofs.lemmas.List.Elements.{All-nil}
+use Rattle.rbc_streams.specs.LineReading.{Steps, IsOverlong, HasNoLineFeed}
 use Rattle.rbc_streams.proofs.LineLemmas.{lines_of_overlong}
-use Rattle.rbc_streams.proofs.UnderWayLemmas.{begins, over_before, takes, fails_reading, ends, has_too_many, goes_on, fails_writing, refuses, front_of, some_line}
+use Rattle.rbc_streams.proofs.UnderWayLemmas.{begins, over_before, takes, hands_on, stops_between, fails_reading, fails_handing_on, ends, has_too_many, goes_on, fails_writing, refuses, front_of, some_line}
 use Rattle.rbc_streams.proofs.session.converse.Goals as goal
 
-pub loop-init : goal.loop-init
-loop-init g c =
+is_false : (test : Bool) → (IsTrue test → ⊥) → test ≡ false
+is_false true refutes = absurd (refutes refl)
+is_false false refutes = refl
+
+pub loop-count-init : goal.loop-count-init
+loop-count-init g c =
     let left = g.R.Source.left c.args.reader.now in
     let written = g.W.Sink.written c.args.writer.now in
     rw c.in_ok-lines.ensures (record {
@@ -14,7 +21,7 @@ loop-init g c =
       writer_works = c.requires.writer;
       longest = c.longest_line.ensures.value;
       end = λ over. cc;
-      handed_on = λ held. held;
+      handed_on = λ held none. held;
       under_way = begins g.A.Answers.longest g.A.Answers.answers (g.A.Answers.state c.args.answerer.now) left written;
     })
 
@@ -25,91 +32,109 @@ returns-in_err-lines-clause-talk g c =
     let written = g.W.Sink.written c.args.writer.now in
     rw (fault.1, fault.2) (over_before g.A.Answers.longest g.A.Answers.answers (g.A.Answers.state c.args.answerer.now) left written)
 
-pub returns-in_err-advance-clause-talk : goal.returns-in_err-advance-clause-talk
-returns-in_err-advance-clause-talk g c =
-    let fault = err_from_is_err_and c.from_residual-in_err-advance.result c.from_residual-in_err-advance.ensures.1 in
-    let did = c.in_err-advance.ensures in
-    let read = takes g.A.Answers.longest g.A.Answers.answers c.loop.invariant.under_way (g.R.Source.left c.advance.new.reader)
-    c.advance.new.self.ended did.next.0 did.ended did.next.2 did.next.1 in
-    rw (fault.1, fault.2) (fails_reading g.A.Answers.longest g.A.Answers.answers read (omega arith))
+pub returns-in_err-next_line-clause-talk : goal.returns-in_err-next_line-clause-talk
+returns-in_err-next_line-clause-talk g c =
+    let did = c.in_err-next_line.ensures in
+    let read = hands_on g.A.Answers.longest g.A.Answers.answers
+    (takes g.A.Answers.longest g.A.Answers.answers c.loop-count.invariant.under_way (g.R.Source.left c.next_line.new.reader)
+    c.next_line.new.lines.ended did.next.0 did.ended did.next.2 did.next.1) (g.W.Sink.written c.next_line.new.writer) did.written in
+    let fault = err_from_is_err_and c.from_residual-in_err-next_line.result c.from_residual-in_err-next_line.ensures.1 in
+    rw (fault.1, fault.2)
+    (stops_between g.A.Answers.longest g.A.Answers.answers read c.next_line.new.lines _ refl did.next.3 (λ e. ltb-true _ _ (did.answered (ap Err e))) (omega arith))
 
 pub returns-in-End-clause-talk : goal.returns-in-End-clause-talk
 returns-in-End-clause-talk g c =
-    let did = c.in_ok-advance.ensures in
+    let did = c.in_ok-next_line.ensures in
     let step = subst (Steps _ _) c.in-End.is did.next.3 in
-    let read = takes g.A.Answers.longest g.A.Answers.answers c.loop.invariant.under_way (g.R.Source.left c.advance.new.reader)
-    c.advance.new.self.ended did.next.0 did.ended did.next.2 did.next.1 in
+    let read = hands_on g.A.Answers.longest g.A.Answers.answers
+    (takes g.A.Answers.longest g.A.Answers.answers c.loop-count.invariant.under_way (g.R.Source.left c.next_line.new.reader)
+    c.next_line.new.lines.ended did.next.0 did.ended did.next.2 did.next.1) (g.W.Sink.written c.next_line.new.writer) did.written in
     ends g.A.Answers.longest g.A.Answers.answers read step.1 (omega arith)
 
 pub returns-in-Overlong-clause-talk : goal.returns-in-Overlong-clause-talk
 returns-in-Overlong-clause-talk g c =
-    let did = c.in_ok-advance.ensures in
+    let did = c.in_ok-next_line.ensures in
     let step = subst (Steps _ _) c.in-Overlong.is did.next.3 in
-    let over = subst (IsOverlong _) (did.longest ∙ c.loop.invariant.longest) step.1 in
+    let over = subst (IsOverlong _) (did.longest ∙ c.loop-count.invariant.longest) step.1 in
     let line = lines_of_overlong _ _ over.long over.no_end in
-    let read = takes g.A.Answers.longest g.A.Answers.answers c.loop.invariant.under_way (g.R.Source.left c.advance.new.reader)
-    c.advance.new.self.ended did.next.0 did.ended did.next.2 did.next.1 in
+    let read = hands_on g.A.Answers.longest g.A.Answers.answers
+    (takes g.A.Answers.longest g.A.Answers.answers c.loop-count.invariant.under_way (g.R.Source.left c.next_line.new.reader)
+    c.next_line.new.lines.ended did.next.0 did.ended did.next.2 did.next.1) (g.W.Sink.written c.next_line.new.writer) did.written in
     let reply = c.in_ok-refuse-in-Overlong.ensures.reply in
     refuses g.A.Answers.longest g.A.Answers.answers read (g.A.Answers.state c.refuse.new.answerer) (g.W.Sink.written c.refuse.new.writer)
-    line.0 reply.0 line.1 c.loop-test.true line.2 line.3 (reply.1 line.0 line.3) reply.2.text
+    line.0 reply.0 line.1 c.loop-count-test.true line.2 line.3 (reply.1 line.0 line.3) reply.2.text
 
 pub returns-in_err-refuse-in-Overlong-clause-talk : goal.returns-in_err-refuse-in-Overlong-clause-talk
 returns-in_err-refuse-in-Overlong-clause-talk g c =
     let residual = c.from_residual-in_err-refuse-in-Overlong in
     let fault = err_from_is_err_and residual.result residual.ensures.1 in
-    let did = c.in_ok-advance.ensures in
+    let did = c.in_ok-next_line.ensures in
     let step = subst (Steps _ _) c.in-Overlong.is did.next.3 in
-    let over = subst (IsOverlong _) (did.longest ∙ c.loop.invariant.longest) step.1 in
+    let over = subst (IsOverlong _) (did.longest ∙ c.loop-count.invariant.longest) step.1 in
     let line = lines_of_overlong _ _ over.long over.no_end in
-    let read = takes g.A.Answers.longest g.A.Answers.answers c.loop.invariant.under_way (g.R.Source.left c.advance.new.reader)
-    c.advance.new.self.ended did.next.0 did.ended did.next.2 did.next.1 in
+    let read = hands_on g.A.Answers.longest g.A.Answers.answers
+    (takes g.A.Answers.longest g.A.Answers.answers c.loop-count.invariant.under_way (g.R.Source.left c.next_line.new.reader)
+    c.next_line.new.lines.ended did.next.0 did.ended did.next.2 did.next.1) (g.W.Sink.written c.next_line.new.writer) did.written in
     let reply = c.in_err-refuse-in-Overlong.ensures.reply in
     rw (fault.1, fault.2) (fails_writing g.A.Answers.longest g.A.Answers.answers read (g.A.Answers.state c.refuse.new.answerer)
-    (g.W.Sink.written c.refuse.new.writer) line.0 reply.0 line.1 c.loop-test.true line.2 (reply.1 line.0 line.3) reply.2.text)
+    (g.W.Sink.written c.refuse.new.writer) line.0 reply.0 line.1 c.loop-count-test.true line.2 (reply.1 line.0 line.3) reply.2.text)
 
 pub returns-in_err-answer-in-Line-clause-talk : goal.returns-in_err-answer-in-Line-clause-talk
 returns-in_err-answer-in-Line-clause-talk g c =
     let residual = c.from_residual-in_err-answer-in-Line in
     let fault = err_from_is_err_and residual.result residual.ensures.1 in
-    let did = c.in_ok-advance.ensures in
+    let did = c.in_ok-next_line.ensures in
     let gives = subst (Steps _ _) c.in-Line.is did.next.3 in
-    let read = takes g.A.Answers.longest g.A.Answers.answers c.loop.invariant.under_way (g.R.Source.left c.advance.new.reader)
-    c.advance.new.self.ended did.next.0 did.ended did.next.2 did.next.1 in
-    let reply = rw c.line.ensures at c.in_err-answer-in-Line.ensures.reply in
-    rw (fault.1, fault.2) (fails_writing g.A.Answers.longest g.A.Answers.answers read (g.A.Answers.state c.answer.new.answerer)
-    (g.W.Sink.written c.answer.new.writer) _ reply.0 _ c.loop-test.true (front_of _ c.advance.new.self gives) reply.1 reply.2.text)
+    let read = hands_on g.A.Answers.longest g.A.Answers.answers
+    (takes g.A.Answers.longest g.A.Answers.answers c.loop-count.invariant.under_way (g.R.Source.left c.next_line.new.reader)
+    c.next_line.new.lines.ended did.next.0 did.ended did.next.2 did.next.1) (g.W.Sink.written c.next_line.new.writer) did.written in
+    let reply = rw c.line.ensures at c.in_err-answer-in-Line.ensures in
+    rw (fault.1, fault.2) (fails_writing g.A.Answers.longest g.A.Answers.answers read (g.A.Answers.state c.answer.new.self)
+    (g.W.Sink.written c.answer.new.writer) _ reply.0 _ c.loop-count-test.true (front_of _ c.next_line.new.lines gives) reply.1 reply.2.text)
 
-pub loop-preserved : goal.loop-preserved
-loop-preserved g c =
-    let did = c.in_ok-advance.ensures in
+pub loop-count-preserved : goal.loop-count-preserved
+loop-count-preserved g c =
+    let did = c.in_ok-next_line.ensures in
     let gives = subst (Steps _ _) c.in-Line.is did.next.3 in
-    let size = did.longest ∙ c.loop.invariant.longest in
-    let read = takes g.A.Answers.longest g.A.Answers.answers c.loop.invariant.under_way (g.R.Source.left c.advance.new.reader)
-    c.advance.new.self.ended did.next.0 did.ended did.next.2 did.next.1 in
-    let reply = rw c.line.ensures at c.in_ok-answer-in-Line.ensures.reply in
+    let size = did.longest ∙ c.loop-count.invariant.longest in
+    let read = hands_on g.A.Answers.longest g.A.Answers.answers
+    (takes g.A.Answers.longest g.A.Answers.answers c.loop-count.invariant.under_way (g.R.Source.left c.next_line.new.reader)
+    c.next_line.new.lines.ended did.next.0 did.ended did.next.2 did.next.1) (g.W.Sink.written c.next_line.new.writer) did.written in
+    let reply = rw c.line.ensures at c.in_ok-answer-in-Line.ensures in
     record {
-      reader_works = did.failed;
+      reader_works = is_false _ (λ failed. let e = did.read.1 failed in cc);
       writer_works = reply.2.failed;
       longest = size;
-      end = did.end c.loop.invariant.end;
-      handed_on = λ held. c.in_ok-answer-in-Line.ensures.handed_on;
-      under_way = rw add-one (goes_on g.A.Answers.longest g.A.Answers.answers read (g.A.Answers.state c.answer.new.answerer)
-          (g.W.Sink.written c.answer.new.writer) c.advance.new.self reply.0 refl size gives reply.1 reply.2.text);
+      end = did.end c.loop-count.invariant.end;
+      handed_on = λ held none. absurd (omega (arith, none));
+      under_way = rw add-one (goes_on g.A.Answers.longest g.A.Answers.answers read (g.A.Answers.state c.answer.new.self)
+          (g.W.Sink.written c.answer.new.writer) c.next_line.new.lines reply.0 refl size gives reply.1 reply.2.text);
     }
+
+pub returns-in_err-flush-clause-talk : goal.returns-in_err-flush-clause-talk
+returns-in_err-flush-clause-talk g c =
+    let fault = err_from_is_err_and c.from_residual-in_err-flush.result c.from_residual-in_err-flush.ensures.1 in
+    let sent = hands_on g.A.Answers.longest g.A.Answers.answers c.loop-count.invariant.under_way (g.W.Sink.written c.flush.new.self)
+    c.in_err-flush.ensures.bytes in
+    rw (fault.1, fault.2) (fails_handing_on g.A.Answers.longest g.A.Answers.answers sent (omega arith) (omega arith))
 
 pub returns-in_err-has_more-clause-talk : goal.returns-in_err-has_more-clause-talk
 returns-in_err-has_more-clause-talk g c =
     let fault = err_from_is_err_and c.from_residual-in_err-has_more.result c.from_residual-in_err-has_more.ensures.1 in
     let did = c.in_err-has_more.ensures in
-    let read = takes g.A.Answers.longest g.A.Answers.answers c.loop.invariant.under_way (g.R.Source.left c.has_more.new.reader)
+    let sent = hands_on g.A.Answers.longest g.A.Answers.answers c.loop-count.invariant.under_way (g.W.Sink.written c.flush.new.self)
+    c.in_ok-flush.ensures.bytes in
+    let read = takes g.A.Answers.longest g.A.Answers.answers sent (g.R.Source.left c.has_more.new.reader)
     c.has_more.new.self.ended did.input.0 did.ended did.input.2 did.input.1 in
-    rw (fault.1, fault.2) (fails_reading g.A.Answers.longest g.A.Answers.answers read (omega arith))
+    rw (fault.1, fault.2) (fails_reading g.A.Answers.longest g.A.Answers.answers read (subst HasNoLineFeed (sym did.fault.0 ∙ did.input.3) (All-nil (λ byte. byte ≡ 10 → ⊥))) did.fault.1 (omega arith))
 
 pub returns-then-branch-clause-talk : goal.returns-then-branch-clause-talk
 returns-then-branch-clause-talk g c =
     let did = c.in_ok-has_more.ensures in
     let some = rw (c.if-branch.true, did.input.3) at did.answer in
-    let read = takes g.A.Answers.longest g.A.Answers.answers c.loop.invariant.under_way (g.R.Source.left c.has_more.new.reader)
+    let sent = hands_on g.A.Answers.longest g.A.Answers.answers c.loop-count.invariant.under_way (g.W.Sink.written c.flush.new.self)
+    c.in_ok-flush.ensures.bytes in
+    let read = takes g.A.Answers.longest g.A.Answers.answers sent (g.R.Source.left c.has_more.new.reader)
     c.has_more.new.self.ended did.input.0 did.ended did.input.2 did.input.1 in
     has_too_many g.A.Answers.longest g.A.Answers.answers read (omega arith) (some_line _ some)
 
@@ -117,6 +142,8 @@ pub returns-clause-talk : goal.returns-clause-talk
 returns-clause-talk g c =
     let did = c.in_ok-has_more.ensures in
     let none = rw c.if-branch.false at did.answer in
-    let read = takes g.A.Answers.longest g.A.Answers.answers c.loop.invariant.under_way (g.R.Source.left c.has_more.new.reader)
+    let sent = hands_on g.A.Answers.longest g.A.Answers.answers c.loop-count.invariant.under_way (g.W.Sink.written c.flush.new.self)
+    c.in_ok-flush.ensures.bytes in
+    let read = takes g.A.Answers.longest g.A.Answers.answers sent (g.R.Source.left c.has_more.new.reader)
     c.has_more.new.self.ended did.input.0 did.ended did.input.2 did.input.1 in
     ends g.A.Answers.longest g.A.Answers.answers read (sym did.input.3 ∙ none.0) (omega arith)

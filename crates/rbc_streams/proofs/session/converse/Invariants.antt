@@ -3,14 +3,14 @@ use Rattle.rbc_streams.specs.LineReading.{KnowsEnd}
 use Rattle.rbc_streams.proofs.UnderWayLemmas.{IsUnderWay}
 use Rattle.rbc_streams.proofs.session.converse.Given as goal
 
-abbrev pub invariant-loop : goal.invariant-loop
-invariant-loop g l = record {
+abbrev pub invariant-loop-count : goal.invariant-loop-count
+invariant-loop-count g l = record {
   reader_works : g.R.Source.failed l.reader ≡ false;
   writer_works : g.W.Sink.failed l.writer ≡ false;
   longest : l.lines.longest ≡ g.A.Answers.longest;
   end : KnowsEnd l.lines (g.R.Source.left l.reader);
-  handed_on : g.W.Sink.held_back l.fn.writer ≡ [] → g.W.Sink.held_back l.writer ≡ [];
+  handed_on : g.W.Sink.held_back l.fn.writer ≡ [] → l.count ≡ 0 → g.W.Sink.held_back l.writer ≡ [];
   under_way : IsUnderWay g.A.Answers.longest g.A.Answers.answers (g.A.Answers.state l.fn.answerer) (g.A.Answers.state l.answerer)
       (g.R.Source.left l.fn.reader) (g.R.Source.left l.reader) (g.W.Sink.written l.fn.writer) (g.W.Sink.written l.writer)
-      l.lines.ended l.counter l.lines.pending;
+      l.lines.ended l.count l.lines.pending;
 }
