@@ -2,6 +2,7 @@
 
 mod bits;
 mod faults;
+mod journals;
 mod messages;
 mod sessions;
 

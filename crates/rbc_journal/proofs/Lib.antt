@@ -1,0 +1,8 @@
+mod LineLemmas
+mod MomentLemmas
+mod CrashLemmas
+mod SessionLemmas
+mod StagingLemmas
+mod CommitLemmas
+mod CommittedLemmas
+mod RepairLemmas

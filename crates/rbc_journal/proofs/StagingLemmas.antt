@@ -1,0 +1,67 @@
+-- What stages a line.
+use Rattle.std.proofs.Common.{◌≡◌, ℕ, ◌-◌, ◌<◌, List, [], ◌∷◌, ◌++◌, length, All, take, refl, sym, ◌∙◌, ap, arith, append_assoc, length-append}
+use Rattle.std.proofs.lemmas.List.{take_at}
+use Rattle.std.proofs.lemmas.List.Elements.{All-nil, All-cons, All-append}
+use Rattle.rbc_journal.specs.Journal.{recovered, text, at_rest, behind, staged_in, IsLine}
+use Rattle.rbc_journal.proofs.LineLemmas.{text-append, are_lines, recovered-at_rest}
+use Rattle.rbc_journal.proofs.CrashLemmas.{gate_behind}
+
+-- what is staged for lines stands for just these
+pub staged-behind : (lines : List (List ℕ)) → All IsLine lines → staged_in (behind lines) ≡ lines
+staged-behind [] are = refl
+staged-behind (line ∷ lines) are = ap recovered (gate_behind line lines) ∙ recovered-at_rest (line ∷ lines) are
+
+-- the same without the closed gate at its end
+abbrev pub unfinished_behind : List ℕ → List (List ℕ) → List ℕ
+unfinished_behind line lines = line ++ 10 ∷ text lines
+
+without_last : (line : List ℕ) (lines : List (List ℕ)) → behind (line ∷ lines) ≡ unfinished_behind line lines ++ 35 ∷ []
+without_last line lines = sym (append_assoc line (10 ∷ text lines) (35 ∷ []))
+
+pub popped : (line : List ℕ) (lines : List (List ℕ)) (n : ℕ) → n ≡ length (behind (line ∷ lines)) - 1 → take n (behind (line ∷ lines)) ≡ unfinished_behind line lines
+popped line lines n is =
+    ap (λ (l : List ℕ). take n l) (without_last line lines)
+    ∙ take_at (unfinished_behind line lines) (35 ∷ []) n (omega (arith, is, ap length (without_last line lines), length-append (unfinished_behind line lines) (35 ∷ [])))
+
+-- the first line
+pub first_staged : (line : List ℕ) → (line ++ 10 ∷ []) ++ 35 ∷ [] ≡ behind (line ∷ [])
+first_staged line = append_assoc line (10 ∷ []) (35 ∷ [])
+
+-- one line more
+pub next_staged : (first : List ℕ) (lines : List (List ℕ)) (line : List ℕ)
+    → (((unfinished_behind first lines ++ 32 ∷ []) ++ line) ++ 10 ∷ []) ++ 35 ∷ [] ≡ behind ((first ∷ lines) ++ line ∷ [])
+next_staged first lines line =
+    let ends : (((unfinished_behind first lines ++ 32 ∷ []) ++ line) ++ 10 ∷ []) ++ 35 ∷ [] ≡ unfinished_behind first lines ++ at_rest (line ∷ []) =
+    append_assoc ((unfinished_behind first lines ++ 32 ∷ []) ++ line) (10 ∷ []) (35 ∷ [])
+    ∙ append_assoc (unfinished_behind first lines ++ 32 ∷ []) line (10 ∷ 35 ∷ [])
+    ∙ append_assoc (unfinished_behind first lines) (32 ∷ []) (line ++ 10 ∷ 35 ∷ [])
+    ∙ ap (λ (l : List ℕ). unfinished_behind first lines ++ 32 ∷ l) (sym (append_assoc line (10 ∷ []) (35 ∷ []))) in
+    ends
+    ∙ append_assoc first (10 ∷ text lines) (at_rest (line ∷ []))
+    ∙ ap (λ (l : List ℕ). first ++ 10 ∷ l) (sym (append_assoc (text lines) (text (line ∷ [])) (35 ∷ [])) ∙ ap (λ (l : List ℕ). l ++ 35 ∷ []) (sym (text-append lines (line ∷ []))))
+
+-- A line is staged behind others, or as the first.
+module _ (old mid new line : List ℕ) (waiting : old ≡ behind (staged_in old))
+    (none : length old ≡ 0 → mid ≡ [])
+    (some : 0 < length old → mid ≡ take (length old - 1) old ++ 32 ∷ [])
+    (adds : new ≡ ((mid ++ line) ++ 10 ∷ []) ++ 35 ∷ []) where
+  by_lines : (lines : List (List ℕ)) → old ≡ behind lines → new ≡ behind (lines ++ line ∷ [])
+  by_lines [] is = adds ∙ ap (λ (l : List ℕ). ((l ++ line) ++ 10 ∷ []) ++ 35 ∷ []) (none (ap length is)) ∙ first_staged line
+  by_lines (first ∷ lines) is =
+      let long : 0 < length old = omega (arith, ap length is, length-append first (10 ∷ at_rest lines)) in
+      let at : take (length old - 1) old ≡ unfinished_behind first lines =
+      ap (λ (l : List ℕ). take (length old - 1) l) is ∙ popped first lines (length old - 1) (ap (λ (l : List ℕ). length l - 1) is) in
+      adds
+      ∙ ap (λ (l : List ℕ). ((l ++ line) ++ 10 ∷ []) ++ 35 ∷ []) (some long ∙ ap (λ (l : List ℕ). l ++ 32 ∷ []) at)
+      ∙ next_staged first lines line
+
+  is_behind : new ≡ behind (staged_in old ++ line ∷ [])
+  is_behind = by_lines (staged_in old) waiting
+
+  pub is_staged : IsLine line → staged_in new ≡ staged_in old ++ line ∷ []
+  is_staged form =
+      ap staged_in is_behind
+      ∙ staged-behind (staged_in old ++ line ∷ []) (All-append IsLine (staged_in old) (line ∷ []) (are_lines (32 ∷ old)) (All-cons IsLine line [] form (All-nil IsLine)))
+
+  pub still_waits : IsLine line → new ≡ behind (staged_in new)
+  still_waits form = is_behind ∙ ap behind (sym (is_staged form))

@@ -1,0 +1,205 @@
+//! A journal: lines, each on the disk before it is acknowledged. A line counts if the byte before it, its gate, is a space.
+//! Behind the last line stands a closed gate, a `#`, on the disk before anything is written behind it.
+
+ghost use Rattle.std.specs.Prelude.{◌≡◌, ◌+◌, ◌-◌, ◌^◌, ◌<◌, ◌≤◌, ◌++◌, [], ◌∷◌, length, take, OnOk, OnErr, IfOk, IfErr, IsErrOf, vec_len, vec_capacity};
+ghost use Rattle.rbc_journal.specs.Device.{Only, LeavesOnly};
+ghost use Rattle.rbc_journal.specs.Journal.{recovered, at_rest, staged_in, IsLine, IsBeforeOrAfter};
+ghost use Rattle.rbc_journal.specs.Settled.{staged, IsSettled, HasRoom, HasCause, Waits};
+
+use crate::repair::{MOST_BYTES, recover};
+use crate::{Device, DeviceFailed, JournalFault};
+use std::alloc::Global;
+
+/// An open journal, and the lines that wait to be written.
+#[derive(Drop)]
+pub struct Journal<D: Device> {
+    /// The file.
+    device: D,
+    /// Where its closed gate stands.
+    gate: usize,
+    /// What will stand behind that.
+    pending: Vec<u8>,
+}
+
+impl<D: Device> Journal<D> {
+    /// Opens a file with these bytes, which a crash may have left, and repairs its end. No line is staged. It may crash
+    /// too.
+    ///
+    /// # Errors
+    /// `Full`, before the file is asked for anything, or `Device`. The file comes back, with all that counts in it.
+    pub fn open(alloc: Global, bytes: &[u8], mut device: D) -> Result<Journal<D>, (JournalFault, D)>
+        requires read { D.seen device ≡ bytes.now }
+        requires durable { Only (D.seen device) (D.may_leave device) }
+        ensures settled { IfOk result (λ journal. IsSettled D.seen D.may_leave journal) }
+        ensures same { IfOk result (λ journal. recovered (D.seen journal.device) ≡ recovered bytes.now) }
+        ensures staged { IfOk result (λ journal. staged journal ≡ []) }
+
+        // A crash at any moment leaves the same lines.
+        ensures any_moment { IfOk result (λ journal. LeavesOnly D.moment D.left_since device journal.device
+            (λ c. recovered c ≡ recovered bytes.now)) }
+        ensures any_moment_err { IfErr result (λ e. LeavesOnly D.moment D.left_since device e.1
+            (λ c. recovered c ≡ recovered bytes.now)) }
+
+        // It does not give up by itself.
+        ensures cause { IfErr result (λ e. HasCause (D.faults device) (D.faults e.1) bytes.now e.0) }
+    {
+        match recover(bytes, &mut device) {
+            Ok(gate) => Ok(Journal {
+                device,
+                gate,
+                pending: Vec::new(alloc),
+            }),
+            Err(fault) => Err((fault, device)),
+        }
+    }
+
+    /// The file. Lines that are staged are dropped.
+    pub fn into_device(self) -> D
+        ensures { result ≡ self.device }
+    {
+        self.device
+    }
+
+    /// Adds a line, where none is staged. At `Ok` it is acknowledged: from then on each crash leaves a file that has it. At
+    /// `Device` the file has to be opened again.
+    ///
+    /// # Errors
+    /// `Full` or `Memory`, where nothing changes, the file is not asked for anything, and further lines can be put; `Device`.
+    pub fn put(&mut self, line: &[u8]) -> Result<(), JournalFault>
+        requires settled { IsSettled D.seen D.may_leave self.old }
+        requires none { staged self.old ≡ [] }
+        requires line { IsLine line.now }
+
+        ensures acknowledged { OnOk result (IsSettled D.seen D.may_leave self.new
+            × (recovered (D.seen self.new.device) ≡ recovered (D.seen self.old.device) ++ line.now ∷ [])
+            × (staged self.new ≡ [])) }
+
+        // A crash at any moment of the call leaves the lines from before it, with the new one or without.
+        ensures any_moment { LeavesOnly D.moment D.left_since self.old.device self.new.device
+            (IsBeforeOrAfter (recovered (D.seen self.old.device)) (line.now ∷ [])) }
+
+        // Unless the file failed, it goes on as it was.
+        ensures refused { IfErr result (λ fault. (fault ≡ JournalFault.Device → ⊥)
+            → IsSettled D.seen D.may_leave self.new × (self.new.device ≡ self.old.device) × (staged self.new ≡ [])) }
+
+        // It does not give up by itself.
+        ensures failed { IsErrOf result JournalFault.Device
+            → D.faults self.old.device < D.faults self.new.device }
+        ensures full { IsErrOf result JournalFault.Full
+            → 2 ^ 60 < self.old.gate + vec_len self.old.pending + length line.now + 2 }
+    {
+        self.reserve(line.len())?;
+        self.stage(line);
+        self.commit()?;
+        Ok(())
+    }
+
+    /// Makes room to stage a line of so many bytes. The file is not asked for anything.
+    ///
+    /// # Errors
+    /// `Full` or `Memory`. Nothing changes.
+    pub fn reserve(&mut self, bytes: usize) -> Result<(), JournalFault>
+        requires { IsSettled D.seen D.may_leave self.old }
+        ensures settled { IsSettled D.seen D.may_leave self.new }
+        ensures device { self.new.device ≡ self.old.device }
+        ensures staged { staged self.new ≡ staged self.old }
+        ensures room { OnOk result (HasRoom self.new bytes) }
+        ensures failed { IsErrOf result JournalFault.Device → ⊥ }
+        ensures full { IsErrOf result JournalFault.Full → 2 ^ 60 < self.old.gate + vec_len self.old.pending + bytes + 2 }
+    {
+        let used = self.gate + self.pending.len();
+        if bytes > MOST_BYTES || used + bytes + 2 > MOST_BYTES {
+            return Err(JournalFault::Full);
+        }
+        self.pending.reserve(bytes + 2)?;
+        Ok(())
+    }
+
+    /// Stages a line. The file is not asked for anything, and no memory is.
+    pub fn stage(&mut self, line: &[u8])
+        requires settled { IsSettled D.seen D.may_leave self.old }
+        requires room { HasRoom self.old (length line.now) }
+        requires line { IsLine line.now }
+        ensures settled { IsSettled D.seen D.may_leave self.new }
+        ensures device { self.new.device ≡ self.old.device }
+        ensures staged { staged self.new ≡ staged self.old ++ line.now ∷ [] }
+    {
+        open_last(&mut self.pending);
+        push_line(&mut self.pending, line);
+    }
+
+    /// Makes the staged lines durable, all at once. At `Ok` they are acknowledged: from then on each crash leaves a file
+    /// that has them. At `Err` the file has to be opened again.
+    ///
+    /// # Errors
+    /// The file failed.
+    pub fn commit(&mut self) -> Result<(), DeviceFailed>
+        requires { IsSettled D.seen D.may_leave self.old }
+
+        ensures acknowledged { OnOk result (IsSettled D.seen D.may_leave self.new
+            × (recovered (D.seen self.new.device) ≡ recovered (D.seen self.old.device) ++ staged self.old)
+            × (staged self.new ≡ [])) }
+
+        // A crash at any moment of the call leaves the lines from before it, with all the staged ones or with none.
+        ensures any_moment { LeavesOnly D.moment D.left_since self.old.device self.new.device
+            (IsBeforeOrAfter (recovered (D.seen self.old.device)) (staged self.old)) }
+
+        // It does not give up by itself.
+        ensures later { D.faults self.old.device ≤ D.faults self.new.device }
+        ensures failed { OnErr result (D.faults self.old.device < D.faults self.new.device) }
+    {
+        if self.pending.is_empty() {
+            return Ok(());
+        }
+        write_behind(&mut self.device, self.gate, self.pending.as_slice())?;
+        self.gate += self.pending.len();
+        self.pending.clear();
+        Ok(())
+    }
+}
+
+/// Opens the gate behind the last staged line, if there is one.
+fn open_last(pending: &mut Vec<u8>)
+    ensures none { length pending.old.items ≡ 0 → pending.new.items ≡ [] }
+    ensures some { 0 < length pending.old.items
+        → pending.new.items ≡ take (length pending.old.items - 1) pending.old.items ++ 32 ∷ [] }
+    ensures len { vec_len pending.new ≡ vec_len pending.old }
+    ensures capacity { vec_capacity pending.new ≡ vec_capacity pending.old }
+{
+    if pending.pop().is_some() {
+        pending.push_reserved(b' ');
+    }
+}
+
+/// Puts a line, its line feed and a closed gate behind what is staged.
+fn push_line(pending: &mut Vec<u8>, line: &[u8])
+    requires { vec_len pending.old + length line.now + 2 ≤ vec_capacity pending.old }
+    ensures items { pending.new.items ≡ ((pending.old.items ++ line.now) ++ 10 ∷ []) ++ 35 ∷ [] }
+    ensures len { vec_len pending.new ≡ vec_len pending.old + length line.now + 2 }
+{
+    let Ok(()) = pending.extend_from_slice(line) else {
+        unreachable!();
+    };
+    pending.push_reserved(b'\n');
+    pending.push_reserved(b'#');
+}
+
+/// Writes staged bytes behind the closed gate, and then opens it.
+///
+/// # Errors
+/// The file failed.
+fn write_behind<D: Device>(device: &mut D, gate: usize, bytes: &[u8]) -> Result<(), DeviceFailed>
+    requires waits { Waits D.seen D.may_leave device.old gate bytes.now }
+    requires fits { gate + length bytes.now ≤ 2 ^ 60 }
+    ensures written { OnOk result (D.seen device.new ≡ at_rest (recovered (D.seen device.old) ++ staged_in bytes.now)) }
+    ensures durable { OnOk result (Only (D.seen device.new) (D.may_leave device.new)) }
+    ensures any_moment { LeavesOnly D.moment D.left_since device.old device.new
+        (IsBeforeOrAfter (recovered (D.seen device.old)) (staged_in bytes.now)) }
+    ensures later { D.faults device.old ≤ D.faults device.new }
+    ensures failed { OnErr result (D.faults device.old < D.faults device.new) }
+{
+    device.write_at(gate + 1, bytes)?;
+    device.sync()?;
+    device.write_at(gate, b" ")?;
+    device.sync()
+}

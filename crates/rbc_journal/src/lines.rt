@@ -1,0 +1,58 @@
+//! The lines in the bytes of a file, read from the front.
+
+ghost use Rattle.std.specs.Prelude.{◌≡◌, ◌+◌, ◌<◌, ◌≤◌, [], ◌∷◌, length, take, drop, IsTrue, Some, IfSome, IfNone};
+ghost use Rattle.rbc_journal.specs.Journal.{lines_from, recovered, text, IsLine};
+
+/// The first line of a part of a file that begins with a gate, and what stands behind it. None where that line does not
+/// count.
+pub fn next_line(bytes: &[u8]) -> Option<(&[u8], &[u8])>
+    ensures line { IfSome result (λ found. recovered bytes.now ≡ found.0.now ∷ recovered found.1.now) }
+    ensures form { IfSome result (λ found. IsLine found.0.now) }
+    ensures shorter { IfSome result (λ found. length found.0.now + 2 + length found.1.now ≡ length bytes.now) }
+    ensures none { IfNone result (recovered bytes.now ≡ []) }
+{
+    let [b' ', after @ ..] = bytes else {
+        return None;
+    };
+    let at = end_of_line(after)?;
+    Some((&after[..at], &after[at + 1..]))
+}
+
+/// Whether bytes may stand in a journal as one line: they have no line feed.
+pub fn is_line(bytes: &[u8]) -> bool
+    ensures { IsTrue result → IsLine bytes.now }
+{
+    end_of_line(bytes).is_none()
+}
+
+/// Where the first line feed stands.
+fn end_of_line(bytes: &[u8]) -> Option<usize>
+    ensures within { IfSome result (λ at. at < length bytes.now) }
+    ensures line { IfSome result (λ at. IsLine (take at bytes.now)) }
+    ensures read { IfSome result (λ at. lines_from (Some []) bytes.now ≡ take at bytes.now ∷ recovered (drop (at + 1) bytes.now)) }
+    ensures none { IfNone result (lines_from (Some []) bytes.now ≡ []) }
+    ensures form { IfNone result (IsLine bytes.now) }
+{
+    let mut at = 0;
+    while at < bytes.len() {
+        if bytes[at] == b'\n' {
+            return Some(at);
+        }
+        at += 1;
+    }
+    None
+}
+
+/// How many bytes at the front of a file are whole lines that count.
+pub(crate) fn whole_part(bytes: &[u8]) -> usize
+    ensures value { result ≡ length (text (recovered bytes.now)) }
+    ensures within { result ≤ length bytes.now }
+{
+    let mut rest = bytes;
+    let mut end = 0;
+    while let Some((line, after)) = next_line(rest) {
+        end += line.len() + 2;
+        rest = after;
+    }
+    end
+}

@@ -1,0 +1,13 @@
+//! A file of the operating system as the device of a journal: opened, locked and synced, and a record of its calls, which
+//! says what a crash may leave of it.
+#![tactic(auto)]
+
+mod calls;
+mod opening;
+mod past;
+mod recorded;
+
+pub use calls::{Calls, SystemFile};
+pub use opening::{OpenFault, open};
+pub use past::{Bytes, Past};
+pub use recorded::Recorded;

@@ -1,0 +1,105 @@
+//! A file of which a record is kept, as a device.
+
+ghost use Rattle.std.specs.Prelude.{◌≡◌, is_ok};
+ghost use Rattle.rbc_journal.specs.Device.{Only};
+ghost use Rattle.rbc_journal_file.specs.Past.{seen, may_leave, moment, left_since, faults};
+ghost use Rattle.rbc_journal_file.specs.PastLaws.{counts_now, only_now};
+
+use crate::{Bytes, Calls, Past};
+use rbc_journal::{Device, DeviceFailed};
+use std::mem::replace;
+use std::snapshot::Snapshot;
+
+/// A file, and what was asked of it. Once it has failed it is asked for nothing more.
+#[derive(Drop)]
+pub struct Recorded<C: Calls> {
+    calls: C,
+    past: Snapshot<Past>,
+    has_failed: bool,
+}
+
+impl<C: Calls> Recorded<C> {
+    ghost use Rattle.rbc_journal_file.specs.Recorded.{past_of};
+
+    /// A file that has just been read, and has these bytes, all of them on the disk.
+    pub fn opened(calls: C, bytes: &[u8]) -> Recorded<C>
+        ensures seen { seen (past_of result) ≡ bytes.now }
+        ensures durable { Only (seen (past_of result)) (may_leave (past_of result)) }
+    {
+        let opened = Past::Opened(Bytes::of(bytes));
+        Recorded {
+            calls,
+            past: Snapshot::of(&opened),
+            has_failed: false,
+        }
+    }
+
+    /// The file, without its record.
+    pub fn into_calls(self) -> C {
+        self.calls
+    }
+}
+
+/// Syncs a file that has not failed yet, and tells whether that was done.
+fn sync<C: Calls>(calls: &mut C, has_failed: &mut bool) -> bool {
+    if *has_failed {
+        return false;
+    }
+    let is_done = calls.sync().is_ok();
+    *has_failed = !is_done;
+    is_done
+}
+
+/// What was asked so far, to stand in what is asked from now on.
+fn earlier(past: &mut Snapshot<Past>) -> Snapshot<Past>
+    ensures { result.value ≡ past.old.value }
+{
+    let nothing = Past::Opened(Bytes::of(&[]));
+    replace(past, Snapshot::of(&nothing))
+}
+
+/// The outcome of a call.
+fn outcome(is_done: bool) -> Result<(), DeviceFailed>
+    ensures { is_ok result ≡ is_done }
+{
+    if is_done { Ok(()) } else { Err(DeviceFailed) }
+}
+
+impl<C: Calls> Device for Recorded<C> {
+    ghost seen = { λ f. seen f.past.value };
+
+    ghost may_leave = { λ f. may_leave f.past.value };
+
+    ghost moment = { λ f. moment f.past.value };
+
+    ghost left_since = { λ f. left_since f.past.value };
+
+    ghost faults = { λ f. faults f.past.value };
+
+    ghost counts_now = { λ f t c le now. counts_now f.past.value t c le now };
+
+    ghost only_now = { λ f c left. only_now f.past.value c left };
+
+    fn write_at(&mut self, at: usize, bytes: &[u8]) -> Result<(), DeviceFailed> {
+        let is_done = !self.has_failed && self.calls.write(at as u64, bytes).is_ok();
+        self.has_failed = !is_done;
+        let next = Past::Wrote(earlier(&mut self.past), at, Bytes::of(bytes), is_done);
+        self.past = Snapshot::of(&next);
+        outcome(is_done)
+    }
+
+    fn cut(&mut self, len: usize) -> Result<(), DeviceFailed> {
+        let is_done = !self.has_failed && self.calls.cut(len as u64).is_ok();
+        self.has_failed = !is_done;
+        let next = Past::Cut(earlier(&mut self.past), len, is_done);
+        self.past = Snapshot::of(&next);
+        outcome(is_done)
+    }
+
+    fn sync(&mut self) -> Result<(), DeviceFailed> {
+        let is_done = sync(&mut self.calls, &mut self.has_failed);
+        let next = Past::Synced(earlier(&mut self.past), is_done);
+        self.past = Snapshot::of(&next);
+        outcome(is_done)
+    }
+}

@@ -1,0 +1,88 @@
+-- Lines and the entries that they tell.
+use Rattle.std.proofs.Common.{◌≡◌, ℕ, List, [], ◌∷◌, ◌++◌, length, take, refl, sym, ◌∙◌, ap, subst, append_assoc, Bool, true, false}
+use Rattle.std.specs.Bool.{MatchBool}
+use Rattle.std.proofs.lemmas.List.{append-nil}
+use Rattle.rbc_journal.specs.Journal.{recovered}
+use Rattle.rbc_kept.specs.Tells.{Tells}
+use Rattle.rbc_kept.specs.Kept.{StandsFor}
+
+module _ {Entry : Type 0} (adds : List Entry → List ℕ → Entry → Type 0) where
+  -- one line more
+  pub one_more : (before : List Entry) (lines : List (List ℕ)) (entries : List Entry) (line : List ℕ) (entry : Entry)
+      → Tells adds before lines entries → adds (before ++ entries) line entry → Tells adds before (lines ++ line ∷ []) (entries ++ entry ∷ [])
+  one_more before [] entries line entry told added = (
+    entry,
+    [],
+    ap (λ (l : List Entry). l ++ entry ∷ []) told,
+    subst (λ (l : List Entry). adds l line entry) (ap (λ (l : List Entry). before ++ l) told ∙ append-nil before) added,
+    refl,
+  )
+  one_more before (first ∷ lines) entries line entry told added =
+      let e = told.0 in
+      let rest = told.1 in
+      let is : before ++ entries ≡ before ++ e ∷ [] ++ rest = ap (λ (l : List Entry). before ++ l) told.2 ∙ sym (append_assoc before (e ∷ []) rest) in (
+        e,
+        rest ++ entry ∷ [],
+        ap (λ (l : List Entry). l ++ entry ∷ []) told.2,
+        told.3,
+        one_more (before ++ e ∷ []) lines rest line entry told.4 (subst (λ (l : List Entry). adds l line entry) is added),
+      )
+
+  -- the same lines tell the same entries
+  pub tell_one : ((before : List Entry) (line : List ℕ) (a b : Entry) → adds before line a → adds before line b → a ≡ b)
+      → (before : List Entry) (lines : List (List ℕ)) (some other : List Entry) → Tells adds before lines some → Tells adds before lines other → some ≡ other
+  tell_one only before [] some other a b = a ∙ sym b
+  tell_one only before (line ∷ lines) some other a b =
+      let same : a.0 ≡ b.0 = only before line a.0 b.0 a.3 b.3 in
+      let behind : Tells adds (before ++ a.0 ∷ []) lines b.1 = subst (λ (e : Entry). Tells adds (before ++ e ∷ []) lines b.1) (sym same) b.4 in
+      a.2 ∙ ap (λ (l : List Entry). a.0 ∷ l) (tell_one only (before ++ a.0 ∷ []) lines a.1 b.1 a.4 behind) ∙ ap (λ (e : Entry). e ∷ b.1) same ∙ sym b.2
+
+  -- so many lines tell so many entries, and the first lines the first entries
+  pub front_tells : (before : List Entry) (lines more : List (List ℕ)) (entries : List Entry) → Tells adds before (lines ++ more) entries → Tells adds before lines (take (length lines) entries)
+  front_tells before [] more entries told = refl
+  front_tells before (line ∷ lines) more entries told = (
+    told.0,
+    take (length lines) told.1,
+    ap (λ (l : List Entry). take (length (line ∷ lines)) l) told.2,
+    told.3,
+    front_tells (before ++ told.0 ∷ []) lines more told.1 told.4,
+  )
+
+  -- what the rest of a file tells behind these entries, the whole file tells with them
+  abbrev pub Goes : List ℕ → List Entry → List ℕ → Type 0
+  Goes file entries rest = (more : List Entry) → Tells adds entries (recovered rest) more → StandsFor adds file (entries ++ more)
+
+  pub begins : (file : List ℕ) (entries : List Entry) → entries ≡ [] → Goes file entries file
+  begins file entries none = subst (λ (l : List Entry). Goes file l file) (sym none) (λ more told. told)
+
+  pub goes_on : (file rest after line : List ℕ) (entries new : List Entry) → recovered rest ≡ line ∷ recovered after
+      → ((entry : Entry) × adds entries line entry × (new ≡ entries ++ entry ∷ [])) → Goes file entries rest → Goes file new after
+  goes_on file rest after line entries new reads added so_far =
+      subst (λ (l : List Entry). Goes file l after) (sym added.2) (λ more told.
+      subst (StandsFor adds file) (sym (append_assoc entries (added.0 ∷ []) more))
+      (so_far (added.0 ∷ more) (subst (λ (ls : List (List ℕ)). Tells adds entries ls (added.0 ∷ more)) (sym reads) (added.0, more, refl, added.1, told))))
+
+  pub ends : (file rest : List ℕ) (entries : List Entry) → recovered rest ≡ [] → Goes file entries rest → StandsFor adds file entries
+  ends file rest entries none so_far =
+      subst (StandsFor adds file) (append-nil entries) (so_far [] (subst (λ (ls : List (List ℕ)). Tells adds entries ls []) (sym none) refl))
+
+  -- a file with one line more stands for the entries with one more
+  pub told_more : (file mid later : List ℕ) (staged : List (List ℕ)) (old new : List Entry) (line : List ℕ)
+      → recovered later ≡ recovered mid ++ staged → mid ≡ file → staged ≡ line ∷ []
+      → ((entry : Entry) × adds old line entry × (new ≡ old ++ entry ∷ [])) → StandsFor adds file old → StandsFor adds later new
+  told_more file mid later staged old new line is same one added told =
+      subst (StandsFor adds later) (sym added.2) (subst (λ (ls : List (List ℕ)). Tells adds [] ls (old ++ added.0 ∷ []))
+      (sym (is ∙ ap (λ (f : List ℕ). recovered f ++ staged) same ∙ ap (λ (ls : List (List ℕ)). recovered file ++ ls) one))
+      (one_more [] (recovered file) old line added.0 told added.1))
+
+  pub if_added : {S : Type 0} (entries : S → List Entry) (old new : S) (line : List ℕ) (is_added : Bool) → is_added ≡ true
+      → MatchBool is_added ((entry : Entry) × adds (entries old) line entry × (entries new ≡ entries old ++ entry ∷ [])) (new ≡ old)
+      → (entry : Entry) × adds (entries old) line entry × (entries new ≡ entries old ++ entry ∷ [])
+  if_added entries old new line is_added is found =
+      subst (λ b. MatchBool b ((entry : Entry) × adds (entries old) line entry × (entries new ≡ entries old ++ entry ∷ [])) (new ≡ old)) is found
+
+  pub if_not_added : {S : Type 0} (entries : S → List Entry) (old new : S) (line : List ℕ) (is_added : Bool) → is_added ≡ false
+      → MatchBool is_added ((entry : Entry) × adds (entries old) line entry × (entries new ≡ entries old ++ entry ∷ [])) (new ≡ old)
+      → new ≡ old
+  if_not_added entries old new line is_added is found =
+      subst (λ b. MatchBool b ((entry : Entry) × adds (entries old) line entry × (entries new ≡ entries old ++ entry ∷ [])) (new ≡ old)) is found
