@@ -26,15 +26,15 @@ def free_port():
 
 
 class Server:
-    """The program, which serves a track on a port of the system's choice."""
+    """The program, which serves a track on a port of the system's choice, with further words on its command line."""
 
-    def __init__(self, command, track, connections, workers, environment=None):
+    def __init__(self, command, track, connections, workers, *further, environment=None, **how):
         for _ in range(MOST_PORTS):
             self.port = free_port()
             words = [command, "serve", track, "--port", str(self.port)]
-            words += ["--connections", str(connections), "--workers", str(workers)]
-            pipe = subprocess.PIPE
-            self.process = subprocess.Popen(words, stdin=subprocess.DEVNULL, stdout=pipe, stderr=pipe, bufsize=0, env=environment)
+            words += ["--connections", str(connections), "--workers", str(workers), *further]
+            how.update(stdin=subprocess.DEVNULL, stdout=subprocess.PIPE, stderr=subprocess.PIPE, bufsize=0, env=environment)
+            self.process = subprocess.Popen(words, **how)
             self.listening = self.first_line() == f"listening {self.port}\n".encode()
             if self.listening:
                 return
