@@ -19,5 +19,5 @@ returns g c = (
     short = c.in_ok-bytes.ensures.short;
     works = works (g.R.Source.failed c.read_whole.new.reader) c.in_ok-bytes.bytes c.in_ok-bytes.ensures.read;
   },
-  ap track_told (sym c.as_slice.ensures.value) ∙ c.in_ok-read.ensures,
+  ap track_told (sym c.as_slice.ensures.value) ∙ c.in_ok-read.ensures.track,
 )
