@@ -5,6 +5,8 @@ use super::sessions::{LINES, REPLIES, session_to};
 use rbc_server::SessionFault;
 use std::io;
 use std::io::{Error, ErrorKind, Read, Write};
+use std::process::Abort;
+use std::thread::Threads;
 
 /// Gives nothing, and fails.
 #[derive(Drop)]
@@ -39,6 +41,13 @@ impl Write for Room {
     }
 }
 
+/// The lines, for reads that give one each.
+const LINE_BY_LINE: [&str; 3] = [
+    "lock R1\n",
+    "report 1 5/17 nominal 300 5 5 200 1000\n",
+    "ask 1\n",
+];
+
 /// What was written after no line, one, two and all three.
 const WRITTEN: [&str; 4] = ["", "ok 1\n", "ok 1\nok 2\n", REPLIES];
 
@@ -57,22 +66,33 @@ fn lines_before_a_read_fault_are_treated(rt: HostRuntime) {
     }
 }
 
-// Where the writer fails, the line that was being answered was treated, and no later one.
+// How a session ends whose writer takes so many bytes: the record has the entries of the lines that were treated.
+fn ends_at_a_write_fault<R: Read + Drop>(
+    rt: &(impl Threads + Abort + AllocGlobal + Sync),
+    lines: R,
+    room: usize,
+    treated: usize,
+) {
+    let taken = Vec::new(rt.alloc());
+    let (outcome, writer, version) = session_to(rt, PLAIN, lines, Room { taken, room });
+    assert_eq!(rt; outcome, Err(SessionFault::Write), "at {room}");
+    assert_eq!(rt; version, treated as u64, "at {room}");
+    assert_eq!(rt; writer.taken.len(), room);
+    assert!(rt; REPLIES.as_bytes().starts_with(&writer.taken), "at {room}");
+}
+
+// Replies are handed on before each read. So where the writer fails, the lines that came with the one being answered were
+// treated, and no later one.
 #[test]
 fn lines_before_a_write_fault_are_treated(rt: HostRuntime) {
-    let replies = REPLIES.as_bytes();
-    for room in 0..replies.len() {
-        let taken = Vec::new(rt.alloc());
-        let (outcome, writer, version) = session_to(
-            &rt,
-            PLAIN,
-            LINES.as_bytes(),
-            Room { taken, room },
-        );
+    let [lock, report, ask] = LINE_BY_LINE;
+    for room in 0..REPLIES.len() {
+        let one_by_one = lock
+            .as_bytes()
+            .chain(report.as_bytes())
+            .chain(ask.as_bytes());
         let treated = WRITTEN.iter().filter(|text| text.len() <= room).count();
-        assert_eq!(rt; outcome, Err(SessionFault::Write), "at {room}");
-        assert_eq!(rt; version, treated as u64, "at {room}");
-        assert_eq!(rt; writer.taken.len(), room);
-        assert!(rt; replies.starts_with(&writer.taken), "at {room}");
+        ends_at_a_write_fault(&rt, one_by_one, room, treated);
+        ends_at_a_write_fault(&rt, LINES.as_bytes(), room, 3);
     }
 }
