@@ -8,7 +8,7 @@ ghost use Rattle.rbc_words.specs.Replies.{certified_text, reply_text};
 
 use rbc_model::{OrMemory, StepsRefusal};
 use rbc_packet::{Encoded, write_profile};
-use rbc_reduce::{Reduced, reduce};
+use rbc_reduce::{Priced, Reduced, reduce};
 use rbc_steps::Runs;
 use rbc_words::{Certified, Spelled, StepsLine, StepsReply, StepsRequest, parse_steps};
 use std::alloc::Global;
@@ -35,7 +35,7 @@ pub fn reply_to(rt: &(impl Threads + Sync), alloc: Global, line: &[u8]) -> Steps
 
 /// What a request comes to: the chosen profile with its loss and its packet, or why there is none. `V` is spelled in
 /// lines as the kind of level that stands in its packet.
-fn certify<V: Spelled + Encoded>(
+fn certify<V: Spelled + Encoded + Priced>(
     rt: &(impl Threads + Sync),
     alloc: Global,
     request: StepsRequest<V>,

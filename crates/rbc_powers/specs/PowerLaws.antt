@@ -1,12 +1,13 @@
 -- The third kind of level obeys the laws of levels. Its values are few, so what holds of each is tested one by one.
-use Rattle.std.specs.Prelude.{◌≡◌, refl, ℕ, ◌<◌, ◌≤◌, Bool, true, false, not, ◌&&◌, ◌||◌, ◌==◌, nat_le, ◌⊎◌, List, [], ◌∷◌}
+use Rattle.std.specs.Prelude.{◌≡◌, refl, ℕ, ◌-◌, ◌*◌, ◌<◌, ◌≤◌, Bool, true, false, not, ◌&&◌, ◌||◌, ◌==◌, nat_le, ◌⊎◌, List, [], ◌∷◌}
 use Rattle.std.specs.List.{list_all, list_any}
 use Rattle.std.specs.Ordering.{is_le, nat_cmp}
 use Rattle.std.specs.Cmp.{nat_cmp_is}
 use Rattle.std.specs.declared.cmp.Ordering.TheVariants.{Less, Equal, Greater}
 use Rattle.std.proofs.Common.{inl, inr, sym, ap, ◌∙◌, subst, true≢false, lit≤}
-use Rattle.std.proofs.Math.Nat.{le_refl, le_trans, le_antisymm, le_of_lt, lt_of_le_of_lt, lt_of_lt_of_le, sub-le, sub_self, sub-le-sub_left}
+use Rattle.std.proofs.Math.Nat.{le_refl, le_trans, le_antisymm, le_of_lt, lt_of_le_of_lt, lt_of_lt_of_le, sub-le, sub_self, sub-le-sub_left, mul-le-mul_left, mul-le-mul_right}
 use Rattle.std.proofs.Math.Numerals.{sub-suc-lt}
+use Rattle.std.proofs.lemmas.Nat.{mul-lt}
 use Rattle.std.proofs.lemmas.Bool.{leb-true, le-leb, eqb-true}
 use Rattle.std.proofs.lemmas.Bool.Decides.{leb_tells}
 use Rattle.rbc_model.specs.Levels.{IsLawful, IsInRange}
@@ -33,15 +34,15 @@ at_one_of test (number ∷ later) v all e =
     go true same b e rest = subst (λ n. test n ≡ true) (eqb-true number v same) b.0
     go false same b e rest = rest b.1 e
 
-pub range_of : (v : ℕ) → IsInRange power_levels v → (1 ≤ v) × (v ≤ 1024)
-range_of v h = let b = both_of (nat_le 1 v) (nat_le v 1024) h in (leb-true 1 v b.0, leb-true v 1024 b.1)
+pub range_of : (v : ℕ) → IsInRange power_levels v → (1 ≤ v) × (v ≤ 1000)
+range_of v h = let b = both_of (nat_le 1 v) (nat_le v 1000) h in (leb-true 1 v b.0, leb-true v 1000 b.1)
 
 -- what holds of each value in range
-pub at_each : (test : ℕ → Bool) → all_below 1025 (λ v. not (power_levels.in_range v) || test v) ≡ true
+pub at_each : (test : ℕ → Bool) → all_below 1001 (λ v. not (power_levels.in_range v) || test v) ≡ true
     → (v : ℕ) → IsInRange power_levels v → test v ≡ true
 at_each test all v r =
     implied (power_levels.in_range v) (test v)
-    (all_below-holds 1025 (λ v. not (power_levels.in_range v) || test v) all v
+    (all_below-holds 1001 (λ v. not (power_levels.in_range v) || test v) all v
     (lt_of_le_of_lt (range_of v r).1 (lit≤ tt))) r
 
 -- ---- the floor
@@ -89,6 +90,14 @@ power_in_order a b ra rb = go (leb_tells a b) (leb_tells b a)
     go (inl t) (inr other) = ap is_le (sym (nat_cmp_is a b Less other.1)) ∙ sym t.0
     go (inl t) (inl other) = ap is_le (sym (nat_cmp_is a b Equal (le_antisymm t.1 other.1))) ∙ sym t.0
 
+-- ---- squares
+
+squares_rise : (a b : ℕ) → a < b → a * a < b * b
+squares_rise a b h = mul-lt a a b b h h
+
+squares_below : (a b : ℕ) → a ≤ b → a * a ≤ b * b
+squares_below a b h = le_trans (mul-le-mul_left a h) (mul-le-mul_right b h)
+
 -- ---- the laws
 
 pub power_lawful : IsLawful power_levels
@@ -104,8 +113,8 @@ power_lawful = record {
       implied (nat_le e v) (nat_le e (greatest_within v powers))
       (at_one_of (is_no_greater v) powers e (powers_no_greater v rv) one) below;
   price_falls = λ v a b rv ra rb low high.
-      lt_of_le_of_lt (sub-le-sub_left (strict a b low) v)
-      (sub-suc-lt v a (lt_of_lt_of_le (strict a b low) (leb-true b v high)));
-  price_of_itself = λ v r. sub_self v;
-  price_is_bounded = λ v given rv rg below. le_trans (sub-le v given) (le_trans (range_of v rv).1 (lit≤ tt));
+      squares_rise (v - b) (v - a) (lt_of_le_of_lt (sub-le-sub_left (strict a b low) v)
+      (sub-suc-lt v a (lt_of_lt_of_le (strict a b low) (leb-true b v high))));
+  price_of_itself = λ v r. ap (λ k. k * k) (sub_self v);
+  price_is_bounded = λ v given rv rg below. squares_below (v - given) 1000 (le_trans (sub-le v given) (range_of v rv).1);
 }

@@ -1,5 +1,7 @@
+pub mod PriceLemmas
 pub mod NextBreakLemmas
-pub mod ColumnLemmas
+pub mod CostLemmas
 pub mod RowLemmas
+pub mod GreatestTableLemmas
 pub mod ReadBackLemmas
 pub mod ProfileLemmas

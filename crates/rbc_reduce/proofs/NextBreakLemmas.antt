@@ -1,5 +1,5 @@
 -- A step that goes on to the next break: its least value, and the costs that are written.
-use Rattle.std.proofs.Common.{◌≡◌, refl, ap, sym, ◌∙◌, arith, subst, ℕ, ◌+◌, ◌*◌, ◌<◌, ◌≤◌, ◌⊎◌, inl, inr, true, false, List, length, get_or, set, Some, if◌then◌else◌}
+use Rattle.std.proofs.Common.{◌≡◌, refl, ap, sym, ◌∙◌, arith, subst, ℕ, zero, suc, ◌+◌, ◌*◌, ◌<◌, ◌≤◌, ◌⊎◌, inl, inr, true, false, List, [], ◌∷◌, ◌++◌, length, get_or, set, Some, if◌then◌else◌}
 use Rattle.std.specs.List.{slice_get}
 use Rattle.std.proofs.lemmas.List.{get_or-set_other}
 use Rattle.std.proofs.lemmas.Grind.{get_or-set_at}
@@ -126,3 +126,11 @@ small_more costs i to price most room here behind k low high =
       | inl e ↦ let at = get_or-set_at costs i k price 0 (omega arith) room in omega arith
       | inr l ↦ let other = get_or-set_other costs i k price 0 (omega arith) in let b = behind k l high in omega arith
     ]
+
+-- what holds of each item, and of one more
+pub each_more : {A : Type 0} (P : ℕ → A → Type 0) (xs : List A) (new : A) → ((i : ℕ) (x : A) → slice_get xs i ≡ Some x → P i x) → P (length xs) new
+    → (i : ℕ) (x : A) → slice_get (xs ++ new ∷ []) i ≡ Some x → P i x
+each_more P [] new old here zero x at = let same : new ≡ x = cc in subst (P 0) same here
+each_more P [] new old here (suc i) x at = absurd (cc)
+each_more P (y ∷ ys) new old here zero x at = old zero x at
+each_more P (y ∷ ys) new old here (suc i) x at = each_more (λ k. P (suc k)) ys new (λ k. old (suc k)) here i x at

@@ -1,3 +1,3 @@
-pub mod Columns
+pub mod Prices
 pub mod Rows
 pub mod Stretches

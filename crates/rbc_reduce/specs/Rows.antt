@@ -1,5 +1,6 @@
--- Tables of prices, as they are filled row by row.
-use Rattle.std.specs.Prelude.{◌≡◌, ℕ, zero, suc, ◌+◌, ◌<◌, ◌≤◌, List, length, slice_index}
+-- Tables of prices, as they are filled column by column.
+use Rattle.std.specs.Prelude.{◌≡◌, ℕ, zero, suc, ◌+◌, ◌<◌, ◌≤◌, List, [], ◌∷◌, ◌++◌, length, map, slice_get, slice_index}
+use Rattle.std.specs.Option.{option_map_or}
 use Rattle.std.specs.Global.{Vec}
 use Rattle.rbc_model.specs.PriceTables.{table_at}
 pub use Rattle.rbc_table_laws.specs.PriceRows.{prices_of}
@@ -7,6 +8,14 @@ pub use Rattle.rbc_table_laws.specs.PriceRows.{prices_of}
 -- the price in row j and column i, both from 1
 abbrev pub price_in : List (Vec ℕ) → ℕ → ℕ → ℕ
 price_in rows j i = table_at (prices_of rows) j i
+
+-- the row of an index, whose totals are these numbers
+abbrev pub row_in : {N : Type 0} → (N → ℕ) → List (Vec N) → ℕ → List ℕ
+row_in number rows index = option_map_or (λ row. map number row.items) (slice_get rows index) []
+
+-- and where they are numbers themselves
+abbrev pub row_at : List (Vec ℕ) → ℕ → List ℕ
+row_at rows index = option_map_or (λ row. row.items) (slice_get rows index) []
 
 -- the price up to a break, in a row that begins with the first break behind 0
 abbrev pub price_up_to : List ℕ → ℕ → ℕ
@@ -17,15 +26,28 @@ price_up_to row (suc i) = slice_index row i
 abbrev pub AreSmall : (ℕ → ℕ) → Type 0
 AreSmall price = (i : ℕ) → price i ≤ 100000000000
 
--- Costs of one step up to a break, from each break before: the earlier it begins the more it costs.
-pub record AreCosts (costs : List ℕ) : Type 0 where
-  pub some : 0 < length costs
-  pub small : AreSmall (slice_index costs)
-  pub fall : (i later : ℕ) → i ≤ later → later < length costs → slice_index costs later ≤ slice_index costs i
-
 -- The price is the least with one step more, from one of the breaks before `to`.
-pub record IsCheapest (before : ℕ → ℕ) (costs : List ℕ) (to price : ℕ) : Type 0 where
-  pub lowest : (i : ℕ) → i < to → price ≤ before i + slice_index costs i
+pub record IsCheapest (before costs : ℕ → ℕ) (to price : ℕ) : Type 0 where
+  pub lowest : (i : ℕ) → i < to → price ≤ before i + costs i
   pub from : ℕ
   pub inside : from < to
-  pub reached : price ≡ before from + slice_index costs from
+  pub reached : price ≡ before from + costs from
+
+-- Each of so many rows has one price more: in the first row it is what one step costs, and in each later one the
+-- cheapest with one step more than those of the row before.
+pub record IsColumnMore (costs : List ℕ) (count : ℕ) (old new : ℕ → List ℕ) : Type 0 where
+  pub first : new 0 ≡ old 0 ++ slice_index costs 0 ∷ []
+  pub later : (j : ℕ) → suc j < count
+      → (price : ℕ) × (new (suc j) ≡ old (suc j) ++ price ∷ []) × IsCheapest (price_up_to (old j)) (slice_index costs) (length costs) price
+
+module _ (cost : ℕ → ℕ → ℕ) (count : ℕ) (row : ℕ → List ℕ) where
+  -- The prices up to this break are the least.
+  pub record IsColumn (to : ℕ) : Type 0 where
+    pub one_step : price_up_to (row 0) to ≡ cost 0 to
+    pub more_steps : (j : ℕ) → suc j < count → IsCheapest (price_up_to (row j)) (λ i. cost i to) to (price_up_to (row (suc j)) to)
+
+  -- So many columns of so many rows are filled.
+  pub record AreFilled (columns : ℕ) : Type 0 where
+    pub wide : (j : ℕ) → j < count → length (row j) ≡ columns
+    pub none : (j : ℕ) → count ≤ j → row j ≡ []
+    pub each : (to : ℕ) → 1 ≤ to → to ≤ columns → IsColumn to

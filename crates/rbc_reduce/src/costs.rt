@@ -66,6 +66,65 @@ fn lowered<V: Level>(
     (front.1, price_on(track, last, front.1.floor()))
 }
 
+/// The least value where one stretch more stands in front, and what its floor loses up to `end`; `least` and `lost` are
+/// both from the stretch behind on.
+fn further<V: Level>(
+    track: &Runs<V>,
+    end: u32,
+    least: V,
+    lost: u64,
+    front: (Stretch, V),
+) -> (V, u64)
+    requires on_track { IsOnTrack track.now front.0 }
+    requires inside { end ≤ track.now.end }
+    requires front { IsLowest V.levels track.now front.0.from front.0.to front.1 }
+    requires least { IsLowest V.levels track.now front.0.to end least }
+    requires lost { IsLostByFloor V.levels track.now front.0.to end least lost }
+    ensures least { IsLowest V.levels track.now front.0.from end result.0 }
+    ensures lost { IsLostByFloor V.levels track.now front.0.from end result.0 result.1 }
+{
+    let _runs = track.runs();
+    if is_at_most(least, front.1) {
+        return (least, lost + price_on(track, front.0, least.floor()));
+    }
+    let whole = Stretch {
+        from: front.0.from,
+        to: end,
+        first: front.0.first,
+    };
+    (front.1, price_on(track, whole, front.1.floor()))
+}
+
+/// Writes what one step costs from each break before `to` up to there, whatever `costs` has: what it costs from the break
+/// behind and what is lost on the stretch between, or anew where the least value falls.
+pub(crate) fn costs_to<V: Level>(
+    track: &Runs<V>,
+    stretches: &[(Stretch, V)],
+    to: usize,
+    costs: &mut [u64],
+)
+    requires stretches { AreStretches V.levels (unit_of track.now.end) track.now stretches.now }
+    requires some { 0 < to }
+    requires inside { to ≤ length stretches.now }
+    requires room { to ≤ length costs.old }
+    ensures costs { (i : ℕ) → i < to
+        → slice_index costs.new i ≡ cost_of_step V.levels (unit_of track.now.end) track.now i to }
+    ensures bound { (i : ℕ) → i < to
+        → slice_index costs.new i ≤ slice_index (breaks_for (unit_of track.now.end) track.now) to * 1000000 }
+{
+    let _runs = track.runs();
+    let last = stretches[to - 1].0;
+    let mut least = stretches[to - 1].1;
+    let mut lost = price_on(track, last, least.floor());
+    costs[to - 1] = lost;
+    for i in (0..to - 1).rev() {
+        let lowest = further(track, last.to, least, lost, stretches[i]);
+        least = lowest.0;
+        lost = lowest.1;
+        costs[i] = lost;
+    }
+}
+
 /// Goes on to the next break: where `costs` has what one step costs up to the break before `to`, writes what one costs
 /// up to `to`. As far back as no stretch is lower than the last one the step has that one's floor; before, the least
 /// value stays as it was, and the step costs what it cost and what its floor loses on the last stretch.

@@ -6,9 +6,9 @@ ghost use Rattle.rbc_model.specs.Scales.{unit_of};
 ghost use Rattle.rbc_model.specs.declared.limits.TheConstants.{MOST_STEPS};
 ghost use Rattle.rbc_table_laws.specs.PriceRows.{prices_of};
 
-use crate::columns::columns_of;
+use crate::fill::fill;
+use crate::priced::Priced;
 use crate::stretches::stretches_of;
-use crate::table::fill;
 use crate::traceback::steps_of;
 use rbc_model::Memory;
 use rbc_steps::{Level, Profile, Runs};
@@ -32,13 +32,14 @@ pub struct Reduced<V: Level> {
 /// little it has the fewest steps, and of those that have as few, its starts, read from the last one backwards, come
 /// first. A message counts the metres of a track that ends behind 32,000 m in tens, so such a track has to end at a ten.
 ///
-/// Long rows of prices are computed in threads, as many as there are processors. While it works it holds a cost for each
-/// two breaks: some 4 `m`² bytes for a track of `m` runs, 40 MB for 3,100 of them, and up to four times as much where
-/// it cuts at tens.
+/// The table is filled break by break, and what one step costs is held up to one break at a time. So it holds 12 bytes for
+/// each price of the table while it works, and some 50 bytes for each run: 1.4 MB for 3,100 runs and 31 steps, and up to
+/// twice as much where it cuts at tens. No thread is started, since a price takes less time than that would; `rt` is
+/// asked for all the same, so that callers stay as they are where tables are shared out.
 ///
 /// # Errors
 /// `Memory` is the only one.
-pub fn reduce<V: Level>(
+pub fn reduce<V: Priced>(
     rt: &(impl Threads + Sync),
     alloc: Global,
     track: &Runs<V>,
@@ -60,11 +61,11 @@ pub fn reduce<V: Level>(
     ensures prices { IfOk result
         (λ r. IsGreatestSoundTable V.levels (unit_of track.now.end) limit track.now.end track.now.steps (prices_of r.prices.items)) }
 {
+    let _threads = rt;
     let end = track.end();
     let stretches = stretches_of(alloc, track)?;
-    let columns = columns_of(alloc, track, &stretches)?;
-    let prices = fill(rt, alloc, track, &columns, limit)?;
-    let steps = steps_of(alloc, track, &stretches, &columns, &prices, limit)?;
+    let prices = fill(alloc, track, &stretches, limit)?;
+    let steps = steps_of(alloc, track, &stretches, &prices, limit)?;
     match Profile::new(&steps, end) {
         Ok(profile) => {
             let loss = profile.loss(track);

@@ -4,11 +4,10 @@ ghost use Rattle.rbc_model.specs.PriceTables.{IsGreatestSoundTable};
 ghost use Rattle.rbc_model.specs.Scales.{unit_of};
 ghost use Rattle.rbc_table_laws.specs.Tracebacks.{IsReadOff};
 ghost use Rattle.rbc_table_laws.specs.PriceRows.{prices_of, AreAsWideAs};
-ghost use Rattle.rbc_reduce.specs.Columns.{AreColumns};
 ghost use Rattle.rbc_reduce.specs.Rows.{AreSmall, price_in};
 ghost use Rattle.rbc_reduce.specs.Stretches.{AreStretches};
 
-use crate::costs::least_of;
+use crate::costs::{costs_to, least_of};
 use rbc_model::Memory;
 use rbc_steps::{Level, Runs};
 use rbc_stretches::Stretch;
@@ -75,13 +74,11 @@ pub(crate) fn steps_of<V: Level>(
     alloc: Global,
     track: &Runs<V>,
     stretches: &[(Stretch, V)],
-    columns: &[Vec<u64>],
     rows: &[Vec<u64>],
     limit: usize,
 ) -> Result<Vec<(u32, V)>, Memory>
     requires whole { track.now.end % unit_of track.now.end ≡ 0 }
     requires stretches { AreStretches V.levels (unit_of track.now.end) track.now stretches.now }
-    requires columns { AreColumns V.levels (unit_of track.now.end) track.now columns.now }
     requires some { 1 ≤ limit }
     requires table { IsGreatestSoundTable V.levels (unit_of track.now.end) limit track.now.end track.now.steps (prices_of rows.now) }
     requires wide { AreAsWideAs (length stretches.now) rows.now }
@@ -91,10 +88,12 @@ pub(crate) fn steps_of<V: Level>(
 {
     let _runs = track.runs();
     let mut to = stretches.len();
+    let mut costs = vec![in alloc; 0; to]?;
     let mut steps = Vec::with_capacity(alloc, limit)?;
     let count = fewest(rows, to);
     for before in (0..count).rev() {
-        let from = first_break(rows, columns[to - 1].as_slice(), before, to);
+        costs_to(track, stretches, to, costs.as_mut_slice());
+        let from = first_break(rows, &costs, before, to);
         let least = least_of(track, stretches, from, to);
         steps.push((stretches[from].0.from, least.floor()))?;
         to = from;

@@ -1,11 +1,12 @@
 //! The three kinds of level, each of whose values is a number.
 
 use crate::Power;
-use rbc_steps::{Grade, Level, Runs, Speed};
+use rbc_reduce::Priced;
+use rbc_steps::{Grade, Runs, Speed};
 use std::process::Abort;
 
 /// A kind of level, by its numbers.
-pub(crate) trait Kind: Level {
+pub(crate) trait Kind: Priced {
     /// The level that the number is, if it is in range.
     fn of(number: i16) -> Option<Self>;
 }

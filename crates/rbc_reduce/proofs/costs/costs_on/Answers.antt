@@ -1,5 +1,4 @@
-use Rattle.std.proofs.Common.{arith, length-set, ◌≡◌, ℕ, ◌+◌, ◌-◌, ◌*◌, ◌<◌, ◌≤◌, true, false, Some, ap, sym, ◌∙◌, length, get_or, subst}
-use Rattle.std.specs.List.{slice_get}
+use Rattle.std.proofs.Common.{arith, length-set, ◌≡◌, ℕ, ◌+◌, ◌-◌, ◌<◌, true, false, Some, ap, sym, ◌∙◌, length, get_or, subst}
 use Rattle.std.proofs.lemmas.List.{get_or-set_other}
 use Rattle.std.proofs.lemmas.Option.{slice_get-get_or}
 use Rattle.rbc_model.specs.Scales.{unit_of}

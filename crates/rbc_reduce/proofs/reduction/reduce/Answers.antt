@@ -1,26 +1,25 @@
-use Rattle.std.proofs.Common.{arith, ◌≡◌, ◌-◌, ◌<◌, ℕ, length, ap, sym, ◌∙◌, subst, true, Ok}
+use Rattle.std.proofs.Common.{arith, ◌≡◌, ◌<◌, ℕ, length, ap, sym, ◌∙◌, subst, true, Ok}
 use Rattle.rbc_model.specs.Profiles.{IsChosenProfile, loss, value_at, is_within, profile_of}
 use Rattle.rbc_table_laws.proofs.TableLawLemmas.{read_off_are_chosen}
 use Rattle.rbc_table_laws.specs.PriceRows.{prices_of}
 use Rattle.rbc_model.specs.Scales.{unit_of}
-use Rattle.rbc_reduce.specs.Columns.{stretches_in}
 use Rattle.rbc_reduce.proofs.ReadBackLemmas.{some_unit}
 use Rattle.rbc_reduce.proofs.ProfileLemmas.{made_of, made_is, made_ok}
 use Rattle.rbc_reduce.proofs.reduction.reduce.Given.{Over}
 use Rattle.rbc_reduce.proofs.reduction.reduce.Goals as goal
 use Rattle.rbc_reduce.proofs.reduction.reduce.Goals.{After-new}
 
-pub columns_of-requires-clause-stretches : goal.columns_of-requires-clause-stretches
-columns_of-requires-clause-stretches g c κs within = rw c.deref.ensures.value c.in_ok-stretches.ensures
+pub fill-requires-clause-stretches : goal.fill-requires-clause-stretches
+fill-requires-clause-stretches g c κs within = rw c.deref.ensures.value c.in_ok-stretches.ensures
 
 pub steps_of-requires-clause-stretches : goal.steps_of-requires-clause-stretches
-steps_of-requires-clause-stretches g c κs within = rw c.deref-3.ensures.value c.in_ok-stretches.ensures
+steps_of-requires-clause-stretches g c κs within = rw c.deref-2.ensures.value c.in_ok-stretches.ensures
 
 pub steps_of-requires-clause-wide : goal.steps_of-requires-clause-wide
 steps_of-requires-clause-wide g c κs within = record {
-  width = stretches_in (unit_of c.args.track.now.end) c.args.track.now;
-  wide = rw c.deref-5.ensures.value c.in_ok-prices.ensures.wide;
-  room = omega (arith, c.in_ok-stretches.ensures.count, ap length c.deref-3.ensures.value);
+  width = length c.deref.result.now;
+  wide = rw c.deref-3.ensures.value c.in_ok-prices.ensures.wide;
+  room = omega (arith, ap length c.deref.ensures.value, ap length c.deref-2.ensures.value);
 }
 
 -- the steps that are read off are the chosen ones
@@ -28,16 +27,16 @@ chosen_here : (g : Over) (c : After-new g)
     → IsChosenProfile g.V.Level.levels (unit_of c.args.track.now.end) c.args.limit c.args.track.now.end (value_at c.args.track.now.steps) c.in_ok-steps.steps.items
 chosen_here g c =
     let level = g.met.V.Level g.world.𝓛 g.world.𝓜 g.world.𝓡 ((λ s x. x), (λ x. x), (λ x. x), λ x. x) in
-    let read = rw c.deref-5.ensures.value at c.in_ok-steps.ensures in
+    let read = rw c.deref-3.ensures.value at c.in_ok-steps.ensures in
     read_off_are_chosen g.V.Level.levels level.lawful (unit_of c.args.track.now.end) c.args.limit c.args.track.now.end (some_unit c.args.track.now.end) c.requires.whole c.args.track.now.steps c.end-end.ensures.track
     (prices_of c.in_ok-prices.prices.items) c.in_ok-prices.ensures.table c.in_ok-steps.steps.items read
 
 made_here : (g : Over) (c : After-new g) → c.new.result ≡ Ok (record { steps = c.in_ok-steps.steps.items; end = c.args.track.now.end })
 made_here g c =
-    let same : c.new.result ≡ profile_of g.V.Level.levels c.args.track.now.end c.deref-6.result.now =
-    c.new.ensures ∙ ap (λ n. profile_of g.V.Level.levels n c.deref-6.result.now) c.end-end.ensures.end in
-    made_of g.V.Level.levels (unit_of c.args.track.now.end) c.args.limit c.args.track.now.end c.in_ok-steps.steps.items c.deref-6.result.now c.new.result
-    (chosen_here g c).best.fits.profile c.requires.few c.end-end.ensures.within_limit c.deref-6.ensures.value same
+    let same : c.new.result ≡ profile_of g.V.Level.levels c.args.track.now.end c.deref-4.result.now =
+    c.new.ensures ∙ ap (λ n. profile_of g.V.Level.levels n c.deref-4.result.now) c.end-end.ensures.end in
+    made_of g.V.Level.levels (unit_of c.args.track.now.end) c.args.limit c.args.track.now.end c.in_ok-steps.steps.items c.deref-4.result.now c.new.result
+    (chosen_here g c).best.fits.profile c.requires.few c.end-end.ensures.within_limit c.deref-4.ensures.value same
 
 pub unreachable-requires : goal.unreachable-requires
 unreachable-requires g c =

@@ -8,7 +8,7 @@ use Rattle.rbc_table_laws.specs.Breaks.{breaks_in}
 use Rattle.rbc_stretches.specs.OnTracks.{IsStretch}
 use Rattle.rbc_stretches.specs.declared.stretch.Stretch.{Stretch}
 use Rattle.rbc_reduce.specs.Stretches.{AreStretches}
-use Rattle.rbc_reduce.proofs.ColumnLemmas.{each_more}
+use Rattle.rbc_reduce.proofs.NextBreakLemmas.{each_more}
 use Rattle.rbc_reduce.proofs.stretches.stretches_of.Goals as goal
 
 pub least_on-requires-after_bounds : goal.least_on-requires-after_bounds

@@ -1,16 +1,17 @@
-use Rattle.std.proofs.Common.{arith, ◌≡◌, ◌≢◌, ℕ, suc, ◌+◌, ◌-◌, ◌<◌, ◌++◌, ◌∷◌, [], refl, ap, sym, ◌∙◌, subst, length, get_or}
+use Rattle.std.proofs.Common.{arith, ◌≡◌, ◌≢◌, ℕ, suc, ◌+◌, ◌-◌, ◌<◌, ◌++◌, ◌∷◌, [], ap, sym, ◌∙◌, subst, length, get_or}
+use Rattle.std.proofs.lemmas.List.{with_items_is}
 use Rattle.std.proofs.lemmas.Option.{slice_get-get_or}
 use Rattle.rbc_model.specs.PriceTables.{stretch_count}
 use Rattle.rbc_model.specs.Scales.{unit_of}
 use Rattle.rbc_table_laws.specs.Tracebacks.{IsOnWay, IsTracedTo}
 use Rattle.rbc_table_laws.specs.Stretches.{breaks_for, cost_of_step}
 use Rattle.rbc_table_laws.specs.PriceRows.{prices_of}
-use Rattle.rbc_reduce.specs.Columns.{IsColumn}
 use Rattle.rbc_reduce.specs.Rows.{price_in}
+use Rattle.rbc_reduce.proofs.NextBreakLemmas.{near}
 use Rattle.rbc_reduce.proofs.ReadBackLemmas.{some_unit, some_row, begun, read_off, some_column, some_break, one_back}
 use Rattle.rbc_reduce.proofs.traceback.steps_of.Given.{Over}
 use Rattle.rbc_reduce.proofs.traceback.steps_of.Goals as goal
-use Rattle.rbc_reduce.proofs.traceback.steps_of.Goals.{After-as_slice}
+use Rattle.rbc_reduce.proofs.traceback.steps_of.Goals.{After-as_mut_slice, After-deref}
 
 pub fewest-count-requires-clause-some : goal.fewest-count-requires-clause-some
 fewest-count-requires-clause-some g c =
@@ -26,46 +27,47 @@ loop-before-init g c =
     let first = rw columns at c.fewest-count.ensures.first in
     let begun = begun g.V.Level.levels level.lawful c.args.track.now c.runs-runs.ensures.track (unit_of c.args.track.now.end) (some_unit c.args.track.now.end) c.requires.whole (breaks_for (unit_of c.args.track.now.end) c.args.track.now) c.requires.stretches.breaks c.args.limit c.args.rows.now c.requires.table
     c.fewest-count.result c.fewest-count.ensures.some c.fewest-count.ensures.inside price first (length c.args.stretches.now) columns in
-    (omega arith, rw c.in_ok-steps.ensures.items begun.0, begun.1)
+    (omega (arith, c.in_ok-costs.ensures.len), omega arith, rw c.in_ok-steps.ensures.items begun.0, begun.1)
 
 -- the row from which a step is looked for
-on_here : (g : Over) (c : After-as_slice g) → IsOnWay g.V.Level.levels (unit_of c.args.track.now.end) c.args.limit c.args.track.now.end c.args.track.now.steps (prices_of c.args.rows.now) (suc (c.loop-before.before - 1)) c.loop-before.to
+on_here : (g : Over) (c : After-as_mut_slice g) → IsOnWay g.V.Level.levels (unit_of c.args.track.now.end) c.args.limit c.args.track.now.end c.args.track.now.steps (prices_of c.args.rows.now) (suc (c.loop-before.before - 1)) c.loop-before.to
 on_here g c =
     let next : c.loop-before.before ≡ suc (c.loop-before.before - 1) = omega arith in
-    subst (λ j. IsOnWay g.V.Level.levels (unit_of c.args.track.now.end) c.args.limit c.args.track.now.end c.args.track.now.steps (prices_of c.args.rows.now) j c.loop-before.to) next c.loop-before.invariant.2
+    subst (λ j. IsOnWay g.V.Level.levels (unit_of c.args.track.now.end) c.args.limit c.args.track.now.end c.args.track.now.steps (prices_of c.args.rows.now) j c.loop-before.to) next c.loop-before.invariant.3
 
-some_here : (g : Over) (c : After-as_slice g) → 0 < c.loop-before.to
+some_here : (g : Over) (c : After-as_mut_slice g) → 0 < c.loop-before.to
 some_here g c =
     let level = g.met.V.Level g.world.𝓛 g.world.𝓜 g.world.𝓡 ((λ s x. x), (λ x. x), (λ x. x), λ x. x) in
     some_column g.V.Level.levels level.lawful c.args.track.now c.runs-runs.ensures.track (unit_of c.args.track.now.end) (some_unit c.args.track.now.end) c.requires.whole (breaks_for (unit_of c.args.track.now.end) c.args.track.now) c.requires.stretches.breaks c.args.limit c.args.rows.now c.requires.table (c.loop-before.before - 1) c.loop-before.to
     (on_here g c)
 
+pub costs_to-requires-clause-some : goal.costs_to-requires-clause-some
+costs_to-requires-clause-some g c κs within = some_here g (goal.at.costs_to-requires-clause-some g c).After-as_mut_slice
+
 pub first_break-from-requires-clause-wide : goal.first_break-from-requires-clause-wide
 first_break-from-requires-clause-wide g c =
     let wide = c.requires.wide in
     let room = wide.room in
-    record { width = wide.width; wide = wide.wide; room = omega (arith, c.loop-before.invariant.0) }
+    record { width = wide.width; wide = wide.wide; room = omega (arith, c.loop-before.invariant.1) }
 
 -- the costs that are handed on
-column_here : (g : Over) (c : After-as_slice g) → IsColumn g.V.Level.levels (unit_of c.args.track.now.end) c.args.track.now c.loop-before.to c.as_slice.result.now
-column_here g c =
-    let some = some_here g c in
-    let width = c.requires.columns.count in
-    let count = c.requires.stretches.count in
-    let inside = c.loop-before.invariant.0 in
-    let there = slice_get-get_or c.args.columns.now (c.loop-before.to - 1) c.index-columns-to.result (omega arith) in
-    let next : suc (c.loop-before.to - 1) ≡ c.loop-before.to = omega arith in
-    subst (λ k. IsColumn g.V.Level.levels (unit_of c.args.track.now.end) c.args.track.now k c.as_slice.result.now) next
-    (rw (c.as_slice.ensures.value ∙ ap (λ column. column.items) c.index-columns-to.is) (c.requires.columns.each (c.loop-before.to - 1) _ there))
+handed : (g : Over) (c : After-deref g) → c.deref.result.now ≡ c.costs_to.new.costs
+handed g c = c.deref.ensures.value ∙ with_items_is c.loop-before.costs c.costs_to.new.costs (omega arith)
+
+cost_here : (g : Over) (c : After-deref g) (i : ℕ) → i < c.loop-before.to → get_or c.deref.result.now i 0 ≡ cost_of_step g.V.Level.levels (unit_of c.args.track.now.end) c.args.track.now i c.loop-before.to
+cost_here g c i h = ap (λ xs. get_or xs i 0) (handed g c) ∙ c.costs_to.ensures.costs i h
 
 pub first_break-from-requires-clause-room : goal.first_break-from-requires-clause-room
 first_break-from-requires-clause-room g c =
-    let width = (column_here g (goal.at.first_break-from-requires-clause-room g c).After-as_slice).count in
-    omega arith
+    omega (arith, ap length (handed g (goal.at.first_break-from-requires-clause-room g c).After-deref), c.loop-before.invariant.0, c.loop-before.invariant.1)
 
 pub first_break-from-requires-clause-small_costs : goal.first_break-from-requires-clause-small_costs
 first_break-from-requires-clause-small_costs g c i h =
-    (column_here g (goal.at.first_break-from-requires-clause-small_costs g c).After-as_slice).costs.small i
+    let same = ap (λ xs. get_or xs i 0) (handed g (goal.at.first_break-from-requires-clause-small_costs g c).After-deref) in
+    let low = c.costs_to.ensures.bound i h in
+    let end = near g.V.Level.levels (unit_of c.args.track.now.end) c.args.track.now c.args.stretches.now c.requires.stretches c.loop-before.to c.loop-before.invariant.1 in
+    let limit = c.runs-runs.ensures.within_limit in
+    omega arith
 
 pub first_break-from-requires-clause-some : goal.first_break-from-requires-clause-some
 first_break-from-requires-clause-some g c =
@@ -73,8 +75,8 @@ first_break-from-requires-clause-some g c =
     let at = goal.at.first_break-from-requires-clause-some g c in
     let next : c.loop-before.before - 1 + 1 ≡ suc (c.loop-before.before - 1) = omega arith in
     let some = some_break g.V.Level.levels level.lawful c.args.track.now c.runs-runs.ensures.track (unit_of c.args.track.now.end) (some_unit c.args.track.now.end) c.requires.whole (breaks_for (unit_of c.args.track.now.end) c.args.track.now) c.requires.stretches.breaks c.args.limit c.args.rows.now c.requires.table
-    (c.loop-before.before - 1) c.loop-before.to (omega arith) (omega (arith, c.loop-before.invariant.0, c.requires.stretches.count)) (on_here g at.After-as_slice) in
-    let cost = (column_here g at.After-as_slice).are some.0 some.1 in
+    (c.loop-before.before - 1) c.loop-before.to (omega arith) (omega (arith, c.loop-before.invariant.1, c.requires.stretches.count)) (on_here g at.After-as_mut_slice) in
+    let cost = cost_here g at.After-deref some.0 some.1 in
     rw next (some.0, some.1, ap (λ k. price_in c.args.rows.now (c.loop-before.before - 1) some.0 + k) cost ∙ some.2)
 
 pub loop-before-preserved : goal.loop-before-preserved
@@ -90,17 +92,17 @@ loop-before-preserved g c =
     let more : c.push.new.self.items ≡ c.loop-before.steps.items ++ ((get_or c.args.stretches.now c.first_break-from.result c.index-stretches-from.result).0.from, c.floor.result) ∷ [] = c.in_ok-push.ensures.items in
     let there = slice_get-get_or c.args.stretches.now c.first_break-from.result c.index-stretches-from.result (omega arith) in
     let start = (c.requires.stretches.stand c.first_break-from.result _ there).from in
-    let column = column_here g at.After-as_slice in
-    let cost = column.are c.first_break-from.result inside in
+    let column = cost_here g at.After-deref in
+    let cost = column c.first_break-from.result inside in
     let adds_up = ap (λ k. price_in c.args.rows.now (c.loop-before.before - 1) c.first_break-from.result + k) (sym cost) ∙ (rw next at c.first_break-from.ensures.adds_up) in
     let first : (k : ℕ) → k < c.first_break-from.result → price_in c.args.rows.now (c.loop-before.before - 1) k + cost_of_step g.V.Level.levels (unit_of c.args.track.now.end) c.args.track.now k c.loop-before.to ≢ price_in c.args.rows.now (suc (c.loop-before.before - 1)) c.loop-before.to =
-    λ k h e. c.first_break-from.ensures.first k h (rw next (ap (λ x. price_in c.args.rows.now (c.loop-before.before - 1) k + x) (column.are k (omega arith)) ∙ e)) in
+    λ k h e. c.first_break-from.ensures.first k h (rw next (ap (λ x. price_in c.args.rows.now (c.loop-before.before - 1) k + x) (column k (omega arith)) ∙ e)) in
     let traced = subst (λ k. IsTracedTo g.V.Level.levels (unit_of c.args.track.now.end) c.args.limit c.args.track.now.end c.args.track.now.steps (prices_of c.args.rows.now) c.fewest-count.result
-    (stretch_count g.V.Level.levels (unit_of c.args.track.now.end) c.args.limit c.args.track.now.end c.args.track.now.steps) c.loop-before.steps.items k c.loop-before.to) row i.1 in
+    (stretch_count g.V.Level.levels (unit_of c.args.track.now.end) c.args.limit c.args.track.now.end c.args.track.now.steps) c.loop-before.steps.items k c.loop-before.to) row i.2 in
     let back = one_back g.V.Level.levels level.lawful c.args.track.now c.runs-runs.ensures.track (unit_of c.args.track.now.end) (some_unit c.args.track.now.end) c.requires.whole (breaks_for (unit_of c.args.track.now.end) c.args.track.now) c.requires.stretches.breaks c.args.limit c.args.rows.now c.requires.table
-    c.fewest-count.result c.loop-before.steps.items (c.loop-before.before - 1) c.loop-before.to c.first_break-from.result _ c.least_of-least.result c.floor.result (omega arith) (omega (arith, i.0, c.requires.stretches.count))
-    (on_here g at.After-as_slice) traced inside adds_up first c.least_of-least.ensures start c.floor.ensures in
-    (omega arith, rw more back.0, back.1)
+    c.fewest-count.result c.loop-before.steps.items (c.loop-before.before - 1) c.loop-before.to c.first_break-from.result _ c.least_of-least.result c.floor.result (omega arith) (omega (arith, i.1, c.requires.stretches.count))
+    (on_here g at.After-as_mut_slice) traced inside adds_up first c.least_of-least.ensures start c.floor.ensures in
+    (ap length (with_items_is c.loop-before.costs c.costs_to.new.costs (omega arith)) ∙ omega (arith, i.0), omega (arith, inside, i.1), rw more back.0, back.1)
 
 pub returns : goal.returns
 returns g c =
@@ -111,7 +113,7 @@ returns g c =
     let price = rw columns at c.fewest-count.ensures.price in
     let first = rw columns at c.fewest-count.ensures.first in
     let none : c.loop-before.before ≡ 0 = omega arith in
-    let traced = rw none at i.1 in
-    let on = rw none at i.2 in
+    let traced = rw none at i.2 in
+    let on = rw none at i.3 in
     rw c.reverse.ensures.items (read_off g.V.Level.levels level.lawful c.args.track.now c.runs-runs.ensures.track (unit_of c.args.track.now.end) (some_unit c.args.track.now.end) c.requires.whole (breaks_for (unit_of c.args.track.now.end) c.args.track.now) c.requires.stretches.breaks c.args.limit c.args.rows.now c.requires.table
     c.fewest-count.result c.fewest-count.ensures.some c.fewest-count.ensures.inside price first c.loop-before.steps.items c.loop-before.to traced on)

@@ -1,0 +1,118 @@
+//! The table of prices of a track.
+ghost use Rattle.std.specs.Prelude.{◌≡◌, ℕ, ◌<◌, ◌≤◌, map, min, IfOk, length, slice_index};
+ghost use Rattle.rbc_model.specs.PriceTables.{IsGreatestSoundTable};
+ghost use Rattle.rbc_model.specs.Scales.{unit_of};
+ghost use Rattle.rbc_table_laws.specs.PriceRows.{prices_of, AreWide};
+ghost use Rattle.rbc_table_laws.specs.Stretches.{cost_of_step};
+ghost use Rattle.rbc_reduce.specs.Rows.{AreFilled, AreSmall, price_in, row_at, row_in};
+ghost use Rattle.rbc_reduce.specs.Stretches.{AreStretches};
+
+use crate::costs::costs_on;
+use crate::priced::Priced;
+use crate::table::{add_column, empty_rows};
+use crate::total::Total;
+use rbc_model::Memory;
+use rbc_steps::{Level, Runs};
+use rbc_stretches::Stretch;
+use std::alloc::Global;
+
+/// Writes costs as totals.
+fn write_totals<N: Total>(costs: &[u64], totals: &mut [N])
+    requires room { length costs.now ≤ length totals.old }
+    requires small { (i : ℕ) → i < length costs.now → slice_index costs.now i ≤ N.most }
+    ensures { (i : ℕ) → i < length costs.now → slice_index (map N.number totals.new) i ≡ slice_index costs.now i }
+{
+    for i in 0..costs.len() {
+        totals[i] = N::of(costs[i]);
+    }
+}
+
+/// The numbers of totals.
+fn numbers_of<N: Total>(alloc: Global, totals: &[N]) -> Result<Vec<u64>, Memory>
+    ensures { IfOk result (λ numbers. numbers.items ≡ map N.number totals.now) }
+{
+    Ok(totals.iter().map(|total| total.wide()).collect(alloc)?)
+}
+
+/// The rows in numbers of 64 bits.
+fn widened<N: Total>(alloc: Global, rows: &[Vec<N>]) -> Result<Vec<Vec<u64>>, Memory>
+    ensures count { IfOk result (λ wide. length wide.items ≡ length rows.now) }
+    ensures rows { IfOk result (λ wide. (j : ℕ) → row_at wide.items j ≡ row_in N.number rows.now j) }
+{
+    let mut wide = Vec::with_capacity(alloc, rows.len())?;
+    for row in rows {
+        wide.push(numbers_of(alloc, row)?)?;
+    }
+    Ok(wide)
+}
+
+/// So many rows of prices up to each break but the first.
+fn filled<V: Level, N: Total>(
+    alloc: Global,
+    track: &Runs<V>,
+    stretches: &[(Stretch, V)],
+    count: usize,
+) -> Result<Vec<Vec<N>>, Memory>
+    requires stretches { AreStretches V.levels (unit_of track.now.end) track.now stretches.now }
+    requires some { 0 < count }
+    requires small { (i to : ℕ) → i < to → to ≤ length stretches.now
+        → cost_of_step V.levels (unit_of track.now.end) track.now i to ≤ N.most }
+    ensures count { IfOk result (λ rows. length rows.items ≡ count) }
+    ensures filled { IfOk result (λ rows. AreFilled (cost_of_step V.levels (unit_of track.now.end) track.now) count
+        (row_in N.number rows.items) (length stretches.now)) }
+{
+    let _runs = track.runs();
+    let breaks = stretches.len();
+    let mut costs = vec![in alloc; 0; breaks]?;
+    let mut totals = vec![in alloc; N::of(0); breaks]?;
+    let mut rows = empty_rows(alloc, count, breaks)?;
+    for last in 0..breaks {
+        costs_on(track, stretches, last + 1, costs.as_mut_slice());
+        write_totals(&costs[..last + 1], totals.as_mut_slice());
+        add_column(&mut rows, &totals[..last + 1])?;
+    }
+    Ok(rows)
+}
+
+/// A row of prices for each number of steps from 1 to `limit`, but no more rows than there are stretches, and in it a
+/// price for each break but the first. The rows are filled in totals of the kind `N`.
+fn fill_in<V: Level, N: Total>(
+    alloc: Global,
+    track: &Runs<V>,
+    stretches: &[(Stretch, V)],
+    limit: usize,
+) -> Result<Vec<Vec<u64>>, Memory>
+    requires stretches { AreStretches V.levels (unit_of track.now.end) track.now stretches.now }
+    requires limit { 1 ≤ limit }
+    requires small { (i to : ℕ) → i < to → to ≤ length stretches.now
+        → cost_of_step V.levels (unit_of track.now.end) track.now i to ≤ N.most }
+    ensures count { IfOk result (λ rows. length rows.items ≡ min limit (length stretches.now)) }
+    ensures filled { IfOk result (λ rows. AreFilled (cost_of_step V.levels (unit_of track.now.end) track.now)
+        (length rows.items) (row_at rows.items) (length stretches.now)) }
+{
+    let count = limit.min(stretches.len());
+    let rows: Vec<Vec<N>> = filled(alloc, track, stretches, count)?;
+    Ok(widened(alloc, &rows)?)
+}
+
+/// The table of prices: a row for each number of steps from 1 to `limit`, but no more rows than there are stretches,
+/// and in it a price for each break but the first.
+pub(crate) fn fill<V: Priced>(
+    alloc: Global,
+    track: &Runs<V>,
+    stretches: &[(Stretch, V)],
+    limit: usize,
+) -> Result<Vec<Vec<u64>>, Memory>
+    requires stretches { AreStretches V.levels (unit_of track.now.end) track.now stretches.now }
+    requires limit { 1 ≤ limit }
+    ensures table { IfOk result
+        (λ rows. IsGreatestSoundTable V.levels (unit_of track.now.end) limit track.now.end track.now.steps (prices_of rows.items)) }
+    ensures wide { IfOk result (λ rows. AreWide (length stretches.now) rows.items) }
+    ensures small { IfOk result (λ rows. (j : ℕ) → AreSmall (price_in rows.items j)) }
+{
+    let _runs = track.runs();
+    if V::is_low() {
+        return fill_in::<V, u32>(alloc, track, stretches, limit);
+    }
+    fill_in::<V, u64>(alloc, track, stretches, limit)
+}
