@@ -2,7 +2,7 @@
 use Rattle.std.proofs.Common.{◌≡◌, ℕ, suc, ◌+◌, ◌<◌, Bool, true, false, not, List, [], ◌∷◌, ◌++◌, length, take, drop, map, get_or, Option, Some, None, Result, Ok, Err, refl, sym, ap, ◌∙◌, add-one, append_assoc}
 use Rattle.std.specs.List.{list_any}
 use Rattle.std.proofs.Math.Seq.{drop-cons, take-suc}
-use Rattle.std.proofs.lemmas.List.{append-nil, map-append}
+use Rattle.std.proofs.lemmas.List.{append-nil, map-append, length-map}
 use Rattle.rbc_model.specs.Answers.{RefusesOrMemory}
 use Rattle.rbc_model.specs.declared.memory.OrMemory.{OrMemory}
 use Rattle.rbc_model.specs.declared.memory.OrMemory.TheVariants.{Refused, Memory}
@@ -81,3 +81,48 @@ judged_by_names eq name own twice bad earlier names x number listed counted =
     ap (λ n. entry_answer (not (list_any (λ other. eq other (name x)) names)) (twice n) (own x) (bad n)) counted
     ∙ ap (λ any. entry_answer (not any) (twice (length earlier + 1)) (own x) (bad (length earlier + 1))) (list_any-named (λ other. eq other (name x)) name names earlier listed)
     ∙ by_refusals (is_new eq name earlier x) (own x) (twice (length earlier + 1)) (bad (length earlier + 1))
+
+-- ---- the first refusal, entry by entry
+module _ {X : Type 0} (judge : List X → X → Option TrackRefusal) (total : Option TrackRefusal) (done rest later : List X) (x : X)
+    (split : rest ≡ x ∷ later) (so_far : first_refusal judge done rest ≡ total) where
+  next_first : option_or (judge done x) (first_refusal judge (done ++ x ∷ []) later) ≡ total
+  next_first = sym (ap (first_refusal judge done) split) ∙ so_far
+
+  here_first : (here after : Option TrackRefusal) (refusal : TrackRefusal) → unless {A = Unit {0}} here (Ok tt) ≡ Err refusal → option_or here after ≡ total
+      → unless {A = Unit {0}} total (Ok tt) ≡ Err refusal
+  here_first None after refusal e f = cc
+  here_first (Some other) after refusal e f = ap (λ o. unless {A = Unit {0}} o (Ok tt)) (sym f) ∙ e
+
+  -- the next entry's refusal is the first one
+  pub told_next : (refusal : TrackRefusal) → unless {A = Unit {0}} (judge done x) (Ok tt) ≡ Err refusal → unless {A = Unit {0}} total (Ok tt) ≡ Err refusal
+  told_next refusal here = here_first (judge done x) (first_refusal judge (done ++ x ∷ []) later) refusal here next_first
+
+  here_passed : (here after : Option TrackRefusal) → unless {A = Unit {0}} here (Ok tt) ≡ Ok tt → option_or here after ≡ total → after ≡ total
+  here_passed None after e f = f
+  here_passed (Some other) after e f = cc
+
+  -- the next entry is passed
+  pub passed_next : (new : List X) → new ≡ done ++ x ∷ [] → unless {A = Unit {0}} (judge done x) (Ok tt) ≡ Ok tt → first_refusal judge new later ≡ total
+  passed_next new grown here =
+      ap (λ l. first_refusal judge l later) grown ∙ here_passed (judge done x) (first_refusal judge (done ++ x ∷ []) later) here next_first
+
+-- none is left
+pub none_next : {X : Type 0} (judge : List X → X → Option TrackRefusal) (total : Option TrackRefusal) (done rest : List X) → rest ≡ [] → first_refusal judge done rest ≡ total
+    → unless {A = Unit {0}} total (Ok tt) ≡ Ok tt
+none_next judge total done rest empty so_far = ap (λ o. unless {A = Unit {0}} o (Ok tt)) (sym so_far ∙ ap (first_refusal judge done) empty)
+
+-- one more part is made
+pub made_joined : {P X : Type 0} (made : P → X) (parts : List P) (i : ℕ) (part : P) → i < length parts → part ≡ get_or parts i part → map made (take (i + 1) parts) ≡ map made (take i parts) ++ made part ∷ []
+made_joined made parts i part below is = ap (map made) (joined_at parts i part below is) ∙ map-append made (take i parts) (part ∷ [])
+
+-- a part is judged by the names of those before it
+pub judged_as_written : {P X N : Type 0} (eq : N → N → Bool) (name : X → N) (made : P → X) (own : X → Bool) (twice bad : ℕ → TrackRefusal) (done : List P) (part : P) (good : Bool)
+    → good ≡ own (made part)
+    → entry_answer (not (list_any (λ other. eq (name (made other)) (name (made part))) done)) (twice (length done + 1)) good (bad (length done + 1))
+    ≡ unless (option_or (refuse_unless (is_new eq name (map made done) (made part)) (twice (length (map made done) + 1))) (refuse_unless (own (made part)) (bad (length (map made done) + 1)))) (Ok tt)
+judged_as_written eq name made own twice bad done part good e =
+    ap (λ n. entry_answer (not (list_any (λ other. eq (name (made other)) (name (made part))) done)) (twice (n + 1)) good (bad (n + 1))) (sym (length-map done made))
+    ∙ ap (λ any. entry_answer (not any) (twice (length (map made done) + 1)) good (bad (length (map made done) + 1)))
+    (sym (list_any-named (λ other. eq (name other) (name (made part))) made (map made done) done refl))
+    ∙ ap (λ g. entry_answer (is_new eq name (map made done) (made part)) (twice (length (map made done) + 1)) g (bad (length (map made done) + 1))) e
+    ∙ by_refusals (is_new eq name (map made done) (made part)) (own (made part)) (twice (length (map made done) + 1)) (bad (length (map made done) + 1))

@@ -6,3 +6,4 @@ pub mod Making
 pub mod PartsView
 pub mod Sections
 pub mod Tables
+pub mod Written

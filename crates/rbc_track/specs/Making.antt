@@ -1,5 +1,8 @@
 -- How a track is made of parts: table by table, each entry judged by those before it. `TrackParts` says the same by the first refusal.
-use Rattle.std.specs.Prelude.{List, [], map, Result, Ok}
+use Rattle.std.specs.Prelude.{List, [], map, Option, Some, None, Result, Ok}
+use Rattle.std.specs.Option.{option_or}
+use Rattle.rbc_model.specs.declared.memory.OrMemory.{OrMemory}
+use Rattle.rbc_model.specs.declared.memory.OrMemory.TheVariants.{Refused, Memory}
 use Rattle.rbc_model.specs.declared.tracks.Link.{Link}
 use Rattle.rbc_model.specs.declared.tracks.BaliseGroup.{BaliseGroup}
 use Rattle.rbc_model.specs.declared.tracks.TrackRefusal.{TrackRefusal}
@@ -32,12 +35,33 @@ sound_routes sections links parts =
     let routes = map (route_of sections) parts in
     unless (first_refusal (route_refusal (with_links sections links)) [] routes) (Ok routes)
 
+-- the tables of links, groups and routes over these sections, or the first refusal
+unfoldable pub later_tables : List Section → List LinkPart → List GroupPart → List RoutePart → Result (List Link × List BaliseGroup × List Route) TrackRefusal
+later_tables sections link_parts group_parts route_parts = do
+  links ← sound_links sections link_parts
+  groups ← sound_groups sections group_parts
+  routes ← sound_routes sections links route_parts
+  Ok (links, groups, routes)
+
 -- the track that parts make, or the first refusal
 unfoldable pub made_of : Parts → Result Track TrackRefusal
 made_of parts = do
   sizes_of parts
   sections ← sound_sections parts.sections
-  links ← sound_links sections parts.links
-  groups ← sound_groups sections parts.groups
-  routes ← sound_routes sections links parts.routes
-  Ok (track_with parts.format parts.speed_steps parts.grade_steps sections links groups routes)
+  tables ← later_tables sections parts.links parts.groups parts.routes
+  Ok (track_with parts.format parts.speed_steps parts.grade_steps sections tables.0 tables.1 tables.2)
+
+-- the first refusal of the tables of parts that are few enough
+unfoldable pub tables_refusal : List Section → List LinkPart → List GroupPart → List RoutePart → Option TrackRefusal
+tables_refusal sections link_parts group_parts route_parts =
+    let track = with_links sections (map (link_of sections) link_parts) in
+    option_or (first_refusal section_refusal [] sections)
+    (option_or (first_refusal (link_refusal track) [] track.links)
+    (option_or (first_refusal (group_refusal track) [] (map (group_of sections) group_parts))
+    (first_refusal (route_refusal track) [] (map (route_of sections) route_parts))))
+
+-- what is told where the making of the tables was refused so: in place of memory the first refusal, if there is one
+abbrev pub told_for : OrMemory TrackRefusal → Option TrackRefusal → OrMemory TrackRefusal
+told_for (Refused refusal) first = Refused refusal
+told_for Memory (Some refusal) = Refused refusal
+told_for Memory None = Memory

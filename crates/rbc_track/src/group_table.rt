@@ -1,8 +1,8 @@
 //! The balise groups of a track, each found by its identity.
 
-ghost use Rattle.std.specs.Prelude.{◌≡◌, ◌<◌, [], ◌∷◌, ◌++◌, not, false, find, Err, OnOk};
+ghost use Rattle.std.specs.Prelude.{◌≡◌, ◌<◌, ◌&&◌, nat_lt, nat_le, [], ◌∷◌, ◌++◌, length, not, false, find, Err, OnOk};
 ghost use Rattle.std.specs.List.{list_any};
-ghost use Rattle.rbc_model.specs.Tracks.{group_name_eq};
+ghost use Rattle.rbc_model.specs.Tracks.{group_name_eq, metres_of};
 ghost use Rattle.rbc_model.specs.Answers.{AnswersOrMemory};
 ghost use Rattle.rbc_model.specs.declared.memory.OrMemory.TheVariants.{Memory as NoMemory};
 ghost use Rattle.rbc_model.specs.SoundTracks.{is_good_group};
@@ -11,11 +11,11 @@ ghost use Rattle.rbc_model.specs.declared.tracks.TrackRefusal.TheVariants.{Twice
 ghost use Rattle.rbc_track.specs.Making.{sound_groups};
 ghost use Rattle.rbc_track.specs.Tables.{with_links, entry_answer};
 
-use crate::GroupPart;
 use crate::lookup::GroupNames;
 use crate::resolve::group_of;
 use crate::section_table::Sections;
-use rbc_model::{BaliseGroup, GroupName, OrMemory, Table, TrackRefusal};
+use crate::{GroupPart, Section};
+use rbc_model::{BaliseGroup, GroupName, OrMemory, SectionId, Table, TrackRefusal};
 use std::alloc::Global;
 use std::marker::Model;
 
@@ -38,14 +38,21 @@ impl Model for Groups {
     ghost invariant = { λ table. IsGroupTable table.groups.items table.names };
 }
 
+/// Whether the section of this number is one of these, and has the offset.
+pub(crate) fn stands_on(sections: &[Section], section: SectionId, offset: u32) -> bool
+    ensures { result ≡ (nat_lt section (length sections.now) && nat_le offset (metres_of (with_links sections.now []) section)) }
+{
+    match sections.get(section.index()) {
+        Some(section) => offset <= section.length(),
+        None => false,
+    }
+}
+
 /// Whether the group stands on one of the sections.
 fn is_good_group(sections: &Sections, group: &BaliseGroup) -> bool
     ensures { result ≡ is_good_group (with_links sections.now []) group.now }
 {
-    let Some(section) = sections.as_slice().get(group.section.index()) else {
-        return false;
-    };
-    group.offset <= section.length()
+    stands_on(sections.as_slice(), group.section, group.offset)
 }
 
 /// Judges one more group, behind those of these identities, and notes its identity.

@@ -4,6 +4,7 @@
 #![tactic(auto)]
 
 mod group_table;
+mod judge;
 mod leg_name;
 mod legs;
 mod link_table;
@@ -21,6 +22,7 @@ mod section_table;
 mod sizes;
 mod step_limit;
 mod track;
+mod written;
 
 pub use leg_name::LegName;
 pub use legs::reverse;

@@ -1,8 +1,8 @@
 //! The sections of a track, each found by its name.
 
-ghost use Rattle.std.specs.Prelude.{All, ◌≡◌, [], ◌∷◌, ◌++◌, not, false, bytes_eq, length, position, Err, IfOk, OnOk};
+ghost use Rattle.std.specs.Prelude.{All, ◌≡◌, [], ◌∷◌, ◌++◌, not, false, bytes_eq, length, map, position, Err, IfOk, OnOk};
 ghost use Rattle.std.specs.List.{list_any};
-ghost use Rattle.rbc_model.specs.Answers.{AnswersOrMemory};
+ghost use Rattle.rbc_model.specs.Answers.{AnswersAs, AnswersOrMemory};
 ghost use Rattle.rbc_model.specs.declared.memory.OrMemory.TheVariants.{Memory as NoMemory};
 ghost use Rattle.rbc_model.specs.SoundTracks.{has_long_runs};
 ghost use Rattle.rbc_model.specs.TrackParts.{section_number};
@@ -55,20 +55,27 @@ fn note(names: &mut Names, section: &Section, number: usize) -> Result<(), OrMem
     Ok(())
 }
 
+/// The names of the sections, or the first refusal of one.
+pub(crate) fn names_of(alloc: Global, sections: &[Section]) -> Result<Names, OrMemory<TrackRefusal>>
+    ensures judged { AnswersAs (λ _. sections.now) result (sound_sections sections.now) }
+    ensures named { IfOk result (λ names. names ≡ map (λ section. section.name) sections.now) }
+    ensures form { IfOk result (λ _. All IsSectionInForm sections.now) }
+{
+    let mut names = Names::new(alloc);
+    for (earlier, section) in sections.iter().enumerate() {
+        note(&mut names, section, earlier + 1)?;
+    }
+    Ok(names)
+}
+
 impl Sections {
-    /// The table of these sections, or the first refusal of one.
-    pub(crate) fn new(
-        alloc: Global,
-        sections: Vec<Section>,
-    ) -> Result<Sections, OrMemory<TrackRefusal>>
-        ensures judged { AnswersOrMemory result (sound_sections sections.items) }
-        ensures form { IfOk result (λ table. All IsSectionInForm table) }
+    /// The table of these sections and their names.
+    pub(crate) fn of(sections: Vec<Section>, names: Names) -> Sections
+        requires named { names ≡ map (λ section. section.name) sections.items }
+        requires form { All IsSectionInForm sections.items }
+        ensures { result ≡ sections.items }
     {
-        let mut names = Names::new(alloc);
-        for (earlier, section) in sections.iter().enumerate() {
-            note(&mut names, section, earlier + 1)?;
-        }
-        Ok(Sections { sections, names })
+        Sections { sections, names }
     }
 
     /// How many sections there are.

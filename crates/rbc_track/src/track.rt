@@ -3,22 +3,23 @@
 ghost use Rattle.std.specs.Prelude.{◌≡◌, ◌<◌, ◌≤◌, length, slice_get, option_map, Some, Err, IfSome, IfErr};
 ghost use Rattle.rbc_model.specs.Tracks.{section_named, route_named, group_named, is_linked};
 ghost use Rattle.rbc_model.specs.Scales.{farthest};
-ghost use Rattle.rbc_model.specs.SoundTracks.{IsInForm, IsSound, size_refusal};
-ghost use Rattle.rbc_model.specs.Answers.{AnswersOrMemory};
-ghost use Rattle.rbc_model.specs.TrackParts.{resolved, track_of};
+ghost use Rattle.rbc_model.specs.SoundTracks.{IsInForm, IsSound};
+ghost use Rattle.rbc_model.specs.Answers.{AnswersAs, AnswersOrMemory};
+ghost use Rattle.rbc_model.specs.TrackParts.{track_of};
 ghost use Rattle.rbc_model.specs.declared.limits.TheConstants.{FARTHEST_END_IN_TENS, MOST_STEPS};
 ghost use Rattle.rbc_model.specs.declared.memory.OrMemory.TheVariants.{Refused};
-ghost use Rattle.rbc_track.specs.Making.{made_of, sizes_of};
+ghost use Rattle.rbc_track.specs.Making.{made_of, later_tables};
 ghost use Rattle.rbc_track.specs.PartsView.{parts_view};
 ghost use Rattle.rbc_track.specs.Tables.{leg_named};
 
 use crate::group_table::Groups;
+use crate::judge::told;
 use crate::link_table::links_of;
 use crate::links::Links;
 use crate::route_table::Routes;
-use crate::section_table::Sections;
+use crate::section_table::{Sections, names_of};
 use crate::sizes::judge_sizes;
-use crate::{LegName, Name, Parts, Route, Section};
+use crate::{GroupPart, LegName, LinkPart, Name, Parts, Route, RoutePart, Section};
 use rbc_model::scales::farthest;
 use rbc_model::{BaliseGroup, Format, GroupName, Leg, OrMemory, RouteId, SectionId, TrackRefusal};
 use std::alloc::Global;
@@ -49,6 +50,35 @@ impl Model for Track {
         IsSoundInForm (track_with t.format t.speed_steps t.grade_steps t.sections t.links t.groups t.routes) };
 }
 
+/// The tables that stand over the sections.
+struct Tables {
+    links: Links,
+    groups: Groups,
+    routes: Routes,
+}
+
+/// The tables of the links, groups and routes, or the first refusal of an entry.
+#[tactic(auto, unfolding(crate::specs::Making::later_tables))]
+fn tables_of(
+    alloc: Global,
+    sections: &Sections,
+    links: &[LinkPart],
+    groups: &[GroupPart],
+    routes: &[RoutePart],
+) -> Result<Tables, OrMemory<TrackRefusal>>
+    ensures { AnswersAs (λ tables. (tables.links, tables.groups, tables.routes)) result
+        (later_tables sections.now links.now groups.now routes.now) }
+{
+    let links = links_of(alloc, sections, links)?;
+    let groups = Groups::new(alloc, sections, groups)?;
+    let routes = Routes::new(alloc, sections, &links, routes)?;
+    Ok(Tables {
+        links,
+        groups,
+        routes,
+    })
+}
+
 impl Track {
     /// The track that the parts make, or the first reason why they make none. Sizes are judged before all else, and
     /// then sections, links, groups and routes, one entry after the other.
@@ -62,11 +92,11 @@ impl Track {
     /// - `TwiceNamed` or `BadGroup` of a group,
     /// - `TwiceNamed` or `BadRoute` of a route.
     ///
-    /// `Memory` may come in place of all but the first line.
+    /// `Memory` is told of parts that make a track, and of no others: where memory is refused, the parts are judged
+    /// without it.
     pub fn new(alloc: Global, parts: Parts) -> Result<Track, OrMemory<TrackRefusal>>
         ensures track { AnswersOrMemory result (track_of (parts_view parts)) }
-        ensures sizes { IfSome (size_refusal (resolved (parts_view parts)))
-            (λ refusal. result ≡ Err (Refused refusal)) }
+        ensures refused { IfErr (track_of (parts_view parts)) (λ refusal. result ≡ Err (Refused refusal)) }
     {
         Track::made(alloc, parts)
     }
@@ -75,7 +105,7 @@ impl Track {
     #[tactic(auto, unfolding(crate::specs::Making::made_of))]
     fn made(alloc: Global, parts: Parts) -> Result<Track, OrMemory<TrackRefusal>>
         ensures made { AnswersOrMemory result (made_of (parts_view parts)) }
-        ensures sizes { IfErr (sizes_of (parts_view parts)) (λ refusal. result ≡ Err (Refused refusal)) }
+        ensures refused { IfErr (made_of (parts_view parts)) (λ refusal. result ≡ Err (Refused refusal)) }
     {
         judge_sizes(&parts)?;
         let Parts {
@@ -87,10 +117,19 @@ impl Track {
             groups,
             routes,
         } = parts;
-        let sections = Sections::new(alloc, sections)?;
-        let links = links_of(alloc, &sections, &links)?;
-        let groups = Groups::new(alloc, &sections, &groups)?;
-        let routes = Routes::new(alloc, &sections, &links, &routes)?;
+        let names = match names_of(alloc, &sections) {
+            Ok(names) => names,
+            Err(fault) => return Err(told(fault, &sections, &links, &groups, &routes)),
+        };
+        let sections = Sections::of(sections, names);
+        let Tables {
+            links,
+            groups,
+            routes,
+        } = match tables_of(alloc, &sections, &links, &groups, &routes) {
+            Ok(tables) => tables,
+            Err(fault) => return Err(told(fault, sections.as_slice(), &links, &groups, &routes)),
+        };
         Ok(Track {
             format,
             speed_steps: speed_steps.steps(),
