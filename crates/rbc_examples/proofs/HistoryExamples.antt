@@ -72,7 +72,7 @@ grades_best = best_of_no_loss grade_levels 1 31 1000 grades_ahead _ (fits_by_tes
 
 -- it is the first obstacle
 stopped_there : Stops single (replay single before) train 1000 (NoLink (plus 0)) 1000
-stopped_there = record { beyond = lit≤ tt; real = stands_there; first = λ i low high. safe_there.clear i low high; none_between = λ farther told beyond near. omega arith }
+stopped_there = record { beyond = lit≤ tt; real = stands_there; first = λ i low high. safe_there.clear i low high }
 
 grant_is_best : IsBestFor single (replay single before) grant train
 grant_is_best =
@@ -81,12 +81,13 @@ grant_is_best =
       group = refl;
       direction = refl;
       from = refl;
-      expressible = refl;
-      safe = safe_there;
-      farthest = λ farther told beyond s. none_beyond farther beyond (let t : IsSafe single (replay single before) train farther = rw zero-add at s in t);
-      stopped = stopped_there;
-      speeds = speeds_best;
-      grades = grades_best;
+      ends = record {
+        expressible = refl;
+        safe = safe_there;
+        farthest = λ farther told beyond s. none_beyond farther beyond (let t : IsSafe single (replay single before) train farther = rw zero-add at s in t);
+        stopped = stopped_there;
+      };
+      profiles = record { speeds = speeds_best; grades = grades_best };
     }
 
 abbrev pub entries : List Entry
@@ -100,13 +101,13 @@ not_best : (wrong : Grants) → (IsBestFor single (replay single before) wrong t
 not_best wrong refused h there = refused (h.best train there)
 
 pub too_near : IsBest single (replay single before) (record grant { authority = record grant.authority { end = 900 } }) → ⊥
-too_near h = not_best _ (λ b. b.farthest 1000 refl (lit≤ tt) safe_there) h refl
+too_near h = not_best _ (λ b. b.ends.farthest 1000 refl (lit≤ tt) safe_there) h refl
 
 other_obstacle : NoLink (plus 0) ≡ Limit → ⊥
 other_obstacle e = cc
 
 pub stopped_by_another : IsBest single (replay single before) (record grant { obstacle = Limit }) → ⊥
-stopped_by_another h = not_best _ (λ b. other_obstacle (the_obstacle (NoLink (plus 0)) Limit b.stopped.real)) h refl
+stopped_by_another h = not_best _ (λ b. other_obstacle (the_obstacle (NoLink (plus 0)) Limit b.ends.stopped.real)) h refl
   where
     the_obstacle : (a b : Obstacle) → Some a ≡ Some b → a ≡ b
     the_obstacle a b e = cc

@@ -2,7 +2,7 @@
 use Rattle.std.proofs.Common.{◌≡◌, ℕ, zero, suc, ◌+◌, ◌-◌, ◌<◌, ◌≤◌, max, Bool, true, cond, ◌&&◌, List, [], ◌∷◌, length, take, Option, Some, None, Result, Ok, Err, ℤ, pos, ◌-ℤ◌, refl, ap, ap₂, sym, ◌∙◌, subst, arith, ◌⊎◌, inl, inr, nat_lt, nat_le}
 use Rattle.std.specs.Prelude.{◌==◌, ◌%◌, is_ok, is_some, IsTrue, unwrap_or}
 use Rattle.std.specs.Option.{option_map_or}
-use Rattle.std.proofs.lemmas.Bool.{leb-true, lt-ltb, eqb-true}
+use Rattle.std.proofs.lemmas.Bool.{leb-true, lt-ltb, eqb-true, and_from, or_cases}
 use Rattle.rbc_model.specs.declared.refusals.Obstacle.{Obstacle}
 use Rattle.rbc_model.specs.declared.refusals.Obstacle.TheVariants.{Own}
 use Rattle.rbc_model.specs.declared.refusals.Refusal.{Refusal}
@@ -24,16 +24,16 @@ use Rattle.rbc_model.specs.Trains.{Train}
 use Rattle.rbc_model.specs.Scenes.{Scene, train_numbered}
 use Rattle.rbc_model.specs.Obstacles.{obstacle, way}
 use Rattle.rbc_model.specs.Views.{View, view, view_of, start_of, IsSafe, is_safe, is_expressible_end, way_end, reach, stop, greatest_end, from_group}
-use Rattle.rbc_model.specs.Events.{step, with_train, with_authority}
+use Rattle.rbc_model.specs.Events.{step, with_train, with_authority, line_to}
 use Rattle.rbc_model.specs.declared.reports.Event.TheVariants.{Grant}
 use Rattle.rbc_model.specs.Histories.{Entry, Granted, Grants, Stops, IsBestFor, IsBest, MayFollow, replay}
 use Rattle.rbc_model.proofs.ScanLemmas.{IsLast, filter-numbers, le_or_lt}
-use Rattle.rbc_model.proofs.EndLemmas.{IsStopped, IsGreatestEnd, IsGreatestEnd-greatest_end, none_safe-greatest_end, is_safe-IsSafe, le_reach-IsSafe, reach-le, obstacle-before_reach, IsSafe-up_to_reach}
+use Rattle.rbc_model.proofs.EndLemmas.{IsStopped, IsGreatestEnd, IsGreatestEnd-greatest_end, none_safe-greatest_end, is_safe-IsSafe, le_reach-IsSafe, reach-le, obstacle-before_reach}
 use Rattle.rbc_model.proofs.StopLemmas.{IsStopped-reach}
 use Rattle.rbc_model.proofs.RunLemmas.{value_at-runs_over}
 use Rattle.rbc_model.proofs.LevelLemmas.{speed_lawful, grade_lawful}
 use Rattle.rbc_grant_laws.specs.Candidates.{IsCandidateOf, TellTheSame}
-use Rattle.rbc_grant_laws.proofs.BasicLemmas.{and_left, and_right, both, the_some, true_or, find-passes}
+use Rattle.rbc_grant_laws.proofs.BasicLemmas.{and_left, and_right, the_some, find-passes}
 use Rattle.rbc_grant_laws.proofs.CoveredLemmas.{speeds_are_covered, grades_are_covered, IsBestProfile-agree}
 
 -- ---- distances that a message can give
@@ -41,14 +41,14 @@ use Rattle.rbc_grant_laws.proofs.CoveredLemmas.{speeds_are_covered, grades_are_c
 expressible_some : (format : Format) (distance : ℕ) → is_expressible format distance ≡ true → 0 < distance
 expressible_some Near distance h = let low = leb-true 1 distance (and_left (nat_le 1 distance) (nat_le distance 32000) h) in omega arith
 expressible_some Far distance h =
-    elim (true_or (is_from_to 1 32000 distance) (is_from_to 32010 80000 distance && distance % 10 == 0) h) [
+    elim (or_cases (is_from_to 1 32000 distance) (is_from_to 32010 80000 distance && distance % 10 == 0) h) [
       | inl e ↦ let low = leb-true 1 distance (and_left (nat_le 1 distance) (nat_le distance 32000) e) in omega arith
       | inr e ↦ let low = leb-true 32010 distance (and_left (nat_le 32010 distance) (nat_le distance 80000) (and_left (is_from_to 32010 80000 distance) (distance % 10 == 0) e)) in omega arith
     ]
 
 expressible_at : (track : Track) (train : Train) (farther : ℕ) → is_expressible track.format farther ≡ true → is_expressible_end track train (train.origin + farther) ≡ true
 expressible_at track train farther h =
-    both (nat_lt train.origin (train.origin + farther)) (is_expressible track.format (train.origin + farther - train.origin))
+    and_from (nat_lt train.origin (train.origin + farther)) (is_expressible track.format (train.origin + farther - train.origin))
     (let some = expressible_some track.format farther h in lt-ltb train.origin (train.origin + farther) (omega arith))
     (subst (λ k. is_expressible track.format k ≡ true) (let e : farther ≡ train.origin + farther - train.origin = omega arith in e) h)
 
@@ -177,12 +177,6 @@ module _ (track : Track) (scene : Scene) (train : Train) (grant : Grants) (form 
     beyond = at_reach;
     real = let p = placed in named_there (obstacle track scene train (reach track scene train)) p.stopped ∙ ap Some (sym named);
     first = λ i low high. obstacle-before_reach track scene train i low high;
-    none_between = λ farther h beyond near.
-        let g = end_is in
-        let s = g.safe in
-        let front = s.beyond_front in
-        let keeps = s.takes_none_back in
-        none_farther farther h beyond (IsSafe-up_to_reach track scene train (train.origin + farther) (let e : train.front < train.origin + farther = omega arith in e) (let e : train.to ≤ train.origin + farther = omega arith in e) near);
   }
 
   best_of_candidate : IsCandidateOf (view_to track scene train (train.origin + grant.authority.end)) grant → IsBestFor track scene grant train
@@ -191,30 +185,34 @@ module _ (track : Track) (scene : Scene) (train : Train) (grant : Grants) (form 
     group = c.group;
     direction = c.direction;
     from = c.from;
-    expressible = let g = end_is in expressible_from track train grant.authority.end g.expressible;
-    safe = let g = end_is in g.safe;
-    farthest = none_farther;
-    stopped = stops c.obstacle;
-    speeds = IsBestProfile-agree speed_levels (unit_of grant.authority.end) track.speed_steps grant.authority.end (value_at (speeds track (way track scene train) train.origin (train.origin + grant.authority.end))) (speeds_from track (way track scene train) train.origin) grant.authority.speeds
-        (speeds_agree track (way track scene train) train.origin grant.authority.end form on_way) c.speeds;
-    grades = IsBestProfile-agree grade_levels (unit_of grant.authority.end) track.grade_steps grant.authority.end (value_at (grades track (way track scene train) train.origin (train.origin + grant.authority.end))) (grades_from track (way track scene train) train.origin) grant.authority.grades
-        (grades_agree track (way track scene train) train.origin grant.authority.end form on_way) c.grades;
+    ends = record {
+      expressible = let g = end_is in expressible_from track train grant.authority.end g.expressible;
+      safe = let g = end_is in g.safe;
+      farthest = none_farther;
+      stopped = stops c.obstacle;
+    };
+    profiles = record {
+      speeds = IsBestProfile-agree speed_levels (unit_of grant.authority.end) track.speed_steps grant.authority.end (value_at (speeds track (way track scene train) train.origin (train.origin + grant.authority.end))) (speeds_from track (way track scene train) train.origin) grant.authority.speeds
+          (speeds_agree track (way track scene train) train.origin grant.authority.end form on_way) c.speeds;
+      grades = IsBestProfile-agree grade_levels (unit_of grant.authority.end) track.grade_steps grant.authority.end (value_at (grades track (way track scene train) train.origin (train.origin + grant.authority.end))) (grades_from track (way track scene train) train.origin) grant.authority.grades
+          (grades_agree track (way track scene train) train.origin grant.authority.end form on_way) c.grades;
+    };
   }
 
   candidate_of_best : grant.train ≡ train.report.train → IsBestFor track scene grant train → IsCandidateOf (view_to track scene train (train.origin + grant.authority.end)) grant
   candidate_of_best number best = record {
     train = number;
     from = best.from;
-    obstacle = let s = best.stopped in sym (ap (λ o. unwrap_or o Own) s.real);
+    obstacle = let s = best.ends.stopped in sym (ap (λ o. unwrap_or o Own) s.real);
     time = best.time;
     group = best.group;
     direction = best.direction;
-    ahead = let some = expressible_some track.format grant.authority.end best.expressible in omega arith;
+    ahead = let some = expressible_some track.format grant.authority.end best.ends.expressible in omega arith;
     end = omega arith;
     speeds = IsBestProfile-agree speed_levels (unit_of grant.authority.end) track.speed_steps grant.authority.end (speeds_from track (way track scene train) train.origin) (value_at (speeds track (way track scene train) train.origin (train.origin + grant.authority.end))) grant.authority.speeds
-        (λ x low. sym (speeds_agree track (way track scene train) train.origin grant.authority.end form on_way x low)) best.speeds;
+        (λ x low. sym (speeds_agree track (way track scene train) train.origin grant.authority.end form on_way x low)) best.profiles.speeds;
     grades = IsBestProfile-agree grade_levels (unit_of grant.authority.end) track.grade_steps grant.authority.end (grades_from track (way track scene train) train.origin) (value_at (grades track (way track scene train) train.origin (train.origin + grant.authority.end))) grant.authority.grades
-        (λ x low. sym (grades_agree track (way track scene train) train.origin grant.authority.end form on_way x low)) best.grades;
+        (λ x low. sym (grades_agree track (way track scene train) train.origin grant.authority.end form on_way x low)) best.profiles.grades;
   }
 
 -- every grant that the train's view allows is the best for the train
@@ -229,40 +227,52 @@ IsBestFor-candidate track scene train v grant form h c =
 
 module _ (track : Track) (scene : Scene) (train : Train) (grant : Grants) (best : IsBestFor track scene grant train) where
   best_stopped : IsStopped track scene train
-  best_stopped none = let s = best.stopped in let e = s.real in cc
+  best_stopped none = let s = best.ends.stopped in let e = s.real in cc
 
   best_begins : start_of train ≤ reach track scene train
   best_begins =
-      let s = best.stopped in
+      let s = best.ends.stopped in
       let near = s.beyond in
-      let safe = best.safe in
+      let safe = best.ends.safe in
       let front = safe.beyond_front in
       omega arith
 
   best_told : is_expressible_end track train (train.origin + grant.authority.end) ≡ true
-  best_told = expressible_at track train grant.authority.end best.expressible
+  best_told = expressible_at track train grant.authority.end best.ends.expressible
 
   the_greatest : (end : ℕ) → IsGreatestEnd track scene train end → (end ≤ train.origin + grant.authority.end) ⊎ (train.origin + grant.authority.end < end) → train.origin + grant.authority.end ≤ end → end ≡ train.origin + grant.authority.end
   the_greatest end g (inl near) far = omega arith
   the_greatest end g (inr past) far =
       let e : train.origin + (end - train.origin) ≡ end = omega arith in
-      absurd (best.farthest (end - train.origin)
+      absurd (best.ends.farthest (end - train.origin)
       (expressible_from track train (end - train.origin) (subst (λ k. is_expressible_end track train k ≡ true) (sym e) g.expressible))
       (omega arith)
       (subst (IsSafe track scene train) (sym e) g.safe))
 
   not_nearer : (end : ℕ) → IsGreatestEnd track scene train end → (train.origin + grant.authority.end ≤ end) ⊎ (end < train.origin + grant.authority.end) → train.origin + grant.authority.end ≤ end
   not_nearer end g (inl far) = far
-  not_nearer end g (inr near) = absurd (g.greatest (train.origin + grant.authority.end) near best_told best.safe)
+  not_nearer end g (inr near) = absurd (g.greatest (train.origin + grant.authority.end) near best_told best.ends.safe)
 
   greatest_by : (o : Option ℕ) → greatest_end track scene train ≡ o → o ≡ Some (train.origin + grant.authority.end)
-  greatest_by None e = absurd (none_safe-greatest_end track scene train best_begins best_stopped e (train.origin + grant.authority.end) best_told best.safe)
+  greatest_by None e = absurd (none_safe-greatest_end track scene train best_begins best_stopped e (train.origin + grant.authority.end) best_told best.ends.safe)
   greatest_by (Some end) e =
       let g = IsGreatestEnd-greatest_end track scene train end best_begins best_stopped e in
       ap Some (the_greatest end g (le_or_lt end (train.origin + grant.authority.end)) (not_nearer end g (le_or_lt (train.origin + grant.authority.end) end)))
 
   best_greatest : greatest_end track scene train ≡ Some (train.origin + grant.authority.end)
   best_greatest = greatest_by (greatest_end track scene train) refl
+
+  -- between its end and the obstacle that it names there is none that a message can give
+  pub none_between-IsBestFor : (farther : ℕ) → IsTrue (is_expressible track.format farther) → grant.authority.end < farther → train.origin + farther ≤ reach track scene train → ⊥
+  none_between-IsBestFor farther told beyond near =
+      let safe = best.ends.safe in
+      let front = safe.beyond_front in
+      let keeps = safe.takes_none_back in
+      best.ends.farthest farther told beyond (record {
+        beyond_front = omega arith;
+        takes_none_back = omega arith;
+        clear = λ i low high. best.ends.stopped.first i low (omega arith);
+      })
 
 pub candidate-IsBestFor : (track : Track) (scene : Scene) (train : Train) (grant : Grants) → IsInForm track → grant.train ≡ train.report.train → IsBestFor track scene grant train → (v : View) × (view_of track scene train ≡ Ok v) × IsCandidateOf v grant
 candidate-IsBestFor track scene train grant form number best =
@@ -381,8 +391,8 @@ is_ok-best track scene grant best =
     (Ok (with_train scene (with_authority train (take (max (length train.line) (legs_begun_before track (train.origin + grant.authority.end) (way track scene train))) (way track scene train)) (start_of train) (train.origin + grant.authority.end)))) (Err NotSafe))
     (UnknownTrain grant.train) t.1
     (ok_if (is_safe track scene t.0 to && is_expressible_end track t.0 to)
-    (with_train scene (with_authority t.0 (take (max (length t.0.line) (legs_begun_before track to (way track scene t.0))) (way track scene t.0)) (start_of t.0) to))
-    (both (is_safe track scene t.0 to) (is_expressible_end track t.0 to) (is_safe-IsSafe track scene t.0 to b.safe) (expressible_at track t.0 grant.authority.end b.expressible)))
+    (with_train scene (with_authority t.0 (line_to track scene t.0 to) (start_of t.0) to))
+    (and_from (is_safe track scene t.0 to) (is_expressible_end track t.0 to) (is_safe-IsSafe track scene t.0 to b.ends.safe) (expressible_at track t.0 grant.authority.end b.ends.expressible)))
 
 pub MayFollow-best : (track : Track) (before : List Entry) (grant : Grants) → IsBest track (replay track before) grant → MayFollow track before (Granted grant)
 MayFollow-best track before grant best = record {

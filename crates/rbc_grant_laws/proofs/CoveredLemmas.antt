@@ -3,7 +3,7 @@ use Rattle.std.proofs.Common.{◌≡◌, ℕ, zero, suc, ◌+◌, ◌-◌, ◌<�
 use Rattle.std.specs.Prelude.{◌==◌, option_map, option_and_then, slice_get, neg_ℤ}
 use Rattle.std.specs.Option.{option_or, option_flatten, option_map_or}
 use Rattle.std.specs.List.{AllByRecursion, list_all}
-use Rattle.std.proofs.lemmas.Bool.{leb-true, le-leb, eqb-true, lt-ltb, le-ltb}
+use Rattle.std.proofs.lemmas.Bool.{leb-true, le-leb, eqb-true, lt-ltb, le-ltb, and_from}
 use Rattle.std.proofs.lemmas.List.Elements.{recursion_from_All}
 use Rattle.std.proofs.lemmas.List.Sums.{sum_by-cons}
 use Rattle.rbc_model.specs.declared.places.Metre.{Metre}
@@ -18,7 +18,7 @@ use Rattle.rbc_model.specs.Lines.{Line, at_place, line_length, metre_speed, metr
 use Rattle.rbc_model.proofs.RunLemmas.{IsCovered}
 use Rattle.rbc_model.proofs.ScanLemmas.{le_or_lt}
 use Rattle.rbc_model.proofs.LevelLemmas.{speed_lawful, grade_lawful}
-use Rattle.rbc_grant_laws.proofs.BasicLemmas.{and_left, and_right, both, the_some}
+use Rattle.rbc_grant_laws.proofs.BasicLemmas.{and_left, and_right, the_some}
 
 -- ---- a track's value at a metre
 
@@ -89,8 +89,8 @@ grade_there track metre form h =
 -- a gradient that is negated stays in range
 negated_in_range : (g : ℤ) → IsInRange grade_levels g → IsInRange grade_levels (neg_ℤ g)
 negated_in_range (pos zero) h = refl
-negated_in_range (pos (suc n)) h = both (nat_le n 253) true (le-leb n 253 (let up = leb-true (suc n) 254 (and_right (int_le (negsuc 253) (pos (suc n))) (int_le (pos (suc n)) (pos 254)) h) in omega arith)) refl
-negated_in_range (negsuc n) h = both true (nat_le (suc n) 254) refl (le-leb (suc n) 254 (let down = leb-true n 253 (and_left (int_le (negsuc 253) (negsuc n)) (int_le (negsuc n) (pos 254)) h) in omega arith))
+negated_in_range (pos (suc n)) h = and_from (nat_le n 253) true (le-leb n 253 (let up = leb-true (suc n) 254 (and_right (int_le (negsuc 253) (pos (suc n))) (int_le (pos (suc n)) (pos 254)) h) in omega arith)) refl
+negated_in_range (negsuc n) h = and_from true (nat_le (suc n) 254) refl (le-leb (suc n) 254 (let down = leb-true n 253 (and_left (int_le (negsuc 253) (negsuc n)) (int_le (negsuc n) (pos 254)) h) in omega arith))
 
 met_in_range : (d : Direction) (g : ℤ) → IsInRange grade_levels g → IsInRange grade_levels (met d g)
 met_in_range Rising g h = h

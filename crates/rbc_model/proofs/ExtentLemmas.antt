@@ -2,8 +2,7 @@
 use Rattle.std.proofs.Common.{◌≡◌, ℕ, ◌+◌, ◌-◌, ◌<◌, ◌≤◌, Bool, true, false, ◌&&◌, not, [], ◌∷◌, Option, Some, None, refl, ap, subst, sym, ◌∙◌, arith, ◌⊎◌, inl, inr, nat_lt, nat_le}
 use Rattle.std.specs.Prelude.{◌==◌, ◌||◌, if◌then◌else◌, option_map}
 use Rattle.std.specs.Option.{option_map_or}
-use Rattle.std.proofs.lemmas.Bool.{leb-true, ltb-true, lt-ltb, le-leb, eqb-true}
-use Rattle.std.proofs.lemmas.Bool.Decides.{leb_tells}
+use Rattle.std.proofs.lemmas.Bool.{leb-true, ltb-true, lt-ltb, le-leb, eqb-true, le-ltb, not-true, cases_Bool}
 use Rattle.rbc_model.specs.declared.places.Metre.{Metre}
 use Rattle.rbc_model.specs.Tracks.{Track, metres_of, metre_of_leg, IsMetreOf}
 use Rattle.rbc_model.specs.declared.places.Direction.{Direction}
@@ -21,14 +20,11 @@ twice_back m o h = omega arith
 back_below : (m o : ℕ) → o < m → m - 1 - o < m
 back_below m o h = omega arith
 
-not_lt : (a b : ℕ) → b ≤ a → nat_lt a b ≡ false
-not_lt a b h = grind (arith, leb_tells)
-
 at_leg : {X : Type 0} (a b : X) (k n : ℕ) → k < n → (if nat_lt k n then a else b) ≡ a
 at_leg a b k n h = rw (lt-ltb k n h) refl
 
 behind_leg : {X : Type 0} (a b : X) (k n : ℕ) → n ≤ k → (if nat_lt k n then a else b) ≡ b
-behind_leg a b k n h = rw (not_lt k n h) refl
+behind_leg a b k n h = rw (le-ltb k n h) refl
 
 -- the metre that a leg has where this metre stands on it
 met_there : (track : Track) (direction : Direction) (section offset : ℕ) → offset < metres_of track section →
@@ -129,21 +125,13 @@ and_right : (a b : Bool) → (a && b) ≡ true → b ≡ true
 and_right true b h = h
 and_right false b h = cc
 
-not_false : (b : Bool) → not b ≡ true → b ≡ false
-not_false true h = cc
-not_false false h = refl
-
-either : (b : Bool) → (b ≡ true) ⊎ (b ≡ false)
-either true = inl refl
-either false = inr refl
-
 true_and_false : (b : Bool) → b ≡ true → b ≡ false → ⊥
 true_and_false b t f = cc
 
 -- a section that is not on the line is not that of a metre on it
 another : (section : ℕ) (metre : Metre) (line : Line) → has_section line section ≡ false → has_section line metre.section ≡ true → (section == metre.section) ≡ false
 another section metre line lacks has =
-    elim (either (section == metre.section)) [
+    elim (cases_Bool (section == metre.section)) [
       | inl e ↦ absurd (true_and_false (has_section line section) (subst (λ x. has_section line x ≡ true) (sym (eqb-true section metre.section e)) has) lacks)
       | inr e ↦ e
     ]
@@ -155,7 +143,7 @@ place-metre_at track (leg ∷ legs) metre i differ h =
       | inl past ↦
           let rest = sym (behind_leg (Some (metre_of_leg track leg i)) (metre_at track legs (i - metres_of track leg.section)) i (metres_of track leg.section) past) ∙ h in
           let found = place-metre_at track legs metre (i - metres_of track leg.section) (and_right (not (has_section legs leg.section)) (sections_differ legs) differ) rest in
-          let other = another leg.section metre legs (not_false (has_section legs leg.section) (and_left (not (has_section legs leg.section)) (sections_differ legs) differ)) (has_section-metre_at track legs metre (i - metres_of track leg.section) rest) in
+          let other = another leg.section metre legs (not-true (has_section legs leg.section) (and_left (not (has_section legs leg.section)) (sections_differ legs) differ)) (has_section-metre_at track legs metre (i - metres_of track leg.section) rest) in
           if_false (leg.section == metre.section) (Some (metres_before track metre leg)) (option_map (λ place. metres_of track leg.section + place) (place_of_metre track legs metre)) other
           ∙ ap (option_map (λ place. metres_of track leg.section + place)) found
           ∙ ap Some (let goal : metres_of track leg.section + (i - metres_of track leg.section) ≡ i = omega arith in goal)

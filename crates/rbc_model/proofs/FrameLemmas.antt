@@ -1,6 +1,6 @@
 -- The end of an authority, as a message counts it: in ones up to 32,000 m, and in tens beyond.
-use Rattle.std.proofs.Common.{◌≡◌, ℕ, ◌*◌, ◌/◌, ◌%◌, ◌<◌, ◌≤◌, ◌^◌, Bool, true, false, ◌&&◌, ◌||◌, ◌⊎◌, inl, inr, refl, arith, subst, sym, nat_le, ◌==◌, lit<, one-mul}
-use Rattle.std.proofs.lemmas.Bool.{leb-true, le-leb, eqb-true, eq-eqb}
+use Rattle.std.proofs.Common.{◌≡◌, ℕ, ◌*◌, ◌/◌, ◌%◌, ◌<◌, ◌≤◌, ◌^◌, true, false, ◌&&◌, ◌⊎◌, inl, inr, refl, arith, subst, sym, nat_le, ◌==◌, lit<, one-mul}
+use Rattle.std.proofs.lemmas.Bool.{leb-true, le-leb, eqb-true, eq-eqb, or_cases, lt-leb}
 use Rattle.rbc_model.specs.declared.places.Format.{Format}
 use Rattle.rbc_model.specs.declared.places.Format.TheVariants.{Near, Far}
 use Rattle.rbc_model.specs.Results.{is_from_to}
@@ -24,13 +24,6 @@ pub record IsFrame (format : Format) (end scale count : ℕ) : Type 0 where
 
 pub limits_of : (low high v : ℕ) → is_from_to low high v ≡ true → (low ≤ v) × (v ≤ high)
 limits_of low high v h = let b = both_of (nat_le low v) (nat_le v high) h in (leb-true low v b.0, leb-true v high b.1)
-
-either : (a b : Bool) → (a || b) ≡ true → (a ≡ true) ⊎ (b ≡ true)
-either true b h = inl refl
-either false b h = inr h
-
-above : (n high : ℕ) → high < n → nat_le n high ≡ false
-above n high h = grind arith
 
 -- ---- the two scales
 
@@ -62,7 +55,7 @@ in_ones format end h =
 
 in_tens : (end count : ℕ) → 3201 ≤ count → count ≤ 8000 → end ≡ 10 * count → IsFrame Far end 2 count
 in_tens end count low high e =
-    let long : nat_le end 32000 ≡ false = above end 32000 (omega arith) in
+    let long : nat_le end 32000 ≡ false = lt-leb end 32000 (omega arith) in
     record {
       scale_is = rw long refl;
       count_is = rw long (omega arith);
@@ -85,7 +78,7 @@ as_said {format} {end} {scale} {count} f = subst (λ c. IsFrame format end (scal
 pub frame_of_end : (format : Format) (end : ℕ) → is_expressible format end ≡ true → IsFrame format end (scale_of end) (end / unit_of end)
 frame_of_end Near end h = as_said (in_ones Near end h)
 frame_of_end Far end h =
-    elim (either (is_from_to 1 32000 end) (is_from_to 32010 80000 end && (end % 10 == 0)) h) [
+    elim (or_cases (is_from_to 1 32000 end) (is_from_to 32010 80000 end && (end % 10 == 0)) h) [
       | inl near ↦ as_said (in_ones Far end near)
       | inr far ↦
           let parts = both_of (is_from_to 32010 80000 end) (end % 10 == 0) far in
@@ -102,7 +95,7 @@ in_its_scale Far scale e h count k = let l = limits_of 3201 8000 count k in in_t
 
 pub frame_read : (format : Format) (scale count : ℕ) → is_from_to 1 (last_scale format) scale ≡ true → is_end_at scale count ≡ true → IsFrame format (unit_of_scale scale * count) scale count
 frame_read format scale count h k =
-    elim (either (scale == 1 && is_from_to 1 32000 count) (scale == 2 && is_from_to 3201 8000 count) k) [
+    elim (or_cases (scale == 1 && is_from_to 1 32000 count) (scale == 2 && is_from_to 3201 8000 count) k) [
       | inl near ↦
           let parts = both_of (scale == 1) (is_from_to 1 32000 count) near in
           subst (λ s. IsFrame format (unit_of_scale s * count) s count) (sym (eqb-true scale 1 parts.0)) (subst (λ end. IsFrame format end 1 count) (sym (one-mul count)) (in_ones format count parts.1))

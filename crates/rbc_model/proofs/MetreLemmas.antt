@@ -4,15 +4,11 @@ use Rattle.std.proofs.Common.{◌≡◌, ℕ, zero, suc, ◌+◌, ◌-◌, ◌<�
 use Rattle.std.specs.Prelude.{slice_get, option_map}
 use Rattle.std.proofs.lemmas.Option.{slice_get-map}
 use Rattle.std.proofs.lemmas.List.FromFn.{length-map-range_with_len}
-use Rattle.std.proofs.lemmas.Bool.{lt-ltb}
-use Rattle.std.proofs.lemmas.Bool.Decides.{leb_tells}
+use Rattle.std.proofs.lemmas.Bool.{lt-ltb, le-ltb}
 use Rattle.rbc_model.proofs.ScanLemmas.{le_or_lt}
 use Rattle.rbc_model.specs.Tracks.{Track, metres_of, metre_of_leg, leg_metres}
 use Rattle.rbc_model.specs.declared.places.Leg.{Leg}
 use Rattle.rbc_model.specs.Lines.{Line, line_metres, metre_at}
-
-not_lt : (a b : ℕ) → b ≤ a → nat_lt a b ≡ false
-not_lt a b h = grind (arith, leb_tells)
 
 within : {X : Type 0} (a b : X) (k n : ℕ) → nat_lt k n ≡ true → cond (nat_lt k n) a b ≡ a
 within a b k n h = rw h refl
@@ -51,7 +47,7 @@ metre_at-line_metres track [] i = refl
 metre_at-line_metres track (leg ∷ legs) i =
     elim (le_or_lt (metres_of track leg.section) i) [
       | inl e ↦
-          past (Some (metre_of_leg track leg i)) (metre_at track legs (i - metres_of track leg.section)) i (metres_of track leg.section) (not_lt i (metres_of track leg.section) e)
+          past (Some (metre_of_leg track leg i)) (metre_at track legs (i - metres_of track leg.section)) i (metres_of track leg.section) (le-ltb i (metres_of track leg.section) e)
           ∙ metre_at-line_metres track legs (i - metres_of track leg.section)
           ∙ ap (λ m. slice_get (line_metres track legs) (i - m)) (sym (length-leg_metres track leg))
           ∙ sym (slice_get-append_right (leg_metres track leg) (line_metres track legs) i (rw (length-leg_metres track leg) e))

@@ -1,15 +1,12 @@
 -- A track function has one spelling: two lists of runs with the same level at each metre are one list.
-use Rattle.std.proofs.Common.{◌≡◌, ℕ, ◌<◌, ◌≤◌, ◌⊎◌, inl, inr, Bool, true, false, not, List, [], ◌∷◌, Option, Some, None, refl, arith, ap, sym, ◌∙◌, nat_le, nat_lt, ◌==◌}
+use Rattle.std.proofs.Common.{◌≡◌, ℕ, ◌<◌, ◌≤◌, ◌⊎◌, inl, inr, Bool, true, false, not, List, [], ◌∷◌, Option, Some, None, refl, arith, ap, sym, ◌∙◌, nat_lt, ◌==◌}
 use Rattle.std.specs.Option.{option_or}
 use Rattle.std.specs.List.{list_all}
-use Rattle.std.proofs.lemmas.Bool.{le-leb, ltb-true}
-use Rattle.std.proofs.lemmas.Bool.Decides.{leb_tells, nat_tests}
+use Rattle.std.proofs.lemmas.Bool.{le-leb, ltb-true, lt-leb}
+use Rattle.std.proofs.lemmas.Bool.Decides.{nat_tests}
 use Rattle.rbc_model.specs.Levels.{Levels, is_same, IsInRange, IsLawful}
 use Rattle.rbc_model.specs.Profiles.{value_at, starts_of, rises_above, is_joined, IsTrackFunction}
 use Rattle.rbc_model.proofs.CountingLemmas.{both_of}
-
-not_le : (a b : ℕ) → b < a → nat_le a b ≡ false
-not_le a b h = grind (arith, leb_tells)
 
 -- the value of the last run that starts at or before a metre, or of the one before them all
 abbrev value_from : {V : Type 0} → V → List (ℕ × V) → ℕ → Option V
@@ -21,7 +18,7 @@ none_started low [] x e h = refl
 none_started low (run ∷ runs) x e h =
     let both = both_of (nat_lt low run.0) (rises_above run.0 (starts_of runs)) e in
     let above = ltb-true low run.0 both.0 in
-    rw (none_started run.0 runs x both.1 (omega arith), not_le run.0 x (omega arith)) refl
+    rw (none_started run.0 runs x both.1 (omega arith), lt-leb run.0 x (omega arith)) refl
 
 -- at a run's start stands its value, and behind it that of a later one or its own
 at_start : {V : Type 0} (v : V) (run : ℕ × V) (runs : List (ℕ × V)) → rises_above run.0 (starts_of runs) ≡ true → value_from v (run ∷ runs) run.0 ≡ Some run.1
@@ -111,7 +108,7 @@ module _ {V : Type 0} (levels : Levels V) (lawful : IsLawful levels) (n : ℕ) w
 
       early : (low : ℕ) (v : V) (run : ℕ × V) (runs : List (ℕ × V)) (x : ℕ) → x < run.0 → rises_above run.0 (starts_of runs) ≡ true
           → value_from v (run ∷ runs) x ≡ Some v
-      early low v run runs x h e = rw (none_started run.0 runs x e (omega arith), not_le run.0 x h) refl
+      early low v run runs x h e = rw (none_started run.0 runs x e (omega arith), lt-leb run.0 x h) refl
 
   zero_is : (start : ℕ) → start == 0 ≡ true → start ≡ 0
   zero_is start e = grind (arith, nat_tests)

@@ -1,14 +1,10 @@
 -- The runs of a track's first metres have its values there.
 use Rattle.std.proofs.Common.{zero, suc, Bool, subst, ◌⊎◌, inl, inr, true, ◌≡◌, ℕ, ◌<◌, false, List, [], ◌∷◌, ◌++◌, Option, Some, None, refl, arith, ap, sym, ◌∙◌, nat_le, if◌then◌else◌}
 use Rattle.std.specs.Option.{option_or, option_map_or}
-use Rattle.std.proofs.lemmas.Bool.{le-leb}
-use Rattle.std.proofs.lemmas.Bool.Decides.{leb_tells}
+use Rattle.std.proofs.lemmas.Bool.{le-leb, lt-leb}
 use Rattle.rbc_model.specs.Levels.{Levels, is_same, IsInRange, IsLawful}
 use Rattle.rbc_model.specs.Profiles.{value_at, runs_over}
 use Rattle.rbc_model.proofs.CountingLemmas.{both_of}
-
-not_le : (a b : ℕ) → b < a → nat_le a b ≡ false
-not_le a b h = grind (arith, leb_tells)
 
 assoc : {V : Type 0} (a b c : Option V) → option_or a (option_or b c) ≡ option_or (option_or a b) c
 assoc None b c = refl
@@ -24,7 +20,7 @@ value_at-push [] n v x = sym (or_none (if nat_le n x then Some v else None))
 value_at-push (run ∷ runs) n v x = ap (λ o. option_or o (if nat_le run.0 x then Some run.1 else None)) (value_at-push runs n v x) ∙ sym (assoc (if nat_le n x then Some v else None) (value_at runs x) (if nat_le run.0 x then Some run.1 else None))
 
 value_at-push_before : {V : Type 0} (runs : List (ℕ × V)) (n : ℕ) (v : V) (x : ℕ) → x < n → value_at (runs ++ (n, v) ∷ []) x ≡ value_at runs x
-value_at-push_before runs n v x h = value_at-push runs n v x ∙ rw (not_le n x h) refl
+value_at-push_before runs n v x h = value_at-push runs n v x ∙ rw (lt-leb n x h) refl
 
 value_at-push_there : {V : Type 0} (runs : List (ℕ × V)) (n : ℕ) (v : V) → value_at (runs ++ (n, v) ∷ []) n ≡ Some v
 value_at-push_there runs n v = value_at-push runs n v n ∙ rw (le-leb n n (omega arith)) refl

@@ -1,9 +1,9 @@
 -- A request that is written as a line is read back, and what is read of a line can be written.
-use Rattle.std.proofs.Common.{◌≡◌, ℕ, ◌+◌, ◌^◌, ◌<◌, ◌≤◌, Bool, true, false, ◌||◌, inl, inr, cond, List, [], ◌∷◌, ◌++◌, length, Option, Some, None, Result, Ok, Err, refl, ap, ◌∙◌, subst, arith, nat_le, codes, lit≤, lit<}
+use Rattle.std.proofs.Common.{◌≡◌, ℕ, ◌^◌, ◌<◌, ◌≤◌, Bool, true, false, ◌||◌, inl, inr, cond, List, [], ◌∷◌, ◌++◌, length, Option, Some, None, Result, Ok, Err, refl, ap, ◌∙◌, subst, arith, nat_le, codes, lit≤, lit<}
 use Rattle.std.specs.Prelude.{◌==◌, decimal, bytes_eq}
 use Rattle.std.specs.List.{AllByRecursion, list_all, before_first, after_first}
 use Rattle.std.specs.Option.{option_map_or}
-use Rattle.std.proofs.lemmas.Bool.{leb-true, eqb-true}
+use Rattle.std.proofs.lemmas.Bool.{leb-true, eqb-true, and_from, or_cases}
 use Rattle.std.proofs.lemmas.List.{length-append}
 use Rattle.std.proofs.lemmas.List.Folds.{list_all-append}
 use Rattle.rbc_model.specs.declared.limits.TheConstants.{LAST_COUNTRY, LAST_GROUP, LAST_TRAIN, FARTHEST_REPORT, FARTHEST_KEPT, MOST_DOUBT, LONGEST_TRAIN, LAST_TIME}
@@ -16,18 +16,18 @@ use Rattle.rbc_model.specs.Names.{is_name_byte, is_name}
 use Rattle.rbc_model.specs.Words.{number_in, is_text}
 use Rattle.rbc_model.specs.RequestText.{request_words, number_at, line_in}
 use Rattle.rbc_model.specs.SessionText.{SessionLine, Blank, Report, Lock, Free, Leave, GiveBack, Ask, name_at, group_at, nominal_at, train_at, report_in, give_back_in, only_word, name_in, train_in, words_line, parse_session, group_word, nominal_word, said_words, said_line, IsTrainNumber, IsSayable}
-use Rattle.rbc_model.proofs.CountingLemmas.{both_of, either_of}
-use Rattle.rbc_model.proofs.WordLemmas.{both, is_visible, visible_is, IsWord, text_of_joined, request_words-joined, number_short, number_is_word, allowed-decimal, no_slash, before_mark, after_mark}
+use Rattle.rbc_model.proofs.CountingLemmas.{both_of}
+use Rattle.rbc_model.proofs.WordLemmas.{is_visible, visible_is, IsWord, text_of_joined, request_words-joined, number_short, number_is_word, allowed-decimal, no_slash, before_mark, after_mark}
 
 -- ---- the words of a request are words
 
 name_byte_visible : (byte : ℕ) → is_name_byte byte ≡ true → is_visible byte ≡ true
 name_byte_visible byte h =
-    elim (either_of (is_from_to 65 90 byte || is_from_to 97 122 byte || is_from_to 48 57 byte) (byte == 95) h) [
+    elim (or_cases (is_from_to 65 90 byte || is_from_to 97 122 byte || is_from_to 48 57 byte) (byte == 95) h) [
       | inl e ↦
-          elim (either_of (is_from_to 65 90 byte || is_from_to 97 122 byte) (is_from_to 48 57 byte) e) [
+          elim (or_cases (is_from_to 65 90 byte || is_from_to 97 122 byte) (is_from_to 48 57 byte) e) [
             | inl f ↦
-                elim (either_of (is_from_to 65 90 byte) (is_from_to 97 122 byte) f) [
+                elim (or_cases (is_from_to 65 90 byte) (is_from_to 97 122 byte) f) [
                   | inl g ↦ within 65 90 byte (lit≤ tt) (lit≤ tt) g
                   | inr g ↦ within 97 122 byte (lit≤ tt) (lit≤ tt) g
                 ]
@@ -47,7 +47,7 @@ name_visible : (text : List ℕ) → list_all is_name_byte text ≡ true → lis
 name_visible [] h = refl
 name_visible (byte ∷ text) h =
     let b = both_of (is_name_byte byte) (list_all is_name_byte text) h in
-    both (is_visible byte) (list_all is_visible text) (name_byte_visible byte b.0) (name_visible text b.1)
+    and_from (is_visible byte) (list_all is_visible text) (name_byte_visible byte b.0) (name_visible text b.1)
 
 name_is_word : (name : List ℕ) → is_name name ≡ true → IsWord name
 name_is_word name h =
@@ -64,7 +64,7 @@ slash_is_word front back a b short next =
     record {
       some = omega arith;
       short = omega arith;
-      visible = list_all-append is_visible front (47 ∷ back) ∙ both (list_all is_visible front) (list_all is_visible (47 ∷ back)) a.visible b.visible;
+      visible = list_all-append is_visible front (47 ∷ back) ∙ and_from (list_all is_visible front) (list_all is_visible (47 ∷ back)) a.visible b.visible;
     }
 
 module _ (group : GroupName) (fits : IsGroupName group) where

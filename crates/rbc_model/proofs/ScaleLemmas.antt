@@ -1,6 +1,6 @@
 -- Ends that a message can give, in either format, and the units of their profiles.
 use Rattle.std.proofs.Common.{◌≡◌, ℕ, ℤ, ◌%◌, ◌<◌, ◌≤◌, ◌^◌, Bool, true, false, ◌&&◌, ◌||◌, ◌⊎◌, inl, inr, List, [], ◌∷◌, Some, refl, ap, ap₂, ◌∙◌, arith, subst, nat_le, ◌==◌, if◌then◌else◌}
-use Rattle.std.proofs.lemmas.Bool.{leb-true, le-leb, eqb-true, eq-eqb}
+use Rattle.std.proofs.lemmas.Bool.{leb-true, le-leb, eqb-true, eq-eqb, or_cases, and_from, lt-leb}
 use Rattle.rbc_model.specs.declared.limits.TheConstants.{LAST_COUNTRY, LAST_GROUP, MOST_STEPS}
 use Rattle.rbc_model.specs.declared.places.Format.{Format}
 use Rattle.rbc_model.specs.declared.places.Format.TheVariants.{Near, Far}
@@ -14,13 +14,6 @@ use Rattle.rbc_model.proofs.CountingLemmas.{both_of}
 
 from_to : (low high v : ℕ) → is_from_to low high v ≡ true → (low ≤ v) × (v ≤ high)
 from_to low high v h = let b = both_of (nat_le low v) (nat_le v high) h in (leb-true low v b.0, leb-true v high b.1)
-
-either : (a b : Bool) → (a || b) ≡ true → (a ≡ true) ⊎ (b ≡ true)
-either true b h = inl refl
-either false b h = inr h
-
-both : (a b : Bool) → a ≡ true → b ≡ true → (a && b) ≡ true
-both a b h k = rw (h, k) refl
 
 -- ---- what each format can give
 
@@ -44,19 +37,16 @@ in_metres format v h =
     inside Near k = k
     inside Far k = omega arith
 
-above : (n high : ℕ) → high < n → nat_le n high ≡ false
-above n high h = grind arith
-
 in_tens : (v : ℕ) → is_in_tens v ≡ true → IsEnd Far v
 in_tens v h =
     let b = both_of (is_from_to 32010 80000 v) (v % 10 == 0) h in
     let r = from_to 32010 80000 v b.0 in
     let low = r.0 in
-    record { some = omega arith; near_enough = r.1; whole = rw (above v 32000 (omega arith)) (eqb-true (v % 10) 0 b.1) }
+    record { some = omega arith; near_enough = r.1; whole = rw (lt-leb v 32000 (omega arith)) (eqb-true (v % 10) 0 b.1) }
 
 is_end : (format : Format) (v : ℕ) → is_expressible format v ≡ true → IsEnd format v
 is_end Near v h = in_metres Near v h
-is_end Far v h = elim (either (is_from_to 1 32000 v) (is_in_tens v) h) [ inl near ↦ in_metres Far v near | inr far ↦ in_tens v far ]
+is_end Far v h = elim (or_cases (is_from_to 1 32000 v) (is_in_tens v) h) [ inl near ↦ in_metres Far v near | inr far ↦ in_tens v far ]
 
 pub expressible_some : (format : Format) (v : ℕ) → is_expressible format v ≡ true → 0 < v
 expressible_some format v h = (is_end format v h).some
@@ -105,7 +95,7 @@ all_multiples_of_one (n ∷ ns) = rw (eq-eqb (n % 1) 0 (omega arith)) (all_multi
 far_in_metres : (v : ℕ) → v ≤ 32000 → (b : Bool) → is_from_to 1 32000 v ≡ b → (b || is_in_tens v) ≡ b
 far_in_metres v h true e = refl
 far_in_metres v h false e =
-    let low : nat_le 32010 v ≡ false = above 32010 v (omega arith) in
+    let low : nat_le 32010 v ≡ false = lt-leb 32010 v (omega arith) in
     rw low refl
 
 -- a message can give such a profile just where it can give its end
@@ -124,7 +114,7 @@ writable_in_metres profile h =
 -- a message can give a profile with an end and cuts in units
 pub writable : {V : Type 0} (levels : Levels V) (limit : ℕ) (profile : StepFunction V) → is_expressible Far profile.end ≡ true → IsProfile levels (unit_of profile.end) limit profile.end profile.steps
     → is_writable profile ≡ true
-writable levels limit profile end p = both (is_expressible Far profile.end) (are_multiples (unit_of profile.end) (starts_of profile.steps)) end p.in_units
+writable levels limit profile end p = and_from (is_expressible Far profile.end) (are_multiples (unit_of profile.end) (starts_of profile.steps)) end p.in_units
 
 pub writable_said : {V : Type 0} (profile : StepFunction V) → is_writable profile ≡ true → (is_expressible Far profile.end ≡ true) × (are_multiples (unit_of profile.end) (starts_of profile.steps) ≡ true)
 writable_said profile h = both_of (is_expressible Far profile.end) (are_multiples (unit_of profile.end) (starts_of profile.steps)) h

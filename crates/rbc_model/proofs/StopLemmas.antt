@@ -1,7 +1,8 @@
 -- A continued line always ends at an obstacle, so there is always a reach.
-use Rattle.std.proofs.Common.{◌≡◌, ℕ, zero, suc, Bool, true, false, [], ◌∷◌, ◌++◌, length, Option, Some, None, refl, ap, ◌∙◌, arith, ◌⊎◌, inl, inr}
+use Rattle.std.proofs.Common.{◌≡◌, ℕ, zero, suc, Bool, true, false, [], ◌∷◌, ◌++◌, length, Option, Some, None, refl, ap, ◌∙◌, arith, inl, inr}
 use Rattle.std.specs.Prelude.{is_some, is_none, ◌==◌, if◌then◌else◌, option_and_then}
 use Rattle.std.specs.Option.{option_or, option_map_or}
+use Rattle.std.proofs.lemmas.Bool.{cases_Bool}
 use Rattle.rbc_model.specs.Tracks.{Track}
 use Rattle.rbc_model.specs.declared.places.Leg.{Leg}
 use Rattle.rbc_model.specs.Lines.{Line, last_leg, line_length, has_section}
@@ -39,16 +40,12 @@ no_link-way_end track scene line leg last nowhere = rw (last, same_number, nowhe
 own-way_end : (track : Track) (scene : Scene) (line : Line) (leg : Leg) → last_leg line ≡ Some leg → is_none (next scene.locks leg) ≡ false → is_some (own track scene line (line_length track line)) ≡ true
 own-way_end track scene line leg last on = rw (last, same_number, some_there (next scene.locks leg) on) refl
 
-either : (b : Bool) → (b ≡ true) ⊎ (b ≡ false)
-either true = inl refl
-either false = inr refl
-
 -- so a line with a leg has an obstacle where it ends
 ends_there : (track : Track) (scene : Scene) (train : Train) (line : Line) (leg : Leg) → last_leg line ≡ Some leg → is_none (obstacle_on track scene train line (line_length track line)) ≡ false
 ends_there track scene train line leg last =
     let i = line_length track line in
     let later = first_some (occupied track scene train line i ∷ held track scene train line i ∷ limit track train i ∷ []) in
-    elim (either (is_none (next scene.locks leg))) [
+    elim (cases_Bool (is_none (next scene.locks leg))) [
       | inl e ↦ first_is (no_link track scene line i) (option_or (not_locked track scene line i) (option_or (own track scene line i) later)) (no_link-way_end track scene line leg last e)
       | inr e ↦ third_is (no_link track scene line i) (not_locked track scene line i) (own track scene line i) later (own-way_end track scene line leg last e)
     ]

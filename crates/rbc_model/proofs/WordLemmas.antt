@@ -5,7 +5,7 @@ use Rattle.std.specs.Char.{is_ascii_digit}
 use Rattle.std.specs.List.{AllByRecursion, list_all, join_with_byte, slice_split, position_or_len, before_first, after_first}
 use Rattle.std.specs.Str.Parse.{digits_value}
 use Rattle.std.proofs.Math.Seq.{take-append_seam, drop-append-add}
-use Rattle.std.proofs.lemmas.Bool.{le-leb, leb-true}
+use Rattle.std.proofs.lemmas.Bool.{le-leb, leb-true, and_from}
 use Rattle.std.proofs.lemmas.Fmt.{digits_decimal, digits_value-decimal, decimal_nonempty, length-decimal-le}
 use Rattle.std.proofs.lemmas.List.{length-append}
 use Rattle.std.proofs.lemmas.List.Elements.{All-nil, All-cons}
@@ -19,9 +19,6 @@ use Rattle.rbc_model.specs.Results.{is_from_to, allowed_value}
 use Rattle.rbc_model.specs.Words.{without_return, words_of, is_blank, is_text, is_numeral, number_in}
 use Rattle.rbc_model.specs.RequestText.{request_words}
 use Rattle.rbc_model.proofs.CountingLemmas.{both_of}
-
-pub both : (a b : Bool) → a ≡ true → b ≡ true → (a && b) ≡ true
-both a b h k = rw (h, k) refl
 
 -- ---- words
 
@@ -48,7 +45,7 @@ visible_from : (byte : ℕ) → is_visible byte ≡ true → (33 ≤ byte) × (b
 visible_from byte h = let b = both_of (nat_le 33 byte) (nat_le byte 126) h in (leb-true 33 byte b.0, leb-true byte 126 b.1)
 
 pub visible_is : (byte : ℕ) → 33 ≤ byte → byte ≤ 126 → is_visible byte ≡ true
-visible_is byte low high = both (nat_le 33 byte) (nat_le byte 126) (le-leb 33 byte low) (le-leb byte 126 high)
+visible_is byte low high = and_from (nat_le 33 byte) (nat_le byte 126) (le-leb 33 byte low) (le-leb byte 126 high)
 
 not_space : (byte : ℕ) → is_visible byte ≡ true → is_space byte ≡ false
 not_space byte h = let low = (visible_from byte h).0 in grind arith
@@ -56,7 +53,7 @@ not_space byte h = let low = (visible_from byte h).0 in grind arith
 text_of : (byte : ℕ) → is_visible byte ≡ true → is_text_byte byte ≡ true
 text_of byte h =
     let v = visible_from byte h in
-    both (nat_le 32 byte) (nat_le byte 126) (le-leb 32 byte (let low = v.0 in omega arith)) (le-leb byte 126 v.1)
+    and_from (nat_le 32 byte) (nat_le byte 126) (le-leb 32 byte (let low = v.0 in omega arith)) (le-leb byte 126 v.1)
 
 no_spaces : (word : List ℕ) → list_all is_visible word ≡ true → All (λ byte. is_space byte ≡ false) word
 no_spaces [] h = All-nil (λ byte. is_space byte ≡ false)
@@ -68,7 +65,7 @@ all_text : (word : List ℕ) → list_all is_visible word ≡ true → list_all 
 all_text [] h = refl
 all_text (byte ∷ word) h =
     let b = both_of (is_visible byte) (list_all is_visible word) h in
-    both (is_text_byte byte) (list_all is_text_byte word) (text_of byte b.0) (all_text word b.1)
+    and_from (is_text_byte byte) (list_all is_text_byte word) (text_of byte b.0) (all_text word b.1)
 
 -- ---- joined words
 
@@ -99,7 +96,7 @@ pub text_of_joined : (word : List ℕ) (words : List (List ℕ)) → AllByRecurs
 text_of_joined word [] are = all_text word are.0.visible
 text_of_joined word (next ∷ words) are =
     list_all-append is_text_byte word (32 ∷ joined next words)
-    ∙ both (list_all is_text_byte word) (list_all is_text_byte (32 ∷ joined next words)) (all_text word are.0.visible) (text_of_joined next words are.1)
+    ∙ and_from (list_all is_text_byte word) (list_all is_text_byte (32 ∷ joined next words)) (all_text word are.0.visible) (text_of_joined next words are.1)
 
 length_of_joined : (word : List ℕ) (words : List (List ℕ)) → AllByRecursion IsWord (word ∷ words) → length (joined word words) ≤ 33 * length (word ∷ words)
 length_of_joined word [] are = let short = are.0.short in omega arith
@@ -153,7 +150,7 @@ digit_test = record {
       let r = both_of (nat_le 48 byte) (nat_le byte 57) b.0 in
       ((leb-true 48 byte r.0, leb-true byte 57 r.1), b.1);
   more = λ byte text r h.
-      both (is_ascii_digit byte) (list_all is_ascii_digit text) (both (nat_le 48 byte) (nat_le byte 57) (le-leb 48 byte r.0) (le-leb byte 57 r.1)) h;
+      and_from (is_ascii_digit byte) (list_all is_ascii_digit text) (and_from (nat_le 48 byte) (nat_le byte 57) (le-leb 48 byte r.0) (le-leb byte 57 r.1)) h;
 }
 
 numerals : IsNumeralModel AreDigits (digits_value 10)
@@ -166,7 +163,7 @@ visible_digits (byte ∷ text) h =
     let r = both_of (nat_le 48 byte) (nat_le byte 57) b.0 in
     let low = leb-true 48 byte r.0 in
     let high = leb-true byte 57 r.1 in
-    both (is_visible byte) (list_all is_visible text) (visible_is byte (omega arith) (omega arith)) (visible_digits text b.1)
+    and_from (is_visible byte) (list_all is_visible text) (visible_is byte (omega arith) (omega arith)) (visible_digits text b.1)
 
 module _ (n : ℕ) (small : n < 10 ^ 10) where
   fits : n < 2 ^ 64
@@ -187,8 +184,8 @@ module _ (n : ℕ) (small : n < 10 ^ 10) where
   numeral : is_numeral (decimal n) ≡ true
   numeral =
       let some = decimal_nonempty n fits in
-      both (nat_le 1 (length (decimal n)) && nat_le (length (decimal n)) 10) (list_all is_ascii_digit (decimal n))
-      (both (nat_le 1 (length (decimal n))) (nat_le (length (decimal n)) 10) (le-leb 1 (length (decimal n)) (omega arith)) (le-leb (length (decimal n)) 10 number_short))
+      and_from (nat_le 1 (length (decimal n)) && nat_le (length (decimal n)) 10) (list_all is_ascii_digit (decimal n))
+      (and_from (nat_le 1 (length (decimal n))) (nat_le (length (decimal n)) 10) (le-leb 1 (length (decimal n)) (omega arith)) (le-leb (length (decimal n)) 10 number_short))
       digits
 
   -- and is read back
@@ -205,13 +202,13 @@ module _ (n : ℕ) (small : n < 10 ^ 10) where
           let b = both_of (is_ascii_digit byte) (list_all is_ascii_digit text) h in
           let low = leb-true 48 byte (both_of (nat_le 48 byte) (nat_le byte 57) b.0).0 in
           let e : (byte == 47) ≡ false = grind arith in
-          both (not (byte == 47)) (list_all (λ byte. not (byte == 47)) text) (ap not e) (among text b.1)
+          and_from (not (byte == 47)) (list_all (λ byte. not (byte == 47)) text) (ap not e) (among text b.1)
 
 -- a number in a range is read back where that range is asked for
 pub allowed-decimal : {E : Type 0} (low high n : ℕ) (e : E) → low ≤ n → n ≤ high → high < 10 ^ 10 → allowed_value (is_from_to low high) e (number_in (decimal n)) ≡ Ok n
 allowed-decimal low high n e above below small =
     ap (allowed_value (is_from_to low high) e) (number_in-decimal n (omega arith))
-    ∙ ap (λ b. cond b (Ok n) (Err e)) (both (nat_le low n) (nat_le n high) (le-leb low n above) (le-leb n high below))
+    ∙ ap (λ b. cond b (Ok n) (Err e)) (and_from (nat_le low n) (nat_le n high) (le-leb low n above) (le-leb n high below))
 
 -- ---- what stands before and behind a mark
 

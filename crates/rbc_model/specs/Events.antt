@@ -100,18 +100,19 @@ after_give_back track scene number distance = option_map_or cut (train_numbered 
         let to = train.origin + distance in
         if nat_lt to train.to && nat_le train.front to && nat_le train.from to then Ok (with_train scene (cut_at track train to)) else Err (YieldRange number)
 
+-- the train's line, continued to have the last metre before a place
+abbrev pub line_to : Track → Scene → Train → ℕ → Line
+line_to track scene train to = take (max (length train.line) (legs_begun_before track to (way track scene train))) (way track scene train)
+
 -- a train is granted an authority from its start to a safe and expressible end; its line is continued to have the last metre
 abbrev pub after_grant : Track → Scene → ℕ → ℕ → Result Scene Refusal
 after_grant track scene number distance = option_map_or grant (train_numbered scene number) (Err (UnknownTrain number))
   where
-    line_to : Train → ℕ → Line
-    line_to train to = take (max (length train.line) (legs_begun_before track to (way track scene train))) (way track scene train)
-
     grant : Train → Result Scene Refusal
     grant train =
         let to = train.origin + distance in
         if is_safe track scene train to && is_expressible_end track train to
-        then Ok (with_train scene (with_authority train (line_to train to) (start_of train) to))
+        then Ok (with_train scene (with_authority train (line_to track scene train to) (start_of train) to))
         else Err NotSafe
 
 -- what is told, in a scene

@@ -3,7 +3,7 @@ use Rattle.std.specs.List.{range_with_len, list_any, find}
 use Rattle.std.proofs.Common.{◌≡◌, ℕ, ◌-◌, ◌<◌, ◌≤◌, min, max, Bool, true, false, ◌||◌, List, [], ◌∷◌, Option, Some, None, refl, sym, subst, ◌∙◌, arith, ◌⊎◌, inl, inr, nat_lt}
 use Rattle.std.specs.Prelude.{not, unwrap_or, fold, if◌then◌else◌}
 use Rattle.std.specs.Option.{option_or}
-use Rattle.std.proofs.lemmas.Bool.{ltb-true, lt-ltb}
+use Rattle.std.proofs.lemmas.Bool.{ltb-true, lt-ltb, or_from}
 use Rattle.rbc_model.proofs.ScanLemmas.{first_blocked, le_or_lt, find-numbers, find-numbers_none}
 use Rattle.rbc_reach_laws.specs.Nearest.{nearer}
 use Rattle.rbc_reach_laws.proofs.BasicLemmas.{clash}
@@ -122,9 +122,6 @@ IsNearest-then test low mid next end a b far e f g = by_test (nat_lt a mid) refl
 
 -- ---- one test beside the other
 
-either_fails : (a b : Bool) → a ≡ false → b ≡ false → (a || b) ≡ false
-either_fails a b h k = rw (h, k) refl
-
 first_passes : (a b : Bool) → a ≡ true → (a || b) ≡ true
 first_passes a b h = rw h refl
 
@@ -142,7 +139,7 @@ IsNearest-nearer test other low end high i None far f g =
       le = f.le;
       low = f.low;
       passes = λ h. first_passes (test i) (other i) (f.passes h);
-      before = λ j l u. either_fails (test j) (other j) (f.before j l u) (g.none refl j l (omega arith));
+      before = λ j l u. or_from (test j) (other j) (f.before j l u) (g.none refl j l (omega arith));
     }
 IsNearest-nearer test other low end high i (Some x) far f g = by_order (le_or_lt i x)
   where
@@ -155,7 +152,7 @@ IsNearest-nearer test other low end high i (Some x) far f g = by_order (le_or_lt
           le = f.le;
           low = f.low;
           passes = λ h. first_passes (test i) (other i) (f.passes h);
-          before = λ j l u. either_fails (test j) (other j) (f.before j l u) (y.before j l (omega arith));
+          before = λ j l u. or_from (test j) (other j) (f.before j l u) (y.before j l (omega arith));
         })
     by_order (inr h) =
         let le = f.le in
@@ -165,7 +162,7 @@ IsNearest-nearer test other low end high i (Some x) far f g = by_order (le_or_lt
           le = omega arith;
           low = λ k. y.low;
           passes = λ k. second_passes (test x) (other x) y.passes;
-          before = λ j l u. either_fails (test j) (other j) (f.before j l (omega arith)) (y.before j l u);
+          before = λ j l u. or_from (test j) (other j) (f.before j l (omega arith)) (y.before j l u);
         })
 
 or_joined : (p q r : Bool) → ((p || q) || r) ≡ (p || (q || r))

@@ -2,7 +2,7 @@
 use Rattle.std.specs.List.{range_with_len, filter}
 use Rattle.std.proofs.Common.{◌≡◌, ℕ, ◌+◌, ◌-◌, ◌*◌, ◌/◌, ◌%◌, ◌<◌, ◌≤◌, ◌↔◌, min, max, Bool, true, false, ◌&&◌, ◌||◌, Option, Some, None, refl, ap, sym, subst, ◌∙◌, arith, ◌⊎◌, inl, inr, nat_lt, nat_le, ◌==◌}
 use Rattle.std.specs.Prelude.{if◌then◌else◌}
-use Rattle.std.proofs.lemmas.Bool.{leb-true, ltb-true, lt-ltb, le-leb, eqb-true, eq-eqb}
+use Rattle.std.proofs.lemmas.Bool.{leb-true, ltb-true, lt-ltb, le-leb, eqb-true, eq-eqb, or_cases}
 use Rattle.rbc_model.specs.declared.places.Format.{Format}
 use Rattle.rbc_model.specs.declared.places.Format.TheVariants.{Near, Far}
 use Rattle.rbc_model.specs.Results.{is_from_to}
@@ -24,10 +24,6 @@ from_to low high v h = (leb-true low v (and_left (nat_le low v) (nat_le v high) 
 is_within : (low high v : ℕ) → low ≤ v → v ≤ high → is_from_to low high v ≡ true
 is_within low high v a b = both (nat_le low v) (nat_le v high) (le-leb low v a) (le-leb v high b)
 
-either : (a b : Bool) → (a || b) ≡ true → (a ≡ true) ⊎ (b ≡ true)
-either true b h = inl refl
-either false b h = inr h
-
 or_right : (a b : Bool) → b ≡ true → (a || b) ≡ true
 or_right true b h = refl
 or_right false b h = h
@@ -47,7 +43,7 @@ in_metres v low high = rw (is_within 1 32000 v (omega arith) high) refl
 
 -- what a message can give
 far_said : (v : ℕ) → is_expressible Far v ≡ true → ((0 < v) × (v ≤ 32000)) ⊎ ((32010 ≤ v) × (v ≤ 80000) × (v % 10 ≡ 0))
-far_said v h = elim (either (is_from_to 1 32000 v) (is_in_tens v) h) [
+far_said v h = elim (or_cases (is_from_to 1 32000 v) (is_in_tens v) h) [
   | inl near ↦ let r = from_to 1 32000 v near in let low = r.0 in inl (omega arith, r.1)
   | inr far ↦ inr (tens v far)
 ]

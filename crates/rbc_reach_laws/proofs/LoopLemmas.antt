@@ -3,7 +3,7 @@ use Rattle.std.specs.List.{find, filter}
 use Rattle.std.proofs.Common.{◌≡◌, ℕ, zero, suc, ◌+◌, ◌-◌, max, Bool, true, false, ◌&&◌, ◌||◌, not, cond, List, [], ◌∷◌, ◌++◌, length, Option, Some, None, refl, ap, sym, subst, ◌∙◌, arith, nat_lt}
 use Rattle.std.specs.Prelude.{fold, ◌==◌, if◌then◌else◌, option_and_then}
 use Rattle.std.specs.Option.{option_map_or}
-use Rattle.std.proofs.lemmas.Bool.{eqb-true}
+use Rattle.std.proofs.lemmas.Bool.{eqb-true, not-true}
 use Rattle.rbc_model.specs.declared.places.Leg.{Leg}
 use Rattle.rbc_model.specs.declared.refusals.Obstacle.{Obstacle}
 use Rattle.rbc_model.specs.declared.refusals.Obstacle.TheVariants.{Own}
@@ -62,10 +62,6 @@ or_false_right : (a b : Bool) → (a || b) ≡ false → b ≡ false
 or_false_right true b h = cc
 or_false_right false b h = h
 
-not_false : (b : Bool) → not b ≡ true → b ≡ false
-not_false true h = cc
-not_false false h = refl
-
 module _ (track : Track) (start p : ℕ) (leg : Leg) (a b : ℕ) where
   -- no leg of the section, nothing nearer
   no_pairs : (q place : ℕ) (line : Line) → has_section line leg.section ≡ false → nearest_pairs track start p leg q a b place line ≡ place
@@ -86,7 +82,7 @@ module _ (track : Track) (start p : ℕ) (leg : Leg) (a b : ℕ) where
   nearest_pairs-span q place [] d = nothing_nearer place start p
   nearest_pairs-span q place (other ∷ line) d =
       by_section (other.section == leg.section) q (metres_of track other.section) place (span_met (direction_eq other.direction leg.direction) (metres_of track leg.section) q a b) line
-      (λ e. subst (λ s. has_section line s ≡ false) (eqb-true other.section leg.section e) (not_false (has_section line other.section) (and_left (not (has_section line other.section)) (sections_differ line) d)))
+      (λ e. subst (λ s. has_section line s ≡ false) (eqb-true other.section leg.section e) (not-true (has_section line other.section) (and_left (not (has_section line other.section)) (sections_differ line) d)))
       (λ place. nearest_pairs-span (q + metres_of track other.section) place line (and_right (not (has_section line other.section)) (sections_differ line) d))
 
 -- ---- legs that are looked up on the way

@@ -31,10 +31,8 @@ IsLegal-take track entries moment legal place entry there =
 
 pub EachEndIsFarthest-legal : (track : Track) (entries : List Entry) → IsLegal track entries → EachEndIsFarthest track entries
 EachEndIsFarthest-legal track entries legal moment grant train there known =
-    let best = ((legal moment (Granted grant) there).best grant refl).best train known in
-    record { expressible = best.expressible; safe = best.safe; farthest = best.farthest; stopped = best.stopped }
+    (((legal moment (Granted grant) there).best grant refl).best train known).ends
 
 pub EachProfileIsBest-legal : (track : Track) (entries : List Entry) → IsLegal track entries → EachProfileIsBest track entries
 EachProfileIsBest-legal track entries legal moment grant train there known =
-    let best = ((legal moment (Granted grant) there).best grant refl).best train known in
-    record { speeds = best.speeds; grades = best.grades }
+    (((legal moment (Granted grant) there).best grant refl).best train known).profiles

@@ -1,9 +1,9 @@
 -- Histories together with their track, and what a record keeps of them.
-use Rattle.std.specs.Prelude.{◌≡◌, ◌≤◌, nat_le, Bool, List, [], ◌∷◌, ◌++◌, length}
+use Rattle.std.specs.Prelude.{◌≡◌, ◌≤◌, Bool, List, [], ◌∷◌, ◌++◌, length}
 use Rattle.rbc_model.specs.Tracks.{Track}
 use Rattle.rbc_model.specs.SoundTracks.{IsInForm, IsSound}
 use Rattle.rbc_model.specs.Scenes.{Scene}
-use Rattle.rbc_model.specs.Histories.{Entry, IsLegal, replay}
+use Rattle.rbc_model.specs.Histories.{Entry, IsLegal, replay, is_full as has_most_entries}
 use Rattle.rbc_grant.specs.ScenesOnTracks.{SceneOnTrack}
 use Rattle.rbc_model.specs.declared.limits.TheConstants.{MOST_ENTRIES}
 
@@ -22,7 +22,7 @@ scene_now history = replay history.track history.entries
 
 -- whether no entry may be added
 abbrev pub is_full : HistoryOnTrack → Bool
-is_full history = nat_le MOST_ENTRIES (length history.entries)
+is_full history = has_most_entries history.entries
 
 -- the history with one entry more
 abbrev pub with_entry : HistoryOnTrack → Entry → HistoryOnTrack

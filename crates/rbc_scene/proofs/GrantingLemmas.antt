@@ -9,7 +9,7 @@ use Rattle.std.proofs.lemmas.List.Elements.{recursion_from_All}
 use Rattle.rbc_model.specs.declared.refusals.Obstacle.{Obstacle}
 use Rattle.rbc_model.specs.declared.refusals.Refusal.{Refusal}
 use Rattle.rbc_model.specs.declared.refusals.Refusal.TheVariants.{NotSafe, UnknownTrain}
-use Rattle.rbc_model.specs.Events.{after_grant, with_authority, with_train}
+use Rattle.rbc_model.specs.Events.{after_grant, line_to, with_authority, with_train}
 use Rattle.rbc_model.specs.Histories.{AuthoritiesAreApart}
 use Rattle.rbc_model.specs.Lines.{Line, legs_begun_before, line_length}
 use Rattle.rbc_model.specs.Locks.{Locks}
@@ -33,7 +33,7 @@ use Rattle.rbc_way.specs.TrainsOnTracks.{TrainOnTrack}
 use Rattle.rbc_way.specs.Books.{Book, HoldsOfTrain, book_with, scene_of, train_in}
 use Rattle.rbc_way.specs.Entries.{on_track}
 use Rattle.rbc_way.specs.Reaches.{BeginsWay}
-use Rattle.rbc_scene.specs.Grants.{granted_train, line_to}
+use Rattle.rbc_scene.specs.Grants.{granted_train}
 use Rattle.rbc_scene.specs.ScenesOnTracks.{SceneOnTrack, IsKept, scene_on}
 use Rattle.rbc_scene.specs.Steps.{reach_of}
 

@@ -1,18 +1,12 @@
 -- Grants, train by train: the parts of the definition by their names.
-use Rattle.std.specs.Prelude.{ℕ, ◌+◌, max, ◌&&◌, if◌then◌else◌, length, take, Result, Ok, Err}
+use Rattle.std.specs.Prelude.{ℕ, ◌+◌, ◌&&◌, if◌then◌else◌, Result, Ok, Err}
 use Rattle.rbc_model.specs.declared.refusals.Refusal.{Refusal}
 use Rattle.rbc_model.specs.declared.refusals.Refusal.TheVariants.{NotSafe}
 use Rattle.rbc_model.specs.Tracks.{Track}
-use Rattle.rbc_model.specs.Lines.{Line, legs_begun_before}
 use Rattle.rbc_model.specs.Trains.{Train}
 use Rattle.rbc_model.specs.Scenes.{Scene}
-use Rattle.rbc_model.specs.Obstacles.{way}
 use Rattle.rbc_model.specs.Views.{start_of, is_safe, is_expressible_end}
-use Rattle.rbc_model.specs.Events.{with_authority}
-
--- the train's line, continued to have the last metre before a place
-abbrev pub line_to : Track → Scene → Train → ℕ → Line
-line_to track scene train to = take (max (length train.line) (legs_begun_before track to (way track scene train))) (way track scene train)
+use Rattle.rbc_model.specs.Events.{with_authority, line_to}
 
 -- the train once it is granted an authority up to so many metres from its group, if that is a safe end that a message can give
 abbrev pub granted_train : Track → Scene → Train → ℕ → Result Train Refusal

@@ -4,10 +4,10 @@ ghost use Rattle.std.specs.Prelude.{◌≡◌, ◌≤◌, ◌<◌, true, Err, If
 ghost use Rattle.rbc_model.specs.declared.memory.OrMemory.TheVariants.{Refused};
 ghost use Rattle.rbc_model.specs.declared.refusals.Refusal.TheVariants.{NotSafe};
 ghost use Rattle.rbc_model.specs.Answers.{AnswersAs};
-ghost use Rattle.rbc_model.specs.Events.{with_authority};
+ghost use Rattle.rbc_model.specs.Events.{line_to, with_authority};
 ghost use Rattle.rbc_model.specs.Lines.{line_length};
 ghost use Rattle.rbc_model.specs.Scenes.{Scene};
-ghost use Rattle.rbc_scene.specs.Grants.{granted_train, line_to};
+ghost use Rattle.rbc_scene.specs.Grants.{granted_train};
 ghost use Rattle.rbc_scene.specs.Steps.{is_out_of_range};
 ghost use Rattle.rbc_scene_laws.specs.Good.{IsGoodLocks};
 ghost use Rattle.rbc_way.specs.Reaches.{BeginsWay, scene_of};

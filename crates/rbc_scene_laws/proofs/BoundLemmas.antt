@@ -4,7 +4,7 @@ use Rattle.std.specs.Prelude.{◌==◌, is_some, slice_get, fold, filter}
 use Rattle.std.specs.Option.{option_map_or}
 use Rattle.std.specs.Result.{result_map_both, result_unwrap_or}
 use Rattle.std.specs.List.{list_all, list_any, AllByRecursion, IsDistinct}
-use Rattle.std.proofs.lemmas.Bool.{leb-true, leb-false, eqb-true}
+use Rattle.std.proofs.lemmas.Bool.{leb-true, leb-false, eqb-true, or_cases}
 use Rattle.std.proofs.lemmas.List.{length-map, length-append}
 use Rattle.std.proofs.lemmas.Map.Steps.{length-le_from_distinct_below}
 use Rattle.rbc_model.specs.declared.refusals.Refusal.{Refusal}
@@ -33,7 +33,7 @@ use Rattle.rbc_scene_laws.proofs.LockingLemmas.{mapped}
 use Rattle.rbc_scene_laws.proofs.GrantingLemmas.{granted_to, line_for}
 use Rattle.rbc_scene_laws.proofs.GivingBackLemmas.{given_back}
 use Rattle.rbc_scene_laws.proofs.ReportingLemmas.{is_reported, placed_train}
-use Rattle.rbc_scene_laws.proofs.BasicLemmas.{and_left, and_right, not_false, or_false_left, or_false_right, flipped, true_or}
+use Rattle.rbc_scene_laws.proofs.BasicLemmas.{and_left, and_right, not_false, or_false_left, or_false_right, flipped}
 use Rattle.rbc_scene_laws.proofs.SpotLemmas.{line_length-cons}
 use Rattle.rbc_scene_laws.proofs.OnLineLemmas.{OnLine-IsLine}
 
@@ -68,7 +68,7 @@ distinct (leg ∷ line) d =
 below_of : (n : ℕ) (line : Line) (q : ℕ) → AllByRecursion (λ (leg : Leg). leg.section < n) line → list_any (λ x. q == x) (map (λ (leg : Leg). leg.section) line) ≡ true → q < n
 below_of n [] q h any = cc
 below_of n (leg ∷ line) q h any =
-    elim (true_or (q == leg.section) (list_any (λ x. q == x) (map (λ (l : Leg). l.section) line)) any) [
+    elim (or_cases (q == leg.section) (list_any (λ x. q == x) (map (λ (l : Leg). l.section) line)) any) [
       | inl e ↦ let same = eqb-true q leg.section e in let low = h.0 in omega arith
       | inr e ↦ below_of n line q h.1 e
     ]

@@ -5,6 +5,7 @@ use Rattle.std.specs.Option.{option_map_or, option_eq}
 use Rattle.std.specs.List.{AllByRecursion}
 use Rattle.std.proofs.lemmas.List.{take-append-drop, length-append}
 use Rattle.std.proofs.lemmas.List.Elements.{recursion_from_All}
+use Rattle.std.proofs.lemmas.Bool.{and_from, not_from_false}
 use Rattle.rbc_model.specs.declared.places.Metre.{Metre}
 use Rattle.rbc_model.specs.declared.places.Leg.{Leg}
 use Rattle.rbc_model.specs.declared.tracks.Lock.{Lock}
@@ -24,7 +25,7 @@ use Rattle.rbc_model.proofs.EndLemmas.{IsSafe-is_safe, le_reach-IsSafe, reach-le
 use Rattle.rbc_model.proofs.StopLemmas.{IsStopped-reach}
 use Rattle.rbc_model.proofs.ExtentLemmas.{place-authority_has}
 use Rattle.rbc_scene_laws.specs.Good.{IsGoodScene, IsGoodTrain, IsGoodLocks}
-use Rattle.rbc_scene_laws.proofs.BasicLemmas.{and_left, both, not_true, the_some, clash}
+use Rattle.rbc_scene_laws.proofs.BasicLemmas.{and_left, the_some, clash}
 use Rattle.rbc_scene_laws.proofs.SpotLemmas.{at_place-on, at_place-append_left, line_length-append, if_in, if_past}
 use Rattle.rbc_scene_laws.proofs.TrainListLemmas.{find-none, find-holds}
 use Rattle.rbc_scene_laws.proofs.AuthorityLemmas.{Apart, IsHeldLocked, good_with_train}
@@ -69,7 +70,7 @@ locked_weaker locks before leg h = by_row (row locks leg.section) h
 
     by_row : (o : Option Lock) → option_map_or (test before) o false ≡ true → option_map_or (test None) o false ≡ true
     by_row None e = e
-    by_row (Some lock) e = both (direction_eq lock.direction leg.direction) true (and_left (direction_eq lock.direction leg.direction) (is_none before || option_eq leg_eq lock.before before) e) refl
+    by_row (Some lock) e = and_from (direction_eq lock.direction leg.direction) true (and_left (direction_eq lock.direction leg.direction) (is_none before || option_eq leg_eq lock.before before) e) refl
 
 leg_locked : (track : Track) (locks : Locks) (before : Option Leg) (line : Line) (i : ℕ) (leg : Leg) → unlocked_section track locks before line i ≡ None → leg_at track line i ≡ Some leg → is_locked locks None leg ≡ true
 leg_locked track locks before [] i leg h there = cc
@@ -192,7 +193,7 @@ apart_from_all : (track : Track) (after : Train) (number : ℕ) (xs : List Train
     → AllByRecursion (λ (other : Train). (other.report.train == number) ≡ false → Apart track after other) xs
 apart_from_all track after number [] h = tt
 apart_from_all track after number (x ∷ xs) h = (
-  (λ unlike metre of_track has also. clash (authority_has track metre x) also ((h metre of_track has).0 (not_true (x.report.train == number) unlike))),
+  (λ unlike metre of_track has also. clash (authority_has track metre x) also ((h metre of_track has).0 (not_from_false (x.report.train == number) unlike))),
   apart_from_all track after number xs (λ metre of_track has. (h metre of_track has).1),
 )
 

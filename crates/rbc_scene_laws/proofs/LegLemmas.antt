@@ -3,7 +3,7 @@ use Rattle.std.proofs.Common.{◌≡◌, ℕ, zero, suc, ◌+◌, ◌-◌, ◌<�
 use Rattle.std.specs.Prelude.{◌==◌, option_map}
 use Rattle.std.specs.Option.{option_map_or}
 use Rattle.std.specs.List.{list_any, range_with_len}
-use Rattle.std.proofs.lemmas.Bool.{leb-true, ltb-true, lt-ltb, le-leb, le-ltb, lt-leb}
+use Rattle.std.proofs.lemmas.Bool.{leb-true, ltb-true, lt-ltb, le-leb, le-ltb, lt-leb, and_from}
 use Rattle.rbc_model.specs.declared.places.Metre.{Metre}
 use Rattle.rbc_model.specs.declared.places.Leg.{Leg}
 use Rattle.rbc_model.specs.declared.places.Direction.{Direction}
@@ -14,7 +14,7 @@ use Rattle.rbc_model.specs.Trains.{Train}
 use Rattle.rbc_model.specs.Scenes.{extent_has, authority_has}
 use Rattle.rbc_model.specs.Events.{stands_on}
 use Rattle.rbc_model.proofs.ScanLemmas.{le_or_lt}
-use Rattle.rbc_scene_laws.proofs.BasicLemmas.{and_left, and_right, both, or_left, neither, or_false_left, or_false_right, same_number, clash, either}
+use Rattle.rbc_scene_laws.proofs.BasicLemmas.{and_left, and_right, or_left, neither, or_false_left, or_false_right, same_number, clash, either}
 use Rattle.rbc_scene_laws.proofs.SpotLemmas.{at_place-append_left, at_place-append_right, if_in, if_past}
 use Rattle.rbc_scene_laws.proofs.OriginLemmas.{place_on-append_right}
 
@@ -112,7 +112,7 @@ is_in-leg track a b leg i before behind =
             | inr here ↦
                 ap (λ o. option_map_or (λ (metre : Metre). metre.section == leg.section) o false) (if_in (Some (metre_of_leg track leg (i - n))) (metre_at track b (i - n - m)) (i - n) m here)
                 ∙ same_number leg.section
-                ∙ sym (both (nat_le n i) (nat_lt i (n + m)) (le-leb n i on) (lt-ltb i (n + m) (omega arith)))
+                ∙ sym (and_from (nat_le n i) (nat_lt i (n + m)) (le-leb n i on) (lt-ltb i (n + m) (omega arith)))
           ]
     ]
   where
@@ -148,7 +148,7 @@ any_between low high a (suc n) =
 
     out : (low high a : ℕ) → (nat_le low a && nat_lt a high) ≡ false → (a < low) ⊎ (high ≤ a)
     out low high a e = elim (le_or_lt low a) [
-      | inl on ↦ elim (le_or_lt high a) [ inl past ↦ inr past | inr here ↦ absurd (clash (nat_le low a && nat_lt a high) (both (nat_le low a) (nat_lt a high) (le-leb low a on) (lt-ltb a high here)) e) ]
+      | inl on ↦ elim (le_or_lt high a) [ inl past ↦ inr past | inr here ↦ absurd (clash (nat_le low a && nat_lt a high) (and_from (nat_le low a) (nat_lt a high) (le-leb low a on) (lt-ltb a high here)) e) ]
       | inr before ↦ inl before
     ]
 

@@ -3,7 +3,7 @@ use Rattle.std.proofs.Common.{◌≡◌, ℕ, zero, suc, ◌<◌, Bool, true, fa
 use Rattle.std.specs.Prelude.{◌==◌, option_and_then, slice_get}
 use Rattle.std.specs.Option.{option_map_or, option_flatten}
 use Rattle.std.specs.List.{list_any}
-use Rattle.std.proofs.lemmas.Bool.{ltb-true}
+use Rattle.std.proofs.lemmas.Bool.{ltb-true, or_cases}
 use Rattle.std.proofs.lemmas.Option.{slice_get_within}
 use Rattle.rbc_model.specs.declared.places.Leg.{Leg}
 use Rattle.rbc_model.specs.declared.tracks.Link.{Link}
@@ -14,7 +14,7 @@ use Rattle.rbc_model.specs.Lines.{Line, has_section, last_leg, first_leg}
 use Rattle.rbc_model.specs.Locks.{Locks, next, prev, longer_ahead, longer_back, lengthened, lengthened_fully}
 use Rattle.rbc_model.proofs.SamenessLemmas.{leg_eq-true}
 use Rattle.rbc_scene_laws.specs.Good.{IsGoodLocks}
-use Rattle.rbc_scene_laws.proofs.BasicLemmas.{and_left, and_right, true_or}
+use Rattle.rbc_scene_laws.proofs.BasicLemmas.{and_left, and_right}
 use Rattle.rbc_scene_laws.proofs.RowLemmas.{next-row, prev-row, linked-row}
 use Rattle.rbc_scene_laws.proofs.OnLineLemmas.{OnLine, OnLine-push, OnLine-cons}
 
@@ -34,7 +34,7 @@ joined_below track a b link earlier h good =
     let pq = and_left (p && q) r (and_left (p && q && r) s good) in
     let from = ltb-true link.from.section n (and_left p q pq) in
     let to = ltb-true link.to.section n (and_right p q pq) in
-    elim (true_or (leg_eq link.from a && leg_eq link.to b) (leg_eq link.from (reverse_leg b) && leg_eq link.to (reverse_leg a)) h) [
+    elim (or_cases (leg_eq link.from a && leg_eq link.to b) (leg_eq link.from (reverse_leg b) && leg_eq link.to (reverse_leg a)) h) [
       | inl e ↦ record {
         first = subst (λ (l : Leg). l.section < n) (leg_eq-true link.from a (and_left (leg_eq link.from a) (leg_eq link.to b) e)) from;
         second = subst (λ (l : Leg). l.section < n) (leg_eq-true link.to b (and_right (leg_eq link.from a) (leg_eq link.to b) e)) to;
@@ -48,7 +48,7 @@ joined_below track a b link earlier h good =
 linked_in : (track : Track) (a b : Leg) (earlier links : List Link) → each_passes (is_good_link track) earlier links ≡ true → list_any (joins a b) links ≡ true → AreBelow (length track.sections) a b
 linked_in track a b earlier [] good h = cc
 linked_in track a b earlier (link ∷ links) good h =
-    elim (true_or (joins a b link) (list_any (joins a b) links) h) [
+    elim (or_cases (joins a b link) (list_any (joins a b) links) h) [
       | inl e ↦ joined_below track a b link earlier e (and_left (is_good_link track earlier link) (each_passes (is_good_link track) (earlier ++ link ∷ []) links) good)
       | inr e ↦ linked_in track a b (earlier ++ link ∷ []) links (and_right (is_good_link track earlier link) (each_passes (is_good_link track) (earlier ++ link ∷ []) links) good) e
     ]

@@ -3,11 +3,12 @@ use Rattle.std.proofs.Common.{◌≡◌, ℕ, zero, suc, ◌+◌, ◌<◌, Bool,
 use Rattle.std.specs.Prelude.{◌==◌, IsTrue}
 use Rattle.std.specs.List.{AllByRecursion, AllAdjacentBelow}
 use Rattle.std.proofs.lemmas.List.Elements.{All-from_recursion, recursion_from_All}
+use Rattle.std.proofs.lemmas.Bool.{and_from, not_from_false}
 use Rattle.rbc_model.specs.declared.places.Leg.{Leg}
 use Rattle.rbc_model.specs.Tracks.{Track, is_linked}
 use Rattle.rbc_model.specs.SoundTracks.{sections_differ, are_linked}
 use Rattle.rbc_model.specs.Lines.{Line, IsLine, has_section, last_leg, first_leg}
-use Rattle.rbc_scene_laws.proofs.BasicLemmas.{EachPair, AllPairs-from_recursion, recursion_from_AllPairs, and_left, and_right, both, not_false, not_true, or_false_left, or_false_right, neither, flipped, number_apart, other_number}
+use Rattle.rbc_scene_laws.proofs.BasicLemmas.{EachPair, AllPairs-from_recursion, recursion_from_AllPairs, and_left, and_right, not_false, or_false_left, or_false_right, neither, flipped, number_apart, other_number}
 
 -- a line, by tests
 pub record OnLine (track : Track) (line : Line) : Type 0 where
@@ -38,7 +39,7 @@ pairs_differ (leg ∷ line) h =
 differ_pairs : (line : Line) → EachPair DifferentSections line → sections_differ line ≡ true
 differ_pairs [] h = refl
 differ_pairs (leg ∷ line) h =
-    both (not (has_section line leg.section)) (sections_differ line) (not_true (has_section line leg.section) (unlike_each leg.section line h.0)) (differ_pairs line h.1)
+    and_from (not (has_section line leg.section)) (sections_differ line) (not_from_false (has_section line leg.section) (unlike_each leg.section line h.0)) (differ_pairs line h.1)
 
 module _ (track : Track) where
   abbrev Linked : Leg → Leg → Type 0
@@ -56,7 +57,7 @@ module _ (track : Track) where
   linked_adjacent [] h = refl
   linked_adjacent (leg ∷ []) h = refl
   linked_adjacent (leg ∷ next ∷ line) h =
-      both (is_linked track leg next) (are_linked track (next ∷ line))
+      and_from (is_linked track leg next) (are_linked track (next ∷ line))
       (h zero leg (omega arith))
       (linked_adjacent (next ∷ line) (λ k d low. subst (λ j. Linked (get_or (next ∷ line) k d) (get_or (leg ∷ next ∷ line) j d)) (let e : suc k + 1 ≡ suc (k + 1) = omega arith in e) (h (suc k) d (omega arith))))
 
@@ -95,8 +96,8 @@ lacks_right a b section h = or_false_right (has_section a section) (has_section 
 pub differ_left : (a b : Line) → sections_differ (a ++ b) ≡ true → sections_differ a ≡ true
 differ_left [] b h = refl
 differ_left (leg ∷ a) b h =
-    both (not (has_section a leg.section)) (sections_differ a)
-    (not_true (has_section a leg.section) (lacks_left a b leg.section (not_false (has_section (a ++ b) leg.section) (and_left (not (has_section (a ++ b) leg.section)) (sections_differ (a ++ b)) h))))
+    and_from (not (has_section a leg.section)) (sections_differ a)
+    (not_from_false (has_section a leg.section) (lacks_left a b leg.section (not_false (has_section (a ++ b) leg.section) (and_left (not (has_section (a ++ b) leg.section)) (sections_differ (a ++ b)) h))))
     (differ_left a b (and_right (not (has_section (a ++ b) leg.section)) (sections_differ (a ++ b)) h))
 
 pub differ_right : (a b : Line) → sections_differ (a ++ b) ≡ true → sections_differ b ≡ true
@@ -107,7 +108,7 @@ linked_left : (track : Track) (a b : Line) → are_linked track (a ++ b) ≡ tru
 linked_left track [] b h = refl
 linked_left track (leg ∷ []) b h = refl
 linked_left track (leg ∷ next ∷ a) b h =
-    both (is_linked track leg next) (are_linked track (next ∷ a)) (and_left (is_linked track leg next) (are_linked track (next ∷ (a ++ b))) h) (linked_left track (next ∷ a) b (and_right (is_linked track leg next) (are_linked track (next ∷ (a ++ b))) h))
+    and_from (is_linked track leg next) (are_linked track (next ∷ a)) (and_left (is_linked track leg next) (are_linked track (next ∷ (a ++ b))) h) (linked_left track (next ∷ a) b (and_right (is_linked track leg next) (are_linked track (next ∷ (a ++ b))) h))
 
 linked_tail : (track : Track) (leg : Leg) (b : Line) → are_linked track (leg ∷ b) ≡ true → are_linked track b ≡ true
 linked_tail track leg [] h = refl
@@ -150,8 +151,8 @@ each_more P (y ∷ xs) x h k = (h.0, each_more P xs x h.1 k)
 differ-push : (line : Line) (leg : Leg) → sections_differ line ≡ true → has_section line leg.section ≡ false → sections_differ (line ++ leg ∷ []) ≡ true
 differ-push [] leg d h = refl
 differ-push (a ∷ line) leg d h =
-    both (not (has_section (line ++ leg ∷ []) a.section)) (sections_differ (line ++ leg ∷ []))
-    (not_true (has_section (line ++ leg ∷ []) a.section)
+    and_from (not (has_section (line ++ leg ∷ []) a.section)) (sections_differ (line ++ leg ∷ []))
+    (not_from_false (has_section (line ++ leg ∷ []) a.section)
     (has_section-append line (leg ∷ []) a.section
     ∙ neither (has_section line a.section) (leg.section == a.section || false)
     (not_false (has_section line a.section) (and_left (not (has_section line a.section)) (sections_differ line) d))
@@ -160,9 +161,9 @@ differ-push (a ∷ line) leg d h =
 
 linked-push : (track : Track) (line : Line) (last leg : Leg) → last_leg line ≡ Some last → is_linked track last leg ≡ true → are_linked track line ≡ true → are_linked track (line ++ leg ∷ []) ≡ true
 linked-push track [] last leg e h l = refl
-linked-push track (a ∷ []) last leg e h l = both (is_linked track a leg) true (subst (λ z. is_linked track z leg ≡ true) (let s : last ≡ a = cc in s) h) refl
+linked-push track (a ∷ []) last leg e h l = and_from (is_linked track a leg) true (subst (λ z. is_linked track z leg ≡ true) (let s : last ≡ a = cc in s) h) refl
 linked-push track (a ∷ b ∷ line) last leg e h l =
-    both (is_linked track a b) (are_linked track (b ∷ (line ++ leg ∷ []))) (and_left (is_linked track a b) (are_linked track (b ∷ line)) l)
+    and_from (is_linked track a b) (are_linked track (b ∷ (line ++ leg ∷ []))) (and_left (is_linked track a b) (are_linked track (b ∷ line)) l)
     (linked-push track (b ∷ line) last leg e h (and_right (is_linked track a b) (are_linked track (b ∷ line)) l))
 
 some_pushed : (line : Line) (leg : Leg) → 0 < length (line ++ leg ∷ [])
@@ -179,13 +180,13 @@ OnLine-push track line last leg e linked new low l = record {
 
 linked-cons : (track : Track) (line : Line) (leg first : Leg) → first_leg line ≡ Some first → is_linked track leg first ≡ true → are_linked track line ≡ true → are_linked track (leg ∷ line) ≡ true
 linked-cons track [] leg first e h l = refl
-linked-cons track (a ∷ line) leg first e h l = both (is_linked track leg a) (are_linked track (a ∷ line)) (subst (λ z. is_linked track leg z ≡ true) (let s : first ≡ a = cc in s) h) l
+linked-cons track (a ∷ line) leg first e h l = and_from (is_linked track leg a) (are_linked track (a ∷ line)) (subst (λ z. is_linked track leg z ≡ true) (let s : first ≡ a = cc in s) h) l
 
 pub OnLine-cons : (track : Track) (line : Line) (leg first : Leg) → first_leg line ≡ Some first → is_linked track leg first ≡ true → has_section line leg.section ≡ false → leg.section < length track.sections → OnLine track line → OnLine track (leg ∷ line)
 OnLine-cons track line leg first e linked new low l = record {
   some_leg = omega arith;
   of_track = (low, l.of_track);
-  differ = both (not (has_section line leg.section)) (sections_differ line) (not_true (has_section line leg.section) new) l.differ;
+  differ = and_from (not (has_section line leg.section)) (sections_differ line) (not_from_false (has_section line leg.section) new) l.differ;
   linked = linked-cons track line leg first e linked l.linked;
 }
 

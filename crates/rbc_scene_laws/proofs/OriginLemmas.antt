@@ -2,7 +2,7 @@
 use Rattle.std.proofs.Common.{◌≡◌, ℕ, zero, suc, ◌+◌, ◌<◌, ◌≤◌, Bool, true, false, cond, ◌||◌, not, [], ◌∷◌, ◌++◌, length, drop, Option, Some, None, refl, ap, sym, ◌∙◌, subst, arith, inl, inr}
 use Rattle.std.specs.Prelude.{◌==◌, option_map, unwrap_or, is_some}
 use Rattle.std.specs.List.{position_or_len}
-use Rattle.std.proofs.lemmas.Bool.{eqb-true}
+use Rattle.std.proofs.lemmas.Bool.{eqb-true, or_cases}
 use Rattle.std.proofs.lemmas.List.Folds.{list_any-append}
 use Rattle.rbc_model.specs.Reports.{Report}
 use Rattle.rbc_model.specs.declared.tracks.BaliseGroup.{BaliseGroup}
@@ -12,7 +12,7 @@ use Rattle.rbc_model.specs.Lines.{Line, line_length, has_leg, has_section, place
 use Rattle.rbc_model.specs.SoundTracks.{sections_differ}
 use Rattle.rbc_model.specs.Placing.{leg_told, running_leg, origin_on}
 use Rattle.rbc_model.proofs.SamenessLemmas.{leg_eq-true}
-use Rattle.rbc_scene_laws.proofs.BasicLemmas.{and_left, and_right, true_or, or_left, or_right, or_false_left, or_false_right, neither, not_false, clash, same_number, either}
+use Rattle.rbc_scene_laws.proofs.BasicLemmas.{and_left, and_right, or_left, or_right, or_false_left, or_false_right, neither, not_false, clash, same_number, either}
 use Rattle.rbc_scene_laws.proofs.SpotLemmas.{line_length-cons}
 use Rattle.rbc_scene_laws.proofs.OnLineLemmas.{has_section-append}
 
@@ -21,7 +21,7 @@ use Rattle.rbc_scene_laws.proofs.OnLineLemmas.{has_section-append}
 pub has_leg-section : (line : Line) (leg : Leg) → has_leg line leg ≡ true → has_section line leg.section ≡ true
 has_leg-section [] leg h = h
 has_leg-section (l ∷ line) leg h =
-    elim (true_or (leg_eq leg l) (has_leg line leg) h) [
+    elim (or_cases (leg_eq leg l) (has_leg line leg) h) [
       | inl e ↦ or_left (l.section == leg.section) (has_section line leg.section) (subst (λ (z : Leg). (z.section == leg.section) ≡ true) (leg_eq-true leg l e) (same_number leg.section))
       | inr e ↦ or_right (l.section == leg.section) (has_section line leg.section) (has_leg-section line leg e)
     ]
@@ -71,7 +71,7 @@ module _ (track : Track) (section : ℕ) (far : Leg → ℕ) where
   place_on-some [] h = cc
   place_on-some (leg ∷ line) h =
       found_or (leg.section == section) (far leg) (metres_of track leg.section) (place_on track line section far)
-      (elim (true_or (leg.section == section) (has_section line section) h) [
+      (elim (or_cases (leg.section == section) (has_section line section) h) [
         | inl e ↦ or_left (leg.section == section) (is_some (place_on track line section far)) e
         | inr e ↦ or_right (leg.section == section) (is_some (place_on track line section far)) (ap is_some (place_on-some line e).1)
       ])

@@ -23,7 +23,7 @@ use Rattle.rbc_model.specs.SessionReply.{SessionRefusal, BadEvent, Full, Memory,
 use Rattle.rbc_session_laws.specs.declared.demand.Demand.{Demand}
 use Rattle.rbc_session_laws.specs.declared.demand.Demand.TheVariants.{Nothing, Event, Authority}
 use Rattle.rbc_session_laws.specs.Demands.{demand_in}
-use Rattle.rbc_session_laws.specs.Turns.{IsRefused, IsGivenUp, IsToldInVain, IsAccepted, IsGranted, AnswersAsker, AnswersDemand, AnswersLine}
+use Rattle.rbc_session_laws.specs.Turns.{IsRefused, IsToldInVain, IsAccepted, IsGranted, AnswersAsker, AnswersDemand, AnswersLine}
 
 -- ---- the lines of two texts
 

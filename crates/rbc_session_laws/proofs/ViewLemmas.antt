@@ -1,7 +1,7 @@
 -- What each view on a track in form shows: an end that a message can give, and one speed and one gradient for each metre up to there.
 use Rattle.std.proofs.Common.{◌≡◌, ℕ, ◌-◌, ◌<◌, ◌≤◌, Bool, true, false, ◌&&◌, Ok, subst, arith, inl, inr, nat_lt, nat_le}
 use Rattle.std.specs.Prelude.{◌==◌, ◌%◌, if◌then◌else◌}
-use Rattle.std.proofs.lemmas.Bool.{leb-true, le-leb, eqb-true, ltb-true}
+use Rattle.std.proofs.lemmas.Bool.{leb-true, le-leb, eqb-true, ltb-true, or_cases}
 use Rattle.std.proofs.lemmas.Bool.Decides.{leb_tells}
 use Rattle.rbc_model.specs.declared.places.Format.{Format}
 use Rattle.rbc_model.specs.declared.places.Format.TheVariants.{Near, Far}
@@ -18,7 +18,7 @@ use Rattle.rbc_model.specs.Obstacles.{way}
 use Rattle.rbc_model.specs.Views.{View, view}
 use Rattle.rbc_model.proofs.EndLemmas.{IsGreatestEnd-greatest_end, le_reach-IsSafe, reach-le}
 use Rattle.rbc_model.proofs.LevelLemmas.{speed_lawful, grade_lawful}
-use Rattle.rbc_grant_laws.proofs.BasicLemmas.{and_left, and_right, true_or}
+use Rattle.rbc_grant_laws.proofs.BasicLemmas.{and_left, and_right}
 use Rattle.rbc_grant_laws.proofs.CoveredLemmas.{speeds_are_covered, grades_are_covered}
 use Rattle.rbc_grant_laws.proofs.CandidateLemmas.{placed_well, view_to, is_seen, is_there}
 use Rattle.rbc_session_laws.specs.Answers.{metres_shown}
@@ -43,7 +43,7 @@ far_whole n h e = let test : nat_le n 32000 ≡ false = grind (arith, leb_tells)
 pub whole_in_units : (format : Format) (n : ℕ) → is_expressible format n ≡ true → n % unit_of n ≡ 0
 whole_in_units Near n h = near_whole n (leb-true n 32000 (and_right (nat_le 1 n) (nat_le n 32000) h))
 whole_in_units Far n h =
-    elim (true_or (is_from_to 1 32000 n) (is_from_to 32010 80000 n && n % 10 == 0) h) [
+    elim (or_cases (is_from_to 1 32000 n) (is_from_to 32010 80000 n && n % 10 == 0) h) [
       | inl e ↦ near_whole n (leb-true n 32000 (and_right (nat_le 1 n) (nat_le n 32000) e))
       | inr e ↦
           let low = leb-true 32010 n (and_left (nat_le 32010 n) (nat_le n 80000) (and_left (is_from_to 32010 80000 n) (n % 10 == 0) e)) in

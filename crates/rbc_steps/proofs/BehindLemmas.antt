@@ -3,8 +3,8 @@ use Rattle.std.proofs.Common.{◌≡◌, ℕ, zero, suc, ◌+◌, ◌-◌, ◌<�
 use Rattle.std.specs.Int.{from_bool}
 use Rattle.std.specs.List.{list_all}
 use Rattle.std.specs.Option.{option_or}
-use Rattle.std.proofs.lemmas.Bool.{lt-ltb, ltb-true, le-leb}
-use Rattle.std.proofs.lemmas.Bool.Decides.{leb_tells, nat_tests}
+use Rattle.std.proofs.lemmas.Bool.{lt-ltb, ltb-true, le-leb, lt-leb}
+use Rattle.std.proofs.lemmas.Bool.Decides.{nat_tests}
 use Rattle.std.proofs.lemmas.List.{length-drop, get_or_read}
 use Rattle.std.proofs.Math.Seq.{take-length}
 use Rattle.rbc_model.specs.Levels.{Levels, is_same, IsLawful, IsInRange}
@@ -14,9 +14,6 @@ use Rattle.rbc_model.proofs.CountingLemmas.{both_of}
 use Rattle.rbc_steps.proofs.JoinedLemmas.{and, rises_split, rises_lower, zero_split, all_split, one_value}
 use Rattle.rbc_steps.proofs.JoinLemmas.{value_at-append, value_at-some, RisesFrom, is_joined-tail, IsTrackFunction-append}
 use Rattle.rbc_steps.proofs.PlaceLemmas.{value_at-index, below_end, first_at_zero}
-
-not_le : (a b : ℕ) → b < a → nat_le a b ≡ false
-not_le a b h = grind (arith, leb_tells)
 
 both_moved : (a x n : ℕ) → nat_le (a + n) (n + x) ≡ nat_le a x
 both_moved a x n = grind (arith, nat_tests)
@@ -51,7 +48,7 @@ module _ {V : Type 0} (n : ℕ) where
 
   value_at-moved_before : (rows : List (ℕ × V)) (x : ℕ) → x < n → value_at (moved rows) x ≡ None
   value_at-moved_before [] x h = refl
-  value_at-moved_before (row ∷ rows) x h = rw (value_at-moved_before rows x h, not_le (row.0 + n) x (omega arith)) refl
+  value_at-moved_before (row ∷ rows) x h = rw (value_at-moved_before rows x h, lt-leb (row.0 + n) x (omega arith)) refl
 
   -- rows that rise above a start rise from metre n on
   moved_from : (low : ℕ) (rows : List (ℕ × V)) → rises_above low (starts_of rows) ≡ true → RisesFrom n (moved rows)

@@ -2,18 +2,15 @@
 use Rattle.std.proofs.Common.{◌≡◌, ℕ, zero, suc, ◌-◌, ◌<◌, ◌≤◌, ◌⊎◌, inl, inr, Bool, true, false, List, [], ◌∷◌, length, get_or, Some, None, refl, arith, ap, nat_le, nat_lt}
 use Rattle.std.specs.List.{list_all}
 use Rattle.std.specs.List.Sorted.{IsNonDecreasingBy, IsPartitionPoint}
-use Rattle.std.proofs.lemmas.Bool.{le-leb, leb-true, ltb-true}
+use Rattle.std.proofs.lemmas.Bool.{le-leb, leb-true, ltb-true, lt-leb}
 use Rattle.std.proofs.lemmas.Bool.Decides.{leb_tells}
 use Rattle.rbc_model.specs.Profiles.{value_at, starts_of, rises_above, rises_from_zero}
 use Rattle.rbc_steps.proofs.JoinedLemmas.{rises_split, zero_split, all_split}
 
-not_le : (a b : ℕ) → b < a → nat_le a b ≡ false
-not_le a b h = grind (arith, leb_tells)
-
 -- no row has started
 value_at-none : {V : Type 0} (rows : List (ℕ × V)) (x : ℕ) (d : ℕ × V) → ((k : ℕ) → k < length rows → x < (get_or rows k d).0) → value_at rows x ≡ None
 value_at-none [] x d h = refl
-value_at-none (row ∷ rows) x d h = rw (value_at-none rows x d (λ k l. h (suc k) (omega arith)), not_le row.0 x (h 0 (omega arith))) refl
+value_at-none (row ∷ rows) x d h = rw (value_at-none rows x d (λ k l. h (suc k) (omega arith)), lt-leb row.0 x (h 0 (omega arith))) refl
 
 -- the value is that of the row that has started where no later one has
 pub value_at-index : {V : Type 0} (rows : List (ℕ × V)) (i x : ℕ) (d : ℕ × V) → i < length rows → (get_or rows i d).0 ≤ x → ((k : ℕ) → i < k → k < length rows → x < (get_or rows k d).0)

@@ -1,9 +1,8 @@
 -- A track run the other way is a track.
-use Rattle.std.proofs.Common.{◌≡◌, ℕ, zero, suc, ◌+◌, ◌-◌, ◌<◌, ◌≤◌, ◌⊎◌, inl, inr, Bool, true, false, not, List, [], ◌∷◌, ◌++◌, length, get_or, drop, Some, None, refl, arith, ap, sym, ◌∙◌, subst, nat_le, nat_lt, if◌then◌else◌}
+use Rattle.std.proofs.Common.{◌≡◌, ℕ, zero, suc, ◌+◌, ◌-◌, ◌<◌, ◌≤◌, ◌⊎◌, inl, inr, true, false, not, List, [], ◌∷◌, ◌++◌, length, get_or, drop, Some, None, refl, arith, ap, sym, ◌∙◌, subst, nat_le, nat_lt, if◌then◌else◌}
 use Rattle.std.specs.List.{list_all}
 use Rattle.std.specs.Option.{option_or}
-use Rattle.std.proofs.lemmas.Bool.{lt-ltb, ltb-true, le-leb, eq-eqb}
-use Rattle.std.proofs.lemmas.Bool.Decides.{leb_tells}
+use Rattle.std.proofs.lemmas.Bool.{lt-ltb, ltb-true, le-leb, eq-eqb, lt-leb, not-true}
 use Rattle.rbc_model.specs.Levels.{Levels, is_same}
 use Rattle.rbc_model.specs.Profiles.{value_at, starts_of, rises_above, is_joined, IsTrackFunction, Reverses}
 use Rattle.rbc_model.proofs.CountingLemmas.{both_of}
@@ -11,9 +10,6 @@ use Rattle.rbc_steps.specs.Mirrored.{start_or, mirrored}
 use Rattle.rbc_steps.proofs.JoinedLemmas.{and, rises_split, zero_split, all_split}
 use Rattle.rbc_steps.proofs.JoinLemmas.{value_at-append, value_at-some, IsTrackFunction-append}
 use Rattle.rbc_steps.proofs.NegatedLemmas.{and_either_way}
-
-not_le : (a b : ℕ) → b < a → nat_le a b ≡ false
-not_le a b h = grind (arith, leb_tells)
 
 -- the first row of an ascending list starts above the bound, and below the end
 start_after : {V : Type 0} (n low : ℕ) (rows : List (ℕ × V)) → low < n → rises_above low (starts_of rows) ≡ true → list_all (λ start. nat_lt start n) (starts_of rows) ≡ true → (low < start_or n rows) × (start_or n rows ≤ n)
@@ -26,7 +22,7 @@ none_low : {V : Type 0} (low x : ℕ) (rows : List (ℕ × V)) → rises_above l
 none_low low x [] e h = refl
 none_low low x (row ∷ rows) e h =
     let s = rises_split low row.0 (starts_of rows) e in
-    rw (none_low row.0 x rows s.1 (omega arith), not_le row.0 x (omega arith)) refl
+    rw (none_low row.0 x rows s.1 (omega arith), lt-leb row.0 x (omega arith)) refl
 
 either_side : (p x : ℕ) → (p ≤ x) ⊎ (x < p)
 either_side p x = grind arith
@@ -37,10 +33,6 @@ last_of_push [] y d (suc i) e = absurd (omega arith)
 last_of_push (x ∷ []) y d zero e = absurd (omega arith)
 last_of_push (x ∷ z ∷ xs) y d zero e = absurd (omega arith)
 last_of_push (x ∷ xs) y d (suc i) e = last_of_push xs y d i (omega arith)
-
-not_true : (b : Bool) → not b ≡ true → b ≡ false
-not_true true e = cc
-not_true false e = refl
 
 module _ {V : Type 0} (n : ℕ) where
   -- one more row is mirrored
@@ -70,14 +62,14 @@ module _ {V : Type 0} (n : ℕ) where
             ∙ ap (λ o. option_or o (if nat_le row.0 y then Some row.1 else None)) (sym (none_from next rows y s.1 (omega arith)))
         | inr before ↦
             let some = value_at-some next rows y (omega arith) in
-            ap (λ t. option_or (if t then Some row.1 else None) (value_at turned x)) (not_le (n - next.0) x before)
+            ap (λ t. option_or (if t then Some row.1 else None) (value_at turned x)) (lt-leb (n - next.0) x before)
             ∙ mirrored_value next rows x s.1 a.1 before
             ∙ some.1
             ∙ ap (λ o. option_or o (if nat_le row.0 y then Some row.1 else None)) (sym some.1)
       ]
     where
       none_from : (next : ℕ × V) (rows : List (ℕ × V)) (y : ℕ) → rises_above next.0 (starts_of rows) ≡ true → y < next.0 → value_at (next ∷ rows) y ≡ None
-      none_from next rows y e l = rw (none_low next.0 y rows e (omega arith), not_le next.0 y l) refl
+      none_from next rows y e l = rw (none_low next.0 y rows e (omega arith), lt-leb next.0 y l) refl
 
   module _ (levels : Levels V) where
     mirrored_track : (row : ℕ × V) (rows : List (ℕ × V)) → rises_above row.0 (starts_of rows) ≡ true → list_all (λ start. nat_lt start n) (starts_of (row ∷ rows)) ≡ true
@@ -97,7 +89,7 @@ module _ {V : Type 0} (n : ℕ) where
         let below : next.0 < n = ltb-true next.0 n b.0 in
         let w = all_split (λ r. levels.in_range r.1) row (next ∷ rows) v in
         let k = both_of (not (is_same levels next.1 row.1)) (is_joined levels (next ∷ rows)) j in
-        let differ : is_same levels row.1 next.1 ≡ false = and_either_way (levels.at_most row.1 next.1) (levels.at_most next.1 row.1) ∙ not_true (is_same levels next.1 row.1) k.0 in
+        let differ : is_same levels row.1 next.1 ≡ false = and_either_way (levels.at_most row.1 next.1) (levels.at_most next.1 row.1) ∙ not-true (is_same levels next.1 row.1) k.0 in
         IsTrackFunction-append levels (n - next.0) (n - row.0) (mirrored n (next ∷ rows)) ((n - next.0, row.1) ∷ []) (omega arith)
         (mirrored_track next rows s.1 a.1 w.1 k.1)
         (λ low h. and (lt-ltb low (n - next.0) h) refl)

@@ -1,7 +1,7 @@
 -- The table of least prices: it is sound, and some way costs each of its prices. So each price of the greatest sound table is reached.
-use Rattle.std.proofs.Common.{◌≡◌, refl, ap, sym, ◌∙◌, arith, ℕ, zero, suc, ◌+◌, ◌<◌, ◌≤◌, ◌⊎◌, inl, inr, min, Bool, true, false, ◌&&◌, List, [], length, get_or, ◌==◌}
+use Rattle.std.proofs.Common.{◌≡◌, refl, ap, sym, ◌∙◌, arith, ℕ, zero, suc, ◌+◌, ◌<◌, ◌≤◌, ◌⊎◌, inl, inr, min, Bool, true, List, [], length, get_or, ◌==◌}
 use Rattle.std.specs.List.{list_all}
-use Rattle.std.proofs.lemmas.Bool.{eq-eqb}
+use Rattle.std.proofs.lemmas.Bool.{eq-eqb, and_from}
 use Rattle.rbc_model.specs.Levels.{Levels}
 use Rattle.rbc_model.specs.PriceTables.{table_at, step_cost, stretch_count, row_count, IsSoundTable, IsGreatestSoundTable}
 use Rattle.rbc_table_laws.specs.LeastTables.{least_to, made, least_price, filled}
@@ -44,14 +44,10 @@ made_at zero f i d h = absurd (omega arith)
 made_at (suc n) f zero d h = refl
 made_at (suc n) f (suc i) d h = made_at n (λ i. f (suc i)) i d (omega arith)
 
-both : (a b : Bool) → a ≡ true → b ≡ true → (a && b) ≡ true
-both true b e f = f
-both false b e f = e
-
 all_made : {X : Type 0} (test : X → Bool) (n : ℕ) (f : ℕ → X) → ((i : ℕ) → test (f i) ≡ true) → list_all test (made n f) ≡ true
 unfolding made
 all_made test zero f h = refl
-all_made test (suc n) f h = both (test (f 0)) (list_all test (made n (λ i. f (suc i)))) (h 0) (all_made test n (λ i. f (suc i)) (λ i. h (suc i)))
+all_made test (suc n) f h = and_from (test (f 0)) (list_all test (made n (λ i. f (suc i)))) (h 0) (all_made test n (λ i. f (suc i)) (λ i. h (suc i)))
 
 -- ---- the least prices
 

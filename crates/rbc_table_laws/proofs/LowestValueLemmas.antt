@@ -1,8 +1,9 @@
 -- The least value of a track between two of its breaks, and what a step with its floor costs there.
-use Rattle.std.proofs.Common.{◌≡◌, ap, ◌∙◌, arith, subst, ℕ, ◌+◌, ◌-◌, ◌*◌, ◌<◌, ◌≤◌, ◌⊎◌, inl, inr, List, length, get_or, Some}
+use Rattle.std.proofs.Common.{◌≡◌, ap, ◌∙◌, arith, subst, ℕ, ◌+◌, ◌-◌, ◌*◌, ◌<◌, ◌≤◌, inl, inr, List, length, get_or, Some}
 use Rattle.std.specs.List.{slice_get}
 use Rattle.std.proofs.lemmas.Option.{slice_get_within}
 use Rattle.std.proofs.Math.Nat.{mul-le-mul_left}
+use Rattle.std.proofs.lemmas.Bool.{cases_lt}
 use Rattle.rbc_model.specs.Levels.{Levels, IsInRange, IsAtMost, IsLawful}
 use Rattle.rbc_model.specs.Profiles.{StepFunction, IsTrackFunction, value_at, price_at}
 use Rattle.rbc_model.specs.PriceTables.{least_value, cost}
@@ -11,9 +12,6 @@ use Rattle.rbc_table_laws.proofs.SumLemmas.{sum_from, sum_of_same}
 use Rattle.rbc_table_laws.proofs.LeastLemmas.{IsLeast, least_between, cost_is, in_range_at}
 use Rattle.rbc_table_laws.proofs.BreakLemmas.{covered_of}
 use Rattle.rbc_table_laws.proofs.TrackBreakLemmas.{up_to_end}
-
-before_or_after : (x y : ℕ) → (x < y) ⊎ (y ≤ x)
-before_or_after x y = grind arith
 
 module _ {V : Type 0} (levels : Levels V) (lawful : IsLawful levels) (track : StepFunction V) (function : IsTrackFunction levels track.end track.steps)
     (breaks : List ℕ) (are : AreBreaks track breaks) where
@@ -81,7 +79,7 @@ module _ {V : Type 0} (levels : Levels V) (lawful : IsLawful levels) (track : St
           low = omega arith;
           high = l.high;
           there = l.there;
-          below = λ x v from below at. elim (before_or_after x (get_or breaks (i + 1) 0)) [
+          below = λ x v from below at. elim (cases_lt x (get_or breaks (i + 1) 0)) [
             | inl before ↦ subst (λ w. IsAtMost levels least w) (same_value x v from before at) h
             | inr after ↦ l.below x v after below at
           ];

@@ -1,6 +1,7 @@
 -- Stretches of a track between any two metres: their least values and what is lost there, put together from parts of runs.
-use Rattle.std.proofs.Common.{◌≡◌, refl, ap, sym, ◌∙◌, arith, subst, ℕ, zero, suc, ◌+◌, ◌-◌, ◌*◌, ◌<◌, ◌≤◌, ◌⊎◌, inl, inr, Bool, true, false, List, length, get_or, Option, Some, if◌then◌else◌}
+use Rattle.std.proofs.Common.{◌≡◌, refl, ap, sym, ◌∙◌, arith, subst, ℕ, zero, suc, ◌+◌, ◌-◌, ◌*◌, ◌<◌, ◌≤◌, inl, inr, Bool, true, false, List, length, get_or, Option, Some, if◌then◌else◌}
 use Rattle.std.proofs.Math.Nat.{mul-le-mul_left}
+use Rattle.std.proofs.lemmas.Bool.{cases_lt}
 use Rattle.rbc_model.specs.Levels.{Levels, IsInRange, IsAtMost, IsLawful}
 use Rattle.rbc_model.specs.Profiles.{StepFunction, IsTrackFunction, value_at, price_at}
 use Rattle.rbc_model.specs.PriceTables.{least_value, cost, stretch_count}
@@ -10,9 +11,6 @@ use Rattle.rbc_table_laws.proofs.SumLemmas.{sum_from, sum_of_same}
 use Rattle.rbc_table_laws.proofs.LeastLemmas.{other_lower}
 use Rattle.rbc_table_laws.proofs.TrackBreakLemmas.{in_track, up_to_end}
 use Rattle.rbc_table_laws.proofs.LowestValueLemmas as by_run
-
-before_or_after : (x y : ℕ) → (x < y) ⊎ (y ≤ x)
-before_or_after x y = grind arith
 
 module _ {V : Type 0} (levels : Levels V) (lawful : IsLawful levels) (track : StepFunction V) (function : IsTrackFunction levels track.end track.steps) where
   of_track : AreBreaks track (breaks_in track)
@@ -128,7 +126,7 @@ module _ {V : Type 0} (levels : Levels V) (lawful : IsLawful levels) (track : St
           low = first.low;
           high = omega arith;
           there = first.there;
-          below = λ x v low high at. elim (before_or_after x mid) [
+          below = λ x v low high at. elim (cases_lt x mid) [
             | inl before ↦ first.below x v low before at
             | inr after ↦ lawful.ordered.transitive a b v range_a range_b (in_range_at x v (omega arith) at) h (second.below x v after high at)
           ];
@@ -145,7 +143,7 @@ module _ {V : Type 0} (levels : Levels V) (lawful : IsLawful levels) (track : St
           low = omega arith;
           high = second.high;
           there = second.there;
-          below = λ x v low high at. elim (before_or_after x mid) [
+          below = λ x v low high at. elim (cases_lt x mid) [
             | inl before ↦ lawful.ordered.transitive b a v range_b range_a (in_range_at x v (omega arith) at) h (first.below x v low before at)
             | inr after ↦ second.below x v after high at
           ];
@@ -183,7 +181,7 @@ module _ {V : Type 0} (levels : Levels V) (lawful : IsLawful levels) (track : St
     least_before e =
         let high = second.low in
         let more = second.high in
-        elim (before_or_after both.place mid) [
+        elim (cases_lt both.place mid) [
           | inl before ↦ record {
             place = both.place;
             low = both.low;

@@ -1,29 +1,12 @@
 -- Steps that follow one another up to the end, each with a value that may be given on its metres: they make a profile that fits.
-use Rattle.std.proofs.Common.{◌≡◌, refl, ap, sym, ◌∙◌, arith, ℕ, ◌+◌, ◌%◌, ◌<◌, ◌≤◌, ◌⊎◌, inl, inr, Bool, true, false, ◌&&◌, List, [], ◌∷◌, length, Option, Some, None, nat_le, nat_lt, ◌==◌}
+use Rattle.std.proofs.Common.{◌≡◌, refl, ap, sym, ◌∙◌, arith, ℕ, ◌+◌, ◌%◌, ◌<◌, ◌≤◌, inl, inr, true, ◌&&◌, List, [], ◌∷◌, length, Option, Some, None, nat_lt, ◌==◌}
 use Rattle.std.specs.List.{list_all}
-use Rattle.std.proofs.lemmas.Bool.{le-leb}
-use Rattle.std.proofs.lemmas.Bool.Decides.{nat_tests}
+use Rattle.std.proofs.lemmas.Bool.{le-leb, and_from, lt-ltb, lt-leb, eq-eqb, cases_lt}
 use Rattle.rbc_model.specs.Levels.{Levels, IsAtMost, IsLawful}
 use Rattle.rbc_model.specs.Profiles.{value_at, starts_of, rises_above, rises_from_zero, is_within, price_at, sum_below, loss, Fits}
 use Rattle.rbc_model.proofs.RunLemmas.{IsCovered}
 use Rattle.rbc_table_laws.proofs.SumLemmas.{sum_between_same}
 use Rattle.rbc_table_laws.proofs.LeastLemmas.{spent, IsGiven}
-
-both : (a b : Bool) → a ≡ true → b ≡ true → (a && b) ≡ true
-both true b e f = f
-both false b e f = e
-
-lower : (a b : ℕ) → a < b → nat_lt a b ≡ true
-lower a b h = grind (arith, nat_tests)
-
-not_le : (a b : ℕ) → b < a → nat_le a b ≡ false
-not_le a b h = grind (arith, nat_tests)
-
-equal : (a b : ℕ) → a ≡ b → (a == b) ≡ true
-equal a b h = grind (arith, nat_tests)
-
-before_or_after : (x y : ℕ) → (x < y) ⊎ (y ≤ x)
-before_or_after x y = grind arith
 
 module _ {V : Type 0} (levels : Levels V) (unit limit n : ℕ) (track : ℕ → Option V) where
   -- The steps go on from place x up to the end, and lose no more than the price there.
@@ -46,12 +29,12 @@ module _ {V : Type 0} (levels : Levels V) (unit limit n : ℕ) (track : ℕ → 
   tail_rises low x (step ∷ later) price h t =
       let up = t.3 in
       let first = t.2 in
-      both (nat_lt low step.0) (rises_above step.0 (starts_of later)) (lower low step.0 (omega arith)) (tail_rises step.0 t.0 later t.1 (omega arith) t.7)
+      and_from (nat_lt low step.0) (rises_above step.0 (starts_of later)) (lt-ltb low step.0 (omega arith)) (tail_rises step.0 t.0 later t.1 (omega arith) t.7)
 
   tail_from_zero : (steps : List (ℕ × V)) (price : ℕ) → 0 < n → IsTail 0 steps price → rises_from_zero (starts_of steps) ≡ true
   tail_from_zero [] price h t = absurd (omega arith)
   tail_from_zero (step ∷ later) price h t =
-      both (step.0 == 0) (rises_above 0 (starts_of later)) (equal step.0 0 t.2) (tail_rises 0 t.0 later t.1 t.3 t.7)
+      and_from (step.0 == 0) (rises_above 0 (starts_of later)) (eq-eqb step.0 0 t.2) (tail_rises 0 t.0 later t.1 t.3 t.7)
 
   tail_below : (x : ℕ) (steps : List (ℕ × V)) (price : ℕ) → IsTail x steps price → list_all (λ start. nat_lt start n) (starts_of steps) ≡ true
   tail_below x [] price t = refl
@@ -59,20 +42,20 @@ module _ {V : Type 0} (levels : Levels V) (unit limit n : ℕ) (track : ℕ → 
       let up = t.3 in
       let first = t.2 in
       let rest = tail_inside t.0 later t.1 t.7 in
-      both (nat_lt step.0 n) (list_all (λ start. nat_lt start n) (starts_of later)) (lower step.0 n (omega arith)) (tail_below t.0 later t.1 t.7)
+      and_from (nat_lt step.0 n) (list_all (λ start. nat_lt start n) (starts_of later)) (lt-ltb step.0 n (omega arith)) (tail_below t.0 later t.1 t.7)
 
   tail_whole : (x : ℕ) (steps : List (ℕ × V)) (price : ℕ) → IsTail x steps price → list_all (λ start. start % unit == 0) (starts_of steps) ≡ true
   tail_whole x [] price t = refl
   tail_whole x (step ∷ later) price t =
       let cut : step.0 % unit ≡ 0 = ap (λ y. y % unit) t.2 ∙ t.4 in
-      both (step.0 % unit == 0) (list_all (λ start. start % unit == 0) (starts_of later)) (equal (step.0 % unit) 0 cut) (tail_whole t.0 later t.1 t.7)
+      and_from (step.0 % unit == 0) (list_all (λ start. start % unit == 0) (starts_of later)) (eq-eqb (step.0 % unit) 0 cut) (tail_whole t.0 later t.1 t.7)
 
   tail_values : (x : ℕ) (steps : List (ℕ × V)) (price : ℕ) → IsTail x steps price → list_all (λ s. levels.in_range s.1 && levels.is_expressible s.1) steps ≡ true
   tail_values x [] price t = refl
   tail_values x (step ∷ later) price t =
       let given = t.5 in
-      both (levels.in_range step.1 && levels.is_expressible step.1) (list_all (λ s. levels.in_range s.1 && levels.is_expressible s.1) later)
-      (both (levels.in_range step.1) (levels.is_expressible step.1) given.in_range given.expressible) (tail_values t.0 later t.1 t.7)
+      and_from (levels.in_range step.1 && levels.is_expressible step.1) (list_all (λ s. levels.in_range s.1 && levels.is_expressible s.1) later)
+      (and_from (levels.in_range step.1) (levels.is_expressible step.1) given.in_range given.expressible) (tail_values t.0 later t.1 t.7)
 
   -- ---- values
 
@@ -81,7 +64,7 @@ module _ {V : Type 0} (levels : Levels V) (unit limit n : ℕ) (track : ℕ → 
   none_before x y (step ∷ later) price h t =
       let up = t.3 in
       let first = t.2 in
-      rw (none_before t.0 y later t.1 (omega arith) t.7, not_le step.0 y (omega arith)) refl
+      rw (none_before t.0 y later t.1 (omega arith) t.7, lt-leb step.0 y (omega arith)) refl
 
   value_here : (x y : ℕ) (step : ℕ × V) (later : List (ℕ × V)) (price : ℕ) → x ≤ y → (t : IsTail x (step ∷ later) price) → y < t.0 → value_at (step ∷ later) y ≡ Some step.1
   value_here x y step later price low t high =
@@ -96,7 +79,7 @@ module _ {V : Type 0} (levels : Levels V) (unit limit n : ℕ) (track : ℕ → 
 
   value_of : (x y : ℕ) (steps : List (ℕ × V)) (price : ℕ) → x ≤ y → y < n → IsTail x steps price → IsValue steps y
   value_of x y [] price low high t = absurd (omega arith)
-  value_of x y (step ∷ later) price low high t = elim (before_or_after y t.0) [
+  value_of x y (step ∷ later) price low high t = elim (cases_lt y t.0) [
     | inl before ↦ (let given = t.5 in record { value = step.1; is = value_here x y step later price low t before; under = λ v there. given.under y low before v there })
     | inr after ↦ (let rest = value_of t.0 y later t.1 after high t.7 in record { value = rest.value; is = rw rest.is refl; under = rest.under })
   ]

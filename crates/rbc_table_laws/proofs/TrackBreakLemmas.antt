@@ -2,7 +2,7 @@
 use Rattle.std.proofs.Common.{◌≡◌, refl, ap, sym, ◌∙◌, arith, subst, ℕ, zero, suc, ◌+◌, ◌-◌, ◌<◌, ◌≤◌, true, false, List, [], ◌∷◌, ◌++◌, length, get_or, Some, nat_lt, ◌==◌}
 use Rattle.std.specs.List.{list_all, slice_get}
 use Rattle.std.proofs.lemmas.Bool.Decides.{nat_tests}
-use Rattle.std.proofs.lemmas.Bool.{ltb-true}
+use Rattle.std.proofs.lemmas.Bool.{ltb-true, lt-ltb}
 use Rattle.std.proofs.lemmas.Option.{slice_get-get_or}
 use Rattle.rbc_model.specs.Levels.{Levels}
 use Rattle.rbc_model.specs.Profiles.{StepFunction, IsTrackFunction, value_at, starts_of, rises_above, rises_from_zero}
@@ -14,9 +14,6 @@ use Rattle.rbc_table_laws.proofs.ChainLemmas.{rises_split, zero_split, all_split
 
 -- ---- the list
 
-lower : (a b : ℕ) → a < b → nat_lt a b ≡ true
-lower a b h = grind (arith, nat_tests)
-
 not_lower : (a : ℕ) → nat_lt a a ≡ false
 not_lower a = grind (arith, nat_tests)
 
@@ -24,7 +21,7 @@ equal : (a : ℕ) → (a == a) ≡ true
 equal a = grind (arith, nat_tests)
 
 put_before : (s y : ℕ) (ys : List ℕ) → s < y → with_number s (with_number s (y ∷ ys)) ≡ s ∷ y ∷ ys
-put_before s y ys h = rw (lower s y h) (rw (not_lower s, equal s) refl)
+put_before s y ys h = rw (lt-ltb s y h) (rw (not_lower s, equal s) refl)
 
 down : (s : ℕ) → rounded_down 1 s ≡ s
 down s = omega arith

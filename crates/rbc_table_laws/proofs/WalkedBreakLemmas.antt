@@ -2,7 +2,7 @@
 use Rattle.std.proofs.Common.{◌≡◌, refl, ap, sym, ◌∙◌, arith, subst, ℕ, zero, suc, ◌+◌, ◌-◌, ◌/◌, ◌%◌, ◌<◌, ◌≤◌, ◌⊎◌, inl, inr, Bool, true, false, List, [], ◌∷◌, ◌++◌, length, get_or, nat_lt, ◌==◌, if◌then◌else◌, ltb-true}
 use Rattle.std.proofs.Math.Nat.{mul-mod_left}
 use Rattle.std.specs.List.{list_all}
-use Rattle.std.proofs.lemmas.Bool.{lt-ltb}
+use Rattle.std.proofs.lemmas.Bool.{lt-ltb, cases_lt}
 use Rattle.std.proofs.lemmas.Bool.Decides.{nat_tests}
 use Rattle.rbc_model.specs.Levels.{Levels, IsLawful}
 use Rattle.rbc_model.specs.Profiles.{IsTrackFunction, starts_of}
@@ -61,9 +61,6 @@ start_inside n s (start ∷ starts) all (inl e) = let first = ltb-true start n (
 start_inside n s (start ∷ starts) all (inr h) = start_inside n s starts (all_split (λ k. nat_lt k n) start starts all).1 h
 
 -- ---- rounding
-
-lt_or_le : (a b : ℕ) → (a < b) ⊎ (b ≤ a)
-lt_or_le a b = grind arith
 
 le_or_lt : (a b : ℕ) → (a ≤ b) ⊎ (b < a)
 le_or_lt a b = grind arith
@@ -230,7 +227,7 @@ module _ {V : Type 0} (levels : Levels V) (lawful : IsLawful levels) (unit : ℕ
 
     module _ (low : start ≤ here) (high : here < stop) where
       down_or_up : (here < rounded_down unit stop) ⊎ (rounded_down unit stop ≤ here)
-      down_or_up = lt_or_le here (rounded_down unit stop)
+      down_or_up = cases_lt here (rounded_down unit stop)
 
       behind_listed : (here < rounded_down unit stop) ⊎ (rounded_down unit stop ≤ here) → Has (break_behind unit here stop) breaks × (here < break_behind unit here stop)
       behind_listed (inl down) = rw (behind_down unit some here stop down) (has_rounded_down stop stop_is, down)
@@ -287,7 +284,7 @@ module _ {V : Type 0} (levels : Levels V) (lawful : IsLawful levels) (unit : ℕ
 
     module _ (low : start < next) (high : next ≤ stop) where
       up_or_down : (rounded_up unit start < next) ⊎ (next ≤ rounded_up unit start)
-      up_or_down = lt_or_le (rounded_up unit start) next
+      up_or_down = cases_lt (rounded_up unit start) next
 
       before_listed : (rounded_up unit start < next) ⊎ (next ≤ rounded_up unit start) → Has (break_before unit next start) breaks × (break_before unit next start < next)
       before_listed (inl up) = rw (before_up unit some next start up) (has_rounded_up start (inl start_is), up)

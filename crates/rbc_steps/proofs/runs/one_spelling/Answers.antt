@@ -1,5 +1,5 @@
 -- The two tracks' runs are one list, by their levels.
-use Rattle.std.proofs.Common.{◌≡◌, ℕ, List, sym, ap, subst, ◌∙◌}
+use Rattle.std.proofs.Common.{◌≡◌, ℕ, sym, ap, subst, ◌∙◌}
 use Rattle.rbc_model.specs.Profiles.{StepFunction, IsTrackFunction}
 use Rattle.rbc_model.proofs.OneSpellingLemmas.{one_spelling}
 use Rattle.rbc_steps.proofs.runs.one_spelling.Goals as goal
