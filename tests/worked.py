@@ -39,6 +39,15 @@ prices 1 0 4000 10000
 prices 2 0 0 4000
 packet 1b40e480003000804b200004b7f000
 done""")]
+LINES = SPEED_LINE + [
+    ("speed 2 0:160", "refused Words"),
+    ("grade 2 0:-5 100:3 end 300", """grade 2 0:-5 100:3 end 300
+steps 0:-5 100:3 loss 0
+prices 1 0 1600
+prices 2 0 0
+packet 1540cc8000028803240c0643fc
+done"""),
+]
 PLAIN = [LOCKED, ("report 1 5/17 nominal 300 5 5 200 1000", "ok 2"), ("ask 1", PLAIN_GRANT)]
 TWO_TRAINS = [
     LOCKED,
