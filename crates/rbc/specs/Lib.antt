@@ -1,4 +1,2 @@
 pub mod Statuses
-pub mod Loading
 pub mod Listening
-pub mod Answered

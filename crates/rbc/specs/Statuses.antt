@@ -7,8 +7,8 @@ use Rattle.rbc_model.specs.declared.sessions.SessionFault.{SessionFault}
 use Rattle.rbc_model.specs.declared.sessions.SessionFault.TheVariants.{Memory}
 use Rattle.rbc_server.specs.declared.serving.ServeFault.{ServeFault}
 use Rattle.rbc_server.specs.declared.serving.ServeFault.TheVariants.{Memory as NoServeMemory, Close}
-use Rattle.rbc.specs.declared.load.LoadFault.{LoadFault}
-use Rattle.rbc.specs.declared.load.LoadFault.TheVariants.{Memory as NoLoadMemory}
+use Rattle.rbc_trackfile.specs.declared.loading.LoadFault.{LoadFault}
+use Rattle.rbc_trackfile.specs.declared.loading.LoadFault.TheVariants.{Memory as NoLoadMemory}
 use Rattle.rbc.specs.declared.failure.Failure.{Failure}
 use Rattle.rbc.specs.declared.failure.Failure.TheVariants.{CommandLine, NotText, NotCertified, Load, Session, History, Serve, Memory as NoMemory}
 

@@ -3,10 +3,10 @@
 ghost use Rattle.std.specs.Prelude.{◌≡◌};
 ghost use Rattle.rbc.specs.Statuses.{status_of};
 
-use crate::load::LoadFault;
 use clap::error::ErrorKind;
 use rbc_model::Memory;
 use rbc_server::ServeFault;
+use rbc_trackfile::LoadFault;
 use rbc_words::{SessionFault, WriteFailed};
 use std::alloc::AllocError;
 use std::io;

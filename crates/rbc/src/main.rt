@@ -1,22 +1,20 @@
 //! The program `rbc`, the deciding part of an ETCS Level 2 radio block centre.
 #![tactic(auto)]
 
-mod answers;
 mod command_line;
 mod failure;
 mod history;
-mod load;
 mod serve;
-mod steps;
 
 use command_line::{Centre, Service, Task};
 use failure::Failure;
 use history::write_history;
-pub use load::{LoadFault, load};
+pub use rbc_certifier::steps;
 pub use rbc_checks::check;
 use rbc_model::Memory;
 use rbc_server::{Port, Record, ServeFault};
 use rbc_track::Track;
+pub use rbc_trackfile::{LoadFault, load};
 use rbc_words::Stream;
 use serve::{print_listening, serve};
 use std::env::Env;
@@ -28,7 +26,6 @@ use std::sync::{Arc, Wait};
 use std::thread::Threads;
 use std::time::Clock;
 use std::{env, fs, io};
-pub use steps::steps;
 
 fn main(rt: HostRuntime) -> ExitCode {
     match run(&rt) {

@@ -1,3 +1,4 @@
 pub mod TomlFile
 pub mod Told
 pub mod TopTables
+pub mod Loading

@@ -6,8 +6,10 @@ mod file;
 mod forms;
 mod items;
 mod levels;
+mod loading;
 mod parts;
 mod values;
 
 pub use file::{parse, read, read_parts};
+pub use loading::{LoadFault, load};
 pub use rbc_model::{FileFault, OrMemory, key_text};

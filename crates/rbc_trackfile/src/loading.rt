@@ -1,13 +1,13 @@
 //! A track from the bytes of its file.
 
 ghost use Rattle.std.specs.Prelude.{◌≡◌, false};
-ghost use Rattle.rbc.specs.Loading.{IsLoaded, load_fault, file_fault};
+ghost use Rattle.rbc_trackfile.specs.Loading.{IsLoaded, load_fault, file_fault};
 
+use crate::{FileFault, read};
 use rbc_model::OrMemory;
 use rbc_model::limits::LONGEST_FILE;
 use rbc_streams::{Source, WholeFault, read_whole};
 use rbc_track::Track;
-use rbc_trackfile::FileFault;
 use std::alloc::Global;
 use std::fmt;
 
@@ -34,7 +34,7 @@ pub fn load<R: Source>(alloc: Global, reader: &mut R) -> Result<Track, LoadFault
     ensures { IsLoaded (R.left reader.old) (R.left reader.new) (R.failed reader.new) result }
 {
     let bytes = read_whole(alloc, reader, LONGEST_FILE)?;
-    Ok(rbc_trackfile::read(alloc, bytes.as_slice())?)
+    Ok(read(alloc, bytes.as_slice())?)
 }
 
 impl fmt::Display for LoadFault {

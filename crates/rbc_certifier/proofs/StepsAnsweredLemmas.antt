@@ -9,7 +9,7 @@ use Rattle.rbc_model.specs.StepsReply.{AnswersLine}
 use Rattle.rbc_model.specs.Talks.{IsTalk, EachByItself}
 use Rattle.rbc_session_laws.proofs.AllReadLemmas.{of_all_read}
 use Rattle.rbc_session_laws.proofs.StepsLemmas.{steps_written_is_answered}
-use Rattle.rbc.specs.Answered.{AnswersSteps, AnswersAllSteps}
+use Rattle.rbc_certifier.specs.Answered.{AnswersSteps, AnswersAllSteps}
 
 abbrev Talks : List ℕ → Option (List ℕ) → Option (List ℕ) → Result (Unit {0}) SessionFault → Type 0
 Talks input old new result = IsTalk LONGEST_LINE (EachByItself (AnswersLine Far)) tt tt input old new result

@@ -2,9 +2,9 @@ use Rattle.std.proofs.Common.{arith, sym}
 use Rattle.rbc_words.specs.PriceText.{prices_of}
 use Rattle.rbc_words.specs.StepsLines.{request_view}
 use denote.Memory.{lone}
-use Rattle.rbc.proofs.LayoutLemmas.{align_few}
-use Rattle.rbc.proofs.CertifyingLemmas.{certified_as, end_of, whole, chosen_writable}
-use Rattle.rbc.proofs.answers.certify.Goals as goal
+use Rattle.rbc_certifier.proofs.LayoutLemmas.{align_few}
+use Rattle.rbc_certifier.proofs.CertifyingLemmas.{certified_as, end_of, whole, chosen_writable}
+use Rattle.rbc_certifier.proofs.answers.certify.Goals as goal
 
 pub reduce-requires-send-V : goal.reduce-requires-send-V
 reduce-requires-send-V g c κs within = c.type_bounds.send-V

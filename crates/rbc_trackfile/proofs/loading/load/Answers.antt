@@ -3,7 +3,7 @@ use Rattle.std.proofs.Common.{◌≡◌, Bool, true, false, ◌∙◌, sym, ap, 
 use Rattle.std.specs.Prelude.{◌↔◌}
 use Rattle.rbc_streams.specs.declared.whole.WholeFault.TheVariants.{Read}
 use Rattle.rbc_trackfile.specs.Told.{track_told}
-use Rattle.rbc.proofs.load.load.Goals as goal
+use Rattle.rbc_trackfile.proofs.loading.load.Goals as goal
 
 -- the reader has not failed where its bytes were read
 works : {A : Type 0} (failed : Bool) (bytes : A) → ((Ok bytes ≡ Err Read) ↔ (failed ≡ true)) → failed ≡ false

@@ -1,8 +1,8 @@
 use Rattle.rbc_model.specs.declared.refusals.LineFault.TheVariants.{Overlong}
 use Rattle.rbc_model.specs.declared.refusals.StepsRefusal.TheVariants.{BadLine}
 use Rattle.rbc_model.specs.StepsReply.{refusal_reply}
-use Rattle.rbc.proofs.OverlongLemmas.{overlong_refused}
-use Rattle.rbc.proofs.steps.CertifierAnswersUnit.refuse.Goals as goal
+use Rattle.rbc_certifier.proofs.OverlongLemmas.{overlong_refused}
+use Rattle.rbc_certifier.proofs.session.CertifierAnswersUnit.refuse.Goals as goal
 
 pub returns : goal.returns
 returns g c = (

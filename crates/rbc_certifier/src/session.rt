@@ -5,13 +5,12 @@ ghost use Rattle.std.specs.Io.KnownBytes.{Consumes, IsAtEnd};
 ghost use Rattle.rbc_model.specs.declared.places.Format.TheVariants.{Far};
 ghost use Rattle.rbc_model.specs.StepsReply.{AnswersLine};
 ghost use Rattle.rbc_model.specs.Talks.{IsTalk, EachByItself};
-ghost use Rattle.rbc.specs.Answered.{AnswersAllSteps};
+ghost use Rattle.rbc_certifier.specs.Answered.{AnswersAllSteps};
 
 use crate::answers::reply_to;
-use rbc_checks::{Answers, converse};
 use rbc_model::limits::LONGEST_LINE;
 use rbc_model::{LineFault, SessionFault, StepsRefusal};
-use rbc_streams::{Sink, Source, WriteFailed};
+use rbc_streams::{Answers, Sink, Source, WriteFailed, converse};
 use rbc_words::{StepsReply, print};
 use std::alloc::Global;
 use std::thread::Threads;

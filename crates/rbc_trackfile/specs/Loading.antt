@@ -9,8 +9,8 @@ use Rattle.rbc_model.specs.Tracks.{Track}
 use Rattle.rbc_trackfile.specs.Told.{track_told}
 use Rattle.rbc_streams.specs.declared.whole.WholeFault.{WholeFault}
 use Rattle.rbc_streams.specs.declared.whole.WholeFault.TheVariants.{Read, TooLong, Memory as NoMemory}
-use Rattle.rbc.specs.declared.load.LoadFault.{LoadFault}
-use Rattle.rbc.specs.declared.load.LoadFault.TheVariants.{Unreadable, File, Memory}
+use Rattle.rbc_trackfile.specs.declared.loading.LoadFault.{LoadFault}
+use Rattle.rbc_trackfile.specs.declared.loading.LoadFault.TheVariants.{Unreadable, File, Memory}
 
 -- bytes that could not be read whole
 abbrev pub load_fault : WholeFault → LoadFault
