@@ -49,6 +49,9 @@ shown_just wanted (Err fault) h = cc
 pub view_shown : (now : HistoryOnTrack) (v : View) → is_shown now v ≡ true → view now.track (scene_now now) v.train ≡ Ok v
 view_shown now v h = shown_just v (view now.track (scene_now now) v.train) h
 
+pub shown_is : (now : HistoryOnTrack) (v : View) → view now.track (scene_now now) v.train ≡ Ok v → is_shown now v ≡ true
+shown_is now v e = ap (is_just v) e ∙ (is_same_view-decides v v).1 refl
+
 shown_before : (scene : SceneOnTrack) (entries : List Entry) (now : HistoryOnTrack) → history_on scene.track entries ≡ now → IsKept scene entries → (v : View) → is_shown now v ≡ true
     → view scene.track scene.scene v.train ≡ Ok v
 shown_before scene entries now is kept v h =

@@ -205,6 +205,43 @@ impl Record {
         if !self.shows(alloc, candidate.view())? {
             return Err(OrMemory::Refused(CommitFault::Stale(self.version())));
         }
+        self.enter(alloc, candidate)
+    }
+
+    /// Enters what the candidate would grant, where this record shows its train the candidate's view: nothing was entered
+    /// since the view was taken. No views are compared. Where it is refused, or memory is, nothing changes.
+    ///
+    /// # Errors
+    ///
+    /// `Refused` with `Full`, before all else: the record has 100,000 entries. `Memory`, where the allocator refuses room
+    /// for the entry or for the search of the train's way.
+    pub fn grant(
+        &mut self,
+        alloc: Global,
+        candidate: &Candidate,
+    ) -> Result<Receipt, OrMemory<CommitFault>>
+        requires shown { view self.old.track (scene_now self.old) candidate.now.view.train ≡ Ok candidate.now.view }
+        ensures entered { EntersOrMemory result self.old self.new (entry_granted self.old candidate.now) }
+        ensures full { is_full self.old ≡ true → result ≡ Err (Refused FullToGrants) }
+        ensures best { IsBestHistory self.new.track self.new.entries }
+    {
+        if self.is_full() {
+            return Err(OrMemory::Refused(CommitFault::Full));
+        }
+        self.enter(alloc, candidate)
+    }
+
+    /// Enters what the candidate would grant, where there is room for it and its train is shown its view.
+    fn enter(
+        &mut self,
+        alloc: Global,
+        candidate: &Candidate,
+    ) -> Result<Receipt, OrMemory<CommitFault>>
+        requires room { is_full self.old ≡ false }
+        requires shown { is_shown self.old candidate.now.view ≡ true }
+        ensures entered { EntersOrMemory result self.old self.new (entry_granted self.old candidate.now) }
+        ensures best { IsBestHistory self.new.track self.new.entries }
+    {
         self.entries.reserve(1)?;
         match self
             .scene

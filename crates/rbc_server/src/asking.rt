@@ -108,7 +108,7 @@ fn commit<'a>(alloc: Global, history: &mut Record, candidate: &'a Candidate) -> 
     // The track is sound, so what stands beyond the end is of the track.
     let _sections = history.track().section_count();
     let _version = history.version();
-    match history.commit(alloc, candidate) {
+    match history.grant(alloc, candidate) {
         Ok(receipt) => SessionReply::Granted(told_of(candidate, receipt.place() + 1)),
         Err(OrMemory::Refused(CommitFault::Full)) => SessionReply::Refused(SessionRefusal::Full),
         Err(OrMemory::Memory) => SessionReply::Refused(SessionRefusal::Memory),

@@ -10,7 +10,7 @@ unreachable-requires c =
 
 pub returns-in-Ok-clause-comes : goal.returns-in-Ok-clause-comes
 returns-in-Ok-clause-comes c =
-    granted_comes c.args.history.now c.commit.new.self c.args.candidate.now c.in-Ok.receipt c.place.result c.told_of.result
+    granted_comes c.args.history.now c.grant.new.self c.args.candidate.now c.in-Ok.receipt c.place.result c.told_of.result
     c.in-Ok.ensures.entered c.place.ensures c.told_of.ensures.told c.told_of.ensures.best c.told_of.ensures.chosen c.version-version.ensures.form c.requires
 
 pub returns-in-Ok-clause-whole : goal.returns-in-Ok-clause-whole
@@ -21,5 +21,5 @@ returns-in-Ok-clause-whole c =
 
 pub returns-in-Err-Refused-Full-clause-comes : goal.returns-in-Err-Refused-Full-clause-comes
 returns-in-Err-Refused-Full-clause-comes c =
-    shown_full c.args.history.now c.args.candidate.now.view.train c.args.candidate.now.view c.requires c.commit.new.self c.in-Err-Refused-Full.ensures.entered.1
+    shown_full c.args.history.now c.args.candidate.now.view.train c.args.candidate.now.view c.requires c.grant.new.self c.in-Err-Refused-Full.ensures.entered.1
     (full_to_grants c.args.history.now c.args.candidate.now (rw (c.in-Err-Refused-Full.field-0-is, c.in-Err-Refused-Full.field-0-0-is) at c.in-Err-Refused-Full.ensures.entered.0))

@@ -1,35 +1,14 @@
-use Rattle.std.proofs.Common.{[], ◌∷◌, ◌++◌, map, ap, sym, ◌∙◌}
-use Rattle.rbc_model.specs.Messages.{Authority}
-use Rattle.rbc_record.specs.declared.entry.Entry.TheVariants.{Granted}
-use Rattle.rbc_record.specs.Entries.{entry_of}
+use Rattle.std.proofs.Common.{Result, Ok, Err, ap, sym, ◌∙◌}
+use Rattle.std.specs.Prelude.{IfOk}
 use Rattle.rbc_record.specs.Entering.{is_shown}
-use Rattle.rbc_record.specs.Records.{IsKept}
-use Rattle.rbc_record.proofs.KeepingLemmas.{best_of_kept, kept_after_granted, never_refused, view_shown}
+use Rattle.rbc_record.proofs.KeepingLemmas.{view_shown}
 use Rattle.rbc_record.proofs.history.Record.commit.Goals as goal
-use Rattle.rbc_record.proofs.history.Record.commit.Goals.{After-append}
 
--- with what was granted the record keeps what it keeps
-kept : (c : After-append) → IsKept c.grant.new.self (map entry_of c.append.new.entries.items)
-kept c =
-    kept_after_granted c.self.inside.scene c.grant.new.self c.self.inside.entries.items c.append.new.entries.items c.args.self.now c.self.view_is c.self.invariant
-    (sym c.is_full.ensures.full ∙ c.if-is_full.false) c.in-Ok.ensures.granted.1 c.args.candidate.now.view c.args.candidate.now.grant c.view.ensures.best
-    (ap (is_shown c.args.self.now) (sym c.view.ensures.view) ∙ sym c.in_ok-shows.ensures.shown ∙ c.if-not-branch.false)
-    c.train.result c.end.result c.train.ensures (c.end.ensures.end ∙ ap (λ (a : Authority). a.end) c.authority.ensures.authority)
-    (c.append.ensures.items ∙ (λ i. c.reserve.ensures.items i ++ Granted (c.of.ensures i) ∷ [])) c.in-Ok.ensures.granted.0
+in_any_case : {X E : Type 0} {P : Type 0} (result : Result X E) → P → IfOk result (λ x. P)
+in_any_case (Ok x) p = p
+in_any_case (Err e) p = tt
 
-pub invariant_of-self-in-Ok : goal.invariant_of-self-in-Ok
-invariant_of-self-in-Ok c = kept c
-
-pub returns-in-Ok-clause-best : goal.returns-in-Ok-clause-best
-returns-in-Ok-clause-best c = best_of_kept c.grant.new.self (map entry_of c.append.new.entries.items) (kept c)
-
-pub returns-in-Ok-clause-shown : goal.returns-in-Ok-clause-shown
-returns-in-Ok-clause-shown c =
-    view_shown c.args.self.now c.args.candidate.now.view (ap (is_shown c.args.self.now) (sym c.view.ensures.view) ∙ sym c.in_ok-shows.ensures.shown ∙ c.if-not-branch.false)
-
-pub unreachable-requires : goal.unreachable-requires
-unreachable-requires c =
-    never_refused c.self.inside.scene (map entry_of c.self.inside.entries.items) c.args.self.now c.self.view_is c.self.invariant c.args.candidate.now.view c.args.candidate.now.grant
-    c.view.ensures.best (ap (is_shown c.args.self.now) (sym c.view.ensures.view) ∙ sym c.in_ok-shows.ensures.shown ∙ c.if-not-branch.false) c.train.result c.end.result c.train.ensures
-    (c.end.ensures.end ∙ ap (λ (a : Authority). a.end) c.authority.ensures.authority) c.in-Err-Refused.field-0 c.in-Err-Refused.field-0-0 c.in-Err-Refused.field-0-is
-    c.in-Err-Refused.ensures.granted.0
+pub returns-clause-shown : goal.returns-clause-shown
+returns-clause-shown c =
+    in_any_case c.enter.result
+    (view_shown c.args.self.now c.args.candidate.now.view (ap (is_shown c.args.self.now) (sym c.view.ensures.view) ∙ sym c.in_ok-shows.ensures.shown ∙ c.if-not-branch.false))
