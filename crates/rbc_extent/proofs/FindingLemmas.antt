@@ -1,21 +1,18 @@
 -- What was found of a report, step by step, is where it is placed by cases.
-use Rattle.std.proofs.Common.{◌≡◌, ℕ, Option, Some, None, Result, Ok, Err, refl, ap, sym, ◌∙◌, subst, length, IfOk, ◌+◌, Bool, true, false, cond, nat_lt}
-use Rattle.std.specs.Prelude.{option_and_then, option_map, is_some}
+use Rattle.std.proofs.Common.{◌≡◌, ℕ, Option, Some, None, Result, Ok, Err, refl, ap, sym, ◌∙◌, subst, length, IfOk}
+use Rattle.std.specs.Prelude.{option_and_then}
 use Rattle.std.specs.Option.{option_map_or}
 use Rattle.std.specs.Result.{result_map_both}
 use Rattle.std.proofs.lemmas.Result.{IfOk-at_ok}
-use Rattle.rbc_model.specs.Scales.{farthest}
 use Rattle.rbc_model.specs.Reports.{Report}
 use Rattle.rbc_model.specs.declared.tracks.BaliseGroup.{BaliseGroup}
 use Rattle.rbc_model.specs.declared.refusals.Refusal.{Refusal}
-use Rattle.rbc_model.specs.declared.refusals.Refusal.TheVariants.{UnknownGroup, Offline, Unplaced, TooFar}
+use Rattle.rbc_model.specs.declared.refusals.Refusal.TheVariants.{UnknownGroup, Offline, Unplaced}
 use Rattle.rbc_model.specs.Results.{◌>>=◌}
 use Rattle.rbc_model.specs.Tracks.{Track, group_named}
 use Rattle.rbc_model.specs.Lines.{Line}
 use Rattle.rbc_model.specs.Locks.{Locks, longer_ahead, longer_back, lengthened}
-use Rattle.rbc_model.specs.Placing.{Placed, leg_told, located, without_legs_behind, covered, has_rear, has_front, placed_on, place, reported, train_after, origin_on, rear_on, front_on, old_origin}
-use Rattle.rbc_model.specs.Trains.{Train}
-use Rattle.rbc_extent.proofs.OutcomeLemmas.{refused_alike}
+use Rattle.rbc_model.specs.Placing.{Placed, leg_told, located, without_legs_behind, covered, has_rear, has_front, placed_on, place, origin_on, old_origin}
 use Rattle.rbc_extent.specs.PlacingSteps.{found_or, Finding, locating_step, rear_step, front_step, covering_step, finding, finding_from}
 
 -- where the train is placed
@@ -115,48 +112,3 @@ module _ (track : Track) (locks : Locks) (line : Line) (report : Report) where
   pub finding-old_origin : (found : Finding) → finding track locks (Some line) report ≡ Ok found → found.old_origin ≡ old_origin track locks report line
   unfolding finding finding_from
   finding-old_origin found h = IfOk-at_ok (λ (f : Finding). f.old_origin ≡ old_origin track locks report line) h (origin_named (group_named track report.group))
-
--- ---- what is told as `Offline`
-
--- where a search has found something
-pub found_no_offline : {X : Type 0} (o : Option X) → is_some o ≡ true → found_or Offline o ≡ Err Offline → ⊥
-found_no_offline None h e = cc
-found_no_offline (Some x) h e = cc
-
--- only the search for the leg told ends so
-pub finding_from-offline : (track : Track) (locks : Locks) (known : Option Line) (report : Report) (group : BaliseGroup) → finding_from track locks known report group ≡ Err Offline → locating_step track locks (leg_told group report) known ≡ Err Offline
-unfolding finding_from covering_step rear_step front_step
-finding_from-offline track locks known report group h = by_start (locating_step track locks (leg_told group report) known) refl h
-  where
-    by_test : (t : Bool) (p : Placed) (f : Placed → Finding) → (cond t (Err TooFar) (Ok p) >>= (λ (placed : Placed). Ok (f placed))) ≡ Err Offline → ⊥
-    by_test true p f e = cc
-    by_test false p f e = cc
-
-    by_front : (old : ℕ) (o : Option Line) → (found_or Unplaced o >>= at_line track locks known report old group) ≡ Err Offline → ⊥
-    by_front old None e = cc
-    by_front old (Some line) e =
-        let p : Placed = record { line = line; origin = origin_on track group report line; rear = rear_on track group report line; front = front_on track group report line } in
-        let f : Placed → Finding = λ placed. record { old_origin = old; placed = placed } in
-        by_test (nat_lt (farthest track.format) (report.distance + report.under)) p f e
-
-    by_rear : (old : ℕ) (o : Option Line) → ((found_or Unplaced o >>= front_step track locks group report) >>= at_line track locks known report old group) ≡ Err Offline → ⊥
-    by_rear old None e = cc
-    by_rear old (Some line) e = by_front old (lengthened (length track.sections) (longer_ahead locks) (has_front track group report) line) e
-
-    by_start : (r : Result Line Refusal) → locating_step track locks (leg_told group report) known ≡ r → (r >>= at_start track locks known report group) ≡ Err Offline → r ≡ Err Offline
-    by_start (Ok start) e h = absurd (by_rear (origin_on track group report start) (lengthened (length track.sections) (longer_back locks) (has_rear track group report) (without_legs_behind track group report start)) h)
-    by_start (Err refusal) e h = cc
-
--- so only a report that is refused so is placed so
-pub place-offline : (track : Track) (locks : Locks) (known : Option Line) (report : Report) → place track locks known report ≡ Err Offline → finding track locks known report ≡ Err Offline
-place-offline track locks known report h =
-    refused_alike (finding track locks known report) (place track locks known report) (λ (f : Finding). f.placed) (place-found track locks known report) (place-refused track locks known report) Offline h
-
-pub reported-offline : (track : Track) (locks : Locks) (known : Option Train) (report : Report) → reported track locks known report ≡ Err Offline → finding track locks (option_map (λ (train : Train). train.line) known) report ≡ Err Offline
-reported-offline track locks known report h =
-    place-offline track locks (option_map (λ (train : Train). train.line) known) report
-    (only_error (train_after track locks known report) (place track locks (option_map (λ (train : Train). train.line) known) report) h)
-  where
-    only_error : (after : Placed → Train) (r : Result Placed Refusal) → result_map_both after (λ (fault : Refusal). fault) r ≡ Err Offline → r ≡ Err Offline
-    only_error after (Ok placed) e = cc
-    only_error after (Err refusal) e = cc

@@ -25,7 +25,7 @@ cond_same false x = refl
 
 module _ (track : Track) (report : Report) (placed : Placed) where
   -- the train with this authority
-  abbrev with_left : Authority → Train
+  abbrev pub with_left : Authority → Train
   with_left authority = placed_train track report placed authority.from authority.to
 
   abbrev nothing : Authority

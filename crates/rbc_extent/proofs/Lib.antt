@@ -2,6 +2,7 @@ mod CourseLemmas
 mod CoveringLemmas
 mod FindingLemmas
 mod GroupLemmas
+mod JudgeLemmas
 mod LeavingLemmas
 mod LengthenedLemmas
 mod PositionLemmas

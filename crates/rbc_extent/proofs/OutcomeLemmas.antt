@@ -1,6 +1,7 @@
 -- What a call answers where another one answered it: its refusal, or memory, or its value.
-use Rattle.std.proofs.Common.{◌≡◌, Option, Some, None, IfSome, Result, Ok, Err, refl, subst}
+use Rattle.std.proofs.Common.{◌≡◌, Option, Some, None, IfSome, IfErr, Result, Ok, Err, sym, subst}
 use Rattle.std.specs.Prelude.{option_map}
+use Rattle.std.specs.Result.{result_map_both}
 use Rattle.rbc_model.specs.Tracks.{Track}
 use Rattle.rbc_model.specs.Trains.{Train}
 use Rattle.rbc_scene_laws.specs.Good.{IsGoodTrain}
@@ -22,13 +23,23 @@ known_good track_of train_of (Some x) track same good train e = subst (IsGoodTra
     the_same : (a b : Train) → Some a ≡ Some b → a ≡ b
     the_same a b e = cc
 
--- where one answer is refused as another one is, and has a value where the other has one, the other is refused as it is
-pub refused_alike : {X Y E : Type 0} (a : Result X E) (b : Result Y E) (of : X → Y) → ((x : X) → a ≡ Ok x → b ≡ Ok (of x)) → ((refusal : E) → a ≡ Err refusal → b ≡ Err refusal) → (refusal : E) → b ≡ Err refusal → a ≡ Err refusal
-refused_alike {X} {Y} {E} a b of f g refusal h = by_answer a refl
-  where
-    by_answer : (r : Result X E) → a ≡ r → a ≡ Err refusal
-    by_answer (Ok x) e = let k = f x e in cc
-    by_answer (Err other) e = let k = g other e in cc
+-- a fact of the refusal is one of the same refusal, where another value stands in place of the answer
+pub refused-mapped : {X Y E : Type 0} (f : X → Y) (answer : Result X E) (P : E → Type 0) → IfErr answer P → IfErr (result_map_both f (λ (refusal : E). refusal) answer) P
+refused-mapped f (Ok x) P h = tt
+refused-mapped f (Err refusal) P h = h
+
+-- and what follows from it
+pub refused-told : {X E : Type 0} (answer : Result X E) (P Q : E → Type 0) → ((refusal : E) → P refusal → Q refusal) → IfErr answer P → IfErr answer Q
+refused-told (Ok x) P Q f h = tt
+refused-told (Err refusal) P Q f h = f refusal h
+
+-- of an answer nothing is told
+pub nothing-told : {X E : Type 0} (answer : Result X E) (x : X) (P : E → Type 0) → answer ≡ Ok x → IfErr answer P
+nothing-told {X} {E} answer x P h = subst (λ (r : Result X E). IfErr r P) (sym h) tt
+
+-- an answer that is given
+abbrev pub gives : {X : Type 0} (E : Type 0) → X → Result X E
+gives E x = Ok x
 
 -- a refusal that is handed on
 abbrev pub fails : {E : Type 0} (X : Type 0) → E → Result X E
@@ -36,7 +47,3 @@ fails X fault = Err fault
 
 pub handed_on : {Y E : Type 0} (X : Type 0) (result : Result Y E) (given fault told : E) → result ≡ Err given → given ≡ fault → fails X fault ≡ fails X told → result ≡ Err told
 handed_on X result given fault told e f h = cc
-
--- an answer is no refusal
-pub not_both : {X E : Type 0} (r : Result X E) (x : X) (fault : E) → r ≡ Ok x → r ≡ Err fault → ⊥
-not_both r x fault e h = cc

@@ -1,5 +1,6 @@
 -- How a report is placed, step by step: each step has an answer, or it is the first one at fault. `Placing` says the same by cases.
 use Rattle.std.specs.Prelude.{ℕ, length, Option, Some, None, Result, Ok, Err}
+use Rattle.std.specs.Result.{result_err}
 use Rattle.rbc_model.specs.declared.places.Leg.{Leg}
 use Rattle.rbc_model.specs.declared.tracks.BaliseGroup.{BaliseGroup}
 use Rattle.rbc_model.specs.declared.refusals.Refusal.{Refusal}
@@ -50,3 +51,13 @@ finding_from track locks known report group = do
 -- the whole
 unfoldable pub finding : Track → Locks → Option Line → Report → Result Finding Refusal
 finding track locks known report = found_or UnknownGroup (group_named track report.group) >>= finding_from track locks known report
+
+-- ---- refusals
+
+-- why a report is not placed from a line on that has the leg told, if it is not
+abbrev pub refusal_from : Track → Locks → BaliseGroup → Report → Line → Option Refusal
+refusal_from track locks group report start = result_err (covering_step track locks group report start >>= placed_on track group report)
+
+-- why it is not placed from the group on, if it is not
+abbrev pub refusal_beyond : Track → Locks → Option Line → Report → BaliseGroup → Option Refusal
+refusal_beyond track locks known report group = result_err (finding_from track locks known report group)

@@ -1,17 +1,17 @@
 //! The leg that a report tells, and the places that it counts from its group.
 
-ghost use Rattle.std.specs.Prelude.{◌≡◌, ◌+◌, ◌-◌, ◌*◌, ◌≤◌, length, position, IsTrue, nat_le};
+ghost use Rattle.std.specs.Prelude.{◌≡◌, ◌+◌, ◌-◌, ◌*◌, ◌<◌, ◌≤◌, length, position, IsTrue, nat_le};
 ghost use Rattle.std.specs.List.{position_or_len};
-ghost use Rattle.rbc_model.specs.Lines.{line_length};
+ghost use Rattle.rbc_model.specs.Lines.{line_length, metres_to_group};
 ghost use Rattle.rbc_model.specs.Placing.{leg_told, origin_on};
 ghost use Rattle.rbc_model.specs.SoundTracks.{is_good_group};
 ghost use Rattle.rbc_model.specs.declared.limits.TheConstants.{FARTHEST_REPORT, LONGEST_TRACK};
 ghost use Rattle.rbc_model.specs.declared.limits.TheConstants.{MOST_DOUBT, MOST_SECTIONS};
-ghost use Rattle.rbc_model.specs.Tracks.{leg_eq};
+ghost use Rattle.rbc_model.specs.Tracks.{leg_eq, metres_of};
 
 use rbc_line::Line;
-use rbc_model::{BaliseGroup, Leg, Report};
-use rbc_track::reverse;
+use rbc_model::{BaliseGroup, Direction, Leg, Report};
+use rbc_track::{Track, reverse};
 
 /// The leg that a report from this group tells: the group's section, in its nominal direction or against it.
 pub(crate) fn leg_told(group: &BaliseGroup, report: &Report) -> Leg
@@ -50,6 +50,26 @@ pub(crate) fn legs_before(legs: &[Leg], leg: Leg) -> usize
     match position_of(legs, leg) {
         Some(index) => index,
         None => legs.len(),
+    }
+}
+
+/// How many metres the leg has.
+pub(crate) fn metres_of(track: &Track, leg: &Leg) -> u32
+    requires { leg.now.section < length track.now.sections }
+    ensures { result ≡ metres_of track.now leg.now.section }
+{
+    track.section_at(leg.section).length()
+}
+
+/// How many metres of the leg lie beyond the group, which stands on its section.
+pub(crate) fn metres_beyond(track: &Track, group: &BaliseGroup, leg: &Leg) -> u32
+    requires of_track { leg.now.section < length track.now.sections }
+    requires on_leg { group.now.offset ≤ metres_of track.now leg.now.section }
+    ensures { metres_to_group track.now group.now leg.now + result ≡ metres_of track.now leg.now.section }
+{
+    match leg.direction {
+        Direction::Rising => metres_of(track, leg) - group.offset,
+        Direction::Falling => group.offset,
     }
 }
 

@@ -63,42 +63,12 @@ fn continued_to(
     Err(OrMemory::Refused(Refusal::Offline))
 }
 
-/// Whether the locks lead from the end of the line to the leg, before they lead back onto the line, or the line has it
-/// already. It takes no memory.
-fn leads_to(locks: &Locks, line: &Line, leg: Leg) -> bool
-    requires { IsGoodLocks line.now.track locks.now }
-    ensures { result ≡ is_some (lengthened (length line.now.track.sections) (longer_ahead locks.now)
-        (λ l. has_leg l leg) line.now.legs) }
-{
-    if line.has_leg(leg) {
-        return true;
-    }
-    // A line has each section once.
-    let _legs = line.legs();
-    let sections = sections_of(line);
-    let mut last = line.last();
-    for _added in 0..sections {
-        let Some(next) = locks.next(last) else {
-            return false;
-        };
-        if line.has_section(next.section) {
-            return false;
-        }
-        if is_same_leg(&leg, &next) {
-            return true;
-        }
-        last = next;
-    }
-    false
-}
-
-/// A copy of the line, continued along the locks as far as needed to have the leg. Nothing is copied before it is
-/// found that the locks lead there.
+/// A copy of the line, continued along the locks as far as needed to have the leg.
 ///
 /// # Errors
 ///
 /// - `Offline`, where the locks do not lead to the leg.
-/// - `Memory`, where they do.
+/// - `Memory`.
 pub(crate) fn continuation(
     alloc: Global,
     locks: &Locks,
@@ -110,14 +80,8 @@ pub(crate) fn continuation(
         (lengthened (length line.now.track.sections) (longer_ahead locks.now) (λ l. has_leg l leg) line.now.legs)) }
     ensures track { IfOk result (λ l. l.track ≡ line.now.track) }
     ensures has { IfOk result (λ l. has_leg l.legs leg ≡ true) }
-    ensures offline { found_or Offline (lengthened (length line.now.track.sections) (longer_ahead locks.now)
-        (λ l. has_leg l leg) line.now.legs) ≡ Err Offline → result ≡ Err (Refused Offline) }
 {
-    if leads_to(locks, line, leg) {
-        continued_to(alloc, locks, line.copy(alloc)?, leg)
-    } else {
-        Err(OrMemory::Refused(Refusal::Offline))
-    }
+    continued_to(alloc, locks, line.copy(alloc)?, leg)
 }
 
 /// Drops the legs before both the leg told and the leg with the train's rear. It takes no memory.

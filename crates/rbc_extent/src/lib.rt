@@ -9,11 +9,13 @@ mod counting;
 mod course;
 mod covering;
 mod finding;
+mod judge;
 mod placed;
 mod placing;
 mod reporting;
 mod through;
 mod train;
+mod walk;
 
 pub use placed::Placed;
 pub use placing::place;

@@ -1,6 +1,6 @@
 //! Placing a report.
 
-ghost use Rattle.std.specs.Prelude.{◌≡◌, ◌<◌, length, None, Err, IfOk, IfSome, IsTrue, true, option_map};
+ghost use Rattle.std.specs.Prelude.{◌≡◌, ◌<◌, length, Err, IfOk, IfErr, IfSome, IsTrue, true, option_map};
 ghost use Rattle.std.specs.Arc.{arc_value};
 ghost use Rattle.std.specs.Result.{result_map_both};
 ghost use Rattle.rbc_model.specs.Answers.{AnswersAs};
@@ -18,6 +18,7 @@ use crate::Placed;
 use crate::counting::{leg_told, metres_ahead, origin_on, rear_from};
 use crate::covering::{continuation, covering};
 use crate::finding::Finding;
+use crate::judge::refusal;
 use rbc_line::Line;
 use rbc_locks::Locks;
 use rbc_model::{BaliseGroup, Leg, OrMemory, Refusal, Report};
@@ -40,7 +41,8 @@ use std::sync::Arc;
 /// - `Unplaced`: the locks do not lead to the rear or to the front, or lead back onto the line.
 /// - `TooFar`: the front lies further from the group than an authority may end.
 ///
-/// `Memory` may come in place of the last two. The first two are told before any memory is asked for.
+/// `Memory` is told of a report that is placed, and of no other: where memory is refused, the report is judged without
+/// it.
 pub fn place(
     alloc: Global,
     track: &Arc<Track>,
@@ -53,10 +55,8 @@ pub fn place(
     ensures placed { AnswersAs (λ p. p.placed) result
         (place (arc_value track.now) locks.now (option_map (λ line. line.now.legs) known.entry) report.now) }
     ensures track { IfOk result (λ p. p.track ≡ arc_value track.now) }
-    ensures unknown { group_named (arc_value track.now) report.now.group ≡ None
-        → result ≡ Err (Refused UnknownGroup) }
-    ensures offline { place (arc_value track.now) locks.now (option_map (λ line. line.now.legs) known.entry) report.now
-        ≡ Err Offline → result ≡ Err (Refused Offline) }
+    ensures refused { IfErr (place (arc_value track.now) locks.now (option_map (λ line. line.now.legs) known.entry)
+        report.now) (λ refusal. result ≡ Err (Refused refusal)) }
 {
     let finding = find(alloc, track, locks, known, report)?;
     Ok(finding.placed)
@@ -77,13 +77,11 @@ pub(crate) fn find(
         (finding (arc_value track.now) locks.now (option_map (λ line. line.now.legs) known.entry) report.now) }
     ensures track { IfOk result (λ f. f.placed.track ≡ arc_value track.now) }
     ensures sound { IsSound (arc_value track.now) }
-    ensures unknown { group_named (arc_value track.now) report.now.group ≡ None
-        → result ≡ Err (Refused UnknownGroup) }
-    ensures offline { finding (arc_value track.now) locks.now (option_map (λ line. line.now.legs) known.entry) report.now
-        ≡ Err Offline → result ≡ Err (Refused Offline) }
+    ensures refused { IfErr (finding (arc_value track.now) locks.now (option_map (λ line. line.now.legs) known.entry)
+        report.now) (λ refusal. result ≡ Err (Refused refusal)) }
 {
     match group_of(track, report) {
-        Some(group) => find_from(alloc, track, locks, known, report, &group),
+        Some(group) => find_or_refuse(alloc, track, locks, known, report, &group),
         None => Err(OrMemory::Refused(Refusal::UnknownGroup)),
     }
 }
@@ -99,7 +97,36 @@ fn group_of(track: &Track, report: &Report) -> Option<BaliseGroup>
     track.group(report.group())
 }
 
-/// What a report from this group comes to.
+/// What a report from this group comes to. Where memory is refused, it is judged without it.
+fn find_or_refuse(
+    alloc: Global,
+    track: &Arc<Track>,
+    locks: &Locks,
+    known: Option<&Line>,
+    report: &Report,
+    group: &BaliseGroup,
+) -> Result<Finding, OrMemory<Refusal>>
+    requires locks { IsGoodLocks (arc_value track.now) locks.now }
+    requires known { IfSome known (λ line. line.now.track ≡ arc_value track.now) }
+    requires group { IsTrue (is_good_group (arc_value track.now) group.now) }
+    ensures finding { AnswersAs finding_view result (finding_from (arc_value track.now) locks.now
+        (option_map (λ line. line.now.legs) known.entry) report.now group.now) }
+    ensures track { IfOk result (λ f. f.placed.track ≡ arc_value track.now) }
+    ensures refused { IfErr (finding_from (arc_value track.now) locks.now
+        (option_map (λ line. line.now.legs) known.entry) report.now group.now)
+        (λ refusal. result ≡ Err (Refused refusal)) }
+{
+    match find_from(alloc, track, locks, known, report, group) {
+        Ok(finding) => Ok(finding),
+        Err(OrMemory::Refused(refusal)) => Err(OrMemory::Refused(refusal)),
+        Err(OrMemory::Memory) => match refusal(track, locks, known, report, group) {
+            Some(refusal) => Err(OrMemory::Refused(refusal)),
+            None => Err(OrMemory::Memory),
+        },
+    }
+}
+
+/// What a report from this group comes to, unless memory is refused.
 #[tactic(auto, unfolding(crate::specs::PlacingSteps::finding_from))]
 fn find_from(
     alloc: Global,
@@ -115,8 +142,6 @@ fn find_from(
     ensures finding { AnswersAs finding_view result (finding_from (arc_value track.now) locks.now
         (option_map (λ line. line.now.legs) known.entry) report.now group.now) }
     ensures track { IfOk result (λ f. f.placed.track ≡ arc_value track.now) }
-    ensures offline { finding_from (arc_value track.now) locks.now (option_map (λ line. line.now.legs) known.entry)
-        report.now group.now ≡ Err Offline → result ≡ Err (Refused Offline) }
 {
     let leg = leg_told(group, report);
     let start = located(alloc, track, locks, known, leg)?;
@@ -142,8 +167,6 @@ fn located(
         (locating_step (arc_value track.now) locks.now leg (option_map (λ line. line.now.legs) known.entry)) }
     ensures track { IfOk result (λ l. l.track ≡ arc_value track.now) }
     ensures has { IfOk result (λ l. has_leg l.legs leg ≡ true) }
-    ensures offline { locating_step (arc_value track.now) locks.now leg (option_map (λ line. line.now.legs) known.entry)
-        ≡ Err Offline → result ≡ Err (Refused Offline) }
 {
     match known {
         Some(line) => continuation(alloc, locks, line, leg),

@@ -1,6 +1,6 @@
 //! A train after its report.
 
-ghost use Rattle.std.specs.Prelude.{◌≡◌, ◌+◌, ◌-◌, ◌≤◌, ◌<◌, None, Err, IfOk, IfSome, option_map};
+ghost use Rattle.std.specs.Prelude.{◌≡◌, ◌+◌, ◌-◌, ◌≤◌, ◌<◌, Err, IfErr, IfOk, IfSome, option_map};
 ghost use Rattle.std.specs.Arc.{arc_value};
 ghost use Rattle.rbc_model.specs.Answers.{AnswersAs};
 ghost use Rattle.rbc_model.specs.Placing.{reported};
@@ -33,7 +33,8 @@ use std::sync::Arc;
 /// - `Unplaced`: the locks do not lead to the rear or to the front, or lead back onto the line.
 /// - `TooFar`: the front lies further from the group than an authority may end.
 ///
-/// `Memory` may come in place of the last two. The first two are told before any memory is asked for.
+/// `Memory` is told of a report that is placed, and of no other: where memory is refused, the report is judged without
+/// it.
 pub fn reported(
     alloc: Global,
     track: &Arc<Track>,
@@ -46,10 +47,8 @@ pub fn reported(
     ensures reported { AnswersAs (λ t. t.train) result
         (reported (arc_value track.now) locks.now (option_map (λ train. train.now.train) known.entry) report.now) }
     ensures track { IfOk result (λ t. t.track ≡ arc_value track.now) }
-    ensures unknown { group_named (arc_value track.now) report.now.group ≡ None
-        → result ≡ Err (Refused UnknownGroup) }
-    ensures offline { reported (arc_value track.now) locks.now (option_map (λ train. train.now.train) known.entry)
-        report.now ≡ Err Offline → result ≡ Err (Refused Offline) }
+    ensures refused { IfErr (reported (arc_value track.now) locks.now (option_map (λ train. train.now.train) known.entry)
+        report.now) (λ refusal. result ≡ Err (Refused refusal)) }
 {
     let finding = find(alloc, track, locks, line_of(known), report)?;
     let authority = authority_left(known, &finding);

@@ -1,17 +1,16 @@
 //! A scene, and what is told in it.
 
-ghost use Rattle.std.specs.Prelude.{◌≡◌, ◌<◌, length, false, true, None, Some, Err, IfOk, IfSome};
+ghost use Rattle.std.specs.Prelude.{◌≡◌, ◌<◌, length, false, true, None, Some, Err, IfErr, IfOk, IfSome};
 ghost use Rattle.std.specs.Arc.{arc_value};
 ghost use Rattle.std.specs.Result.{result_err, result_map_both};
 ghost use Rattle.rbc_model.specs.declared.memory.OrMemory.TheVariants.{Refused, Memory as NoMemory};
-ghost use Rattle.rbc_model.specs.declared.refusals.Refusal.TheVariants.{Crowded, NotSafe, UnknownGroup, UnknownTrain};
+ghost use Rattle.rbc_model.specs.declared.refusals.Refusal.TheVariants.{NotSafe, UnknownTrain};
 ghost use Rattle.rbc_model.specs.declared.reports.Told.TheVariants.{Report as ToldReport};
 ghost use Rattle.rbc_model.specs.Answers.{AnswersAs, AnswersOrMemory};
 ghost use Rattle.rbc_model.specs.Events.{after_free, after_give_back, after_grant, after_leave, after_lock, after_report, after_told, step, with_authority};
 ghost use Rattle.rbc_model.specs.Histories.{AuthoritiesAreApart, HeldAreLocked};
 ghost use Rattle.rbc_model.specs.Placing.{reported};
 ghost use Rattle.rbc_model.specs.Scenes.{empty_scene, train_numbered};
-ghost use Rattle.rbc_model.specs.Tracks.{group_named};
 ghost use Rattle.rbc_model.specs.Trains.{Train as KnownTrain};
 ghost use Rattle.rbc_scene.specs.Grants.{granted_train};
 ghost use Rattle.rbc_scene_laws.specs.Good.{IsGoodScene};
@@ -116,16 +115,14 @@ impl Scene {
     ///
     /// `Refused` with the first of these:
     /// - `Crowded`: the train is new, and there are 1,024,
-    /// - `UnknownGroup`, before any memory is asked for,
-    /// - `Offline`, `Unplaced` or `TooFar`.
+    /// - `UnknownGroup`, `Offline`, `Unplaced` or `TooFar`, as [`rbc_way::reported`] says.
     ///
-    /// `Memory` may come in place of all but the first two.
+    /// `Memory` is told of a report that is not refused, and of no other.
     pub fn report(&mut self, alloc: Global, report: &Report) -> Result<(), OrMemory<Refusal>>
         ensures reported { StepsOrMemory result self.old self.new
             (after_report self.old.track self.old.scene report.now) }
-        ensures crowded { is_crowded self.old.scene report.now ≡ true → result ≡ Err (Refused Crowded) }
-        ensures unknown { is_crowded self.old.scene report.now ≡ false
-            → group_named self.old.track report.now.group ≡ None → result ≡ Err (Refused UnknownGroup) }
+        ensures refused { IfErr (after_report self.old.track self.old.scene report.now)
+            (λ refusal. result ≡ Err (Refused refusal)) }
     {
         if self.is_crowded(report) {
             return Err(OrMemory::Refused(Refusal::Crowded));
@@ -160,7 +157,8 @@ impl Scene {
         ensures reported { AnswersAs (λ t. t.train) result (reported self.now.track self.now.scene.locks
             (train_numbered self.now.scene report.now.train) report.now) }
         ensures track { IfOk result (λ t. t.track ≡ self.now.track) }
-        ensures unknown { group_named self.now.track report.now.group ≡ None → result ≡ Err (Refused UnknownGroup) }
+        ensures refused { IfErr (reported self.now.track self.now.scene.locks
+            (train_numbered self.now.scene report.now.train) report.now) (λ refusal. result ≡ Err (Refused refusal)) }
     {
         let known = self.book.get(report.train());
         reported(alloc, self.book.track(), &self.locks, known, report)
@@ -337,13 +335,12 @@ impl Scene {
     ///
     /// # Errors
     ///
-    /// Those of the call for its kind. `Memory` comes only for a report, and in place of no refusal that
-    /// [`Scene::refusal`] tells.
+    /// Those of the call for its kind. `Memory` is told of a report that is not refused, and of nothing else.
     pub fn tell(&mut self, alloc: Global, told: &Told) -> Result<(), OrMemory<Refusal>>
         requires { IsOfTrack self.old.track told.now }
         ensures told { StepsOrMemory result self.old self.new (after_told self.old.track self.old.scene told.now) }
         ensures memory { result ≡ Err NoMemory → IsReportTold told.now }
-        ensures at_once { IfSome (told_at_once self.old.track self.old.scene told.now)
+        ensures refused { IfErr (after_told self.old.track self.old.scene told.now)
             (λ refusal. result ≡ Err (Refused refusal)) }
     {
         match told {
@@ -360,8 +357,8 @@ impl Scene {
     ///
     /// # Errors
     ///
-    /// Those of the call for its kind. `Memory` comes only for a report and a grant, and only where memory is needed to
-    /// see whether they are refused.
+    /// Those of the call for its kind. `Memory` comes only for a report that is not refused, and for a grant, where
+    /// memory is needed to see whether it is refused.
     pub fn apply(&mut self, alloc: Global, event: &Event) -> Result<(), OrMemory<Refusal>>
         requires { IsEventOfTrack self.old.track event.now }
         ensures steps { StepsOrMemory result self.old self.new (step self.old.track self.old.scene event.now) }

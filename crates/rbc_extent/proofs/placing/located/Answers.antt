@@ -29,8 +29,3 @@ returns-in-Some-clause-line c =
     subst (AnswersAs (λ (l : LineOnTrack). l.legs) c.continuation.result)
     (continued-located (λ line. line.now) c.args.locks.now c.args.leg (arc_value c.args.track.now) c.args.known c.in-Some.line c.in-Some.is c.requires.known)
     c.continuation.ensures.line
-
-pub returns-in-Some-clause-offline : goal.returns-in-Some-clause-offline
-unfolding continued
-returns-in-Some-clause-offline c lost =
-    c.continuation.ensures.offline (continued-located (λ line. line.now) c.args.locks.now c.args.leg (arc_value c.args.track.now) c.args.known c.in-Some.line c.in-Some.is c.requires.known ∙ lost)

@@ -1,21 +1,23 @@
-use Rattle.std.proofs.Common.{ap, sym, ◌∙◌, subst, Result, Ok}
+use Rattle.std.proofs.Common.{◌≡◌, ap, sym, ◌∙◌, subst, Option, Result, Ok, Err, IfErr}
 use Rattle.std.specs.Prelude.{option_map}
 use Rattle.std.specs.Arc.{arc_value}
 use Rattle.std.proofs.lemmas.Result.{err_from_is_err_and}
+use Rattle.rbc_model.specs.declared.memory.OrMemory.{OrMemory}
 use Rattle.rbc_model.specs.declared.memory.OrMemory.TheVariants.{Refused}
 use Rattle.rbc_model.specs.declared.refusals.Refusal.{Refusal}
-use Rattle.rbc_model.specs.declared.refusals.Refusal.TheVariants.{Offline}
 use Rattle.rbc_model.specs.Tracks.{Track}
 use Rattle.rbc_model.specs.Trains.{Train}
-use Rattle.rbc_model.specs.Placing.{reported}
+use Rattle.rbc_model.specs.Lines.{Line}
+use Rattle.rbc_model.specs.Placing.{Placed, place, train_after, reported}
 use Rattle.rbc_scene_laws.specs.Good.{IsGoodTrain}
 use Rattle.rbc_extent.specs.declared.train.Authority.{Authority}
-use Rattle.rbc_extent.specs.Findings.{finding_view}
+use Rattle.rbc_extent.specs.Findings.{authority_left, finding_view}
 use Rattle.rbc_extent.specs.PlacedTrains.{placed_train}
-use Rattle.rbc_extent.specs.PlacingSteps.{finding}
-use Rattle.rbc_extent.proofs.LeavingLemmas.{good_after, reported-found, reported-refused}
-use Rattle.rbc_extent.proofs.OutcomeLemmas.{refuses-weaker, known_good, handed_on, not_both}
-use Rattle.rbc_extent.proofs.FindingLemmas.{reported-offline}
+use Rattle.rbc_extent.specs.PlacingSteps.{Finding, finding}
+use Rattle.rbc_extent.specs.declared.finding.Finding.{Finding as FindingHere}
+use Rattle.rbc_extent.proofs.LeavingLemmas.{good_after, reported-found, reported-refused, with_left}
+use Rattle.rbc_extent.proofs.OutcomeLemmas.{refuses-weaker, known_good, fails, gives, handed_on, nothing-told, refused-mapped, refused-told}
+use Rattle.rbc_extent.proofs.FindingLemmas.{place-finding}
 use Rattle.rbc_extent.proofs.reporting.reported.Goals as goal
 
 pub returns-in_err-finding-clause-reported : goal.returns-in_err-finding-clause-reported
@@ -42,15 +44,24 @@ returns-clause-reported c =
     reported-found (arc_value c.args.track.now) c.args.locks.now (option_map (λ train. train.now.train) c.args.known) c.args.report.now (finding_view c.in_ok-finding.finding) (same ∙ c.in_ok-finding.ensures.finding)
     ∙ ap answer (ap (Q (arc_value c.args.track.now)) (sym c.authority_left-authority.ensures) ∙ ap (λ (t : Track). Q t c.authority_left-authority.result) (sym c.in_ok-finding.ensures.track) ∙ sym c.placed.ensures.train)
 
-pub returns-in_err-finding-clause-offline : goal.returns-in_err-finding-clause-offline
-returns-in_err-finding-clause-offline c lost =
+pub returns-in_err-finding-clause-refused : goal.returns-in_err-finding-clause-refused
+returns-in_err-finding-clause-refused c =
     let p = err_from_is_err_and c.from_residual.result c.from_residual.ensures.1 in
-    let same = ap (λ known. finding (arc_value c.args.track.now) c.args.locks.now known c.args.report.now) (sym c.line_of.ensures.legs) in
-    handed_on _ c.from_residual.result p.0 c.in_err-finding.field-0.0 (Refused Offline) p.1 p.2
-    (c.in_err-finding.ensures.offline (sym same ∙ reported-offline (arc_value c.args.track.now) c.args.locks.now (option_map (λ train. train.now.train) c.args.known) c.args.report.now lost))
+    let track = arc_value c.args.track.now in
+    let known : Option Train = option_map (λ train. train.now.train) c.args.known in
+    let P : Refusal → Type 0 = λ refusal. fails FindingHere c.in_err-finding.field-0.0 ≡ Err (Refused refusal) in
+    let Q : Refusal → Type 0 = λ refusal. c.from_residual.result ≡ Err (Refused refusal) in
+    let lines : Option Line = option_map (λ (train : Train). train.line) known in
+    let told = subst (λ (o : Option Line). IfErr (finding track c.args.locks.now o c.args.report.now) P) c.line_of.ensures.legs c.in_err-finding.ensures.refused in
+    refused-mapped (train_after track c.args.locks.now known c.args.report.now) (place track c.args.locks.now lines c.args.report.now) Q
+    (subst (λ (r : Result Placed Refusal). IfErr r Q) (sym (place-finding track c.args.locks.now lines c.args.report.now))
+    (refused-mapped (λ (f : Finding). f.placed) (finding track c.args.locks.now lines c.args.report.now) Q
+    (refused-told (finding track c.args.locks.now lines c.args.report.now) P Q (λ refusal told. handed_on FindingHere c.from_residual.result p.0 c.in_err-finding.field-0.0 (Refused refusal) p.1 p.2 told) told)))
 
-pub returns-clause-offline : goal.returns-clause-offline
-returns-clause-offline c lost =
-    let same = ap (λ known. finding (arc_value c.args.track.now) c.args.locks.now known c.args.report.now) (sym c.line_of.ensures.legs) in
-    absurd (not_both (finding (arc_value c.args.track.now) c.args.locks.now (option_map (λ line. line.now.legs) c.line_of.result) c.args.report.now) (finding_view c.in_ok-finding.finding) Offline c.in_ok-finding.ensures.finding
-    (sym same ∙ reported-offline (arc_value c.args.track.now) c.args.locks.now (option_map (λ train. train.now.train) c.args.known) c.args.report.now lost))
+pub returns-clause-refused : goal.returns-clause-refused
+returns-clause-refused c =
+    let track = arc_value c.args.track.now in
+    let known : Option Train = option_map (λ train. train.now.train) c.args.known in
+    let same = ap (λ lines. finding track c.args.locks.now lines c.args.report.now) (sym c.line_of.ensures.legs) in
+    let found = finding_view c.in_ok-finding.finding in
+    nothing-told (reported track c.args.locks.now known c.args.report.now) (with_left track c.args.report.now found.placed (authority_left known found)) (λ (refusal : Refusal). gives (OrMemory Refusal) c.placed.result ≡ Err (Refused refusal)) (reported-found track c.args.locks.now known c.args.report.now found (same ∙ c.in_ok-finding.ensures.finding))

@@ -1,0 +1,39 @@
+use Rattle.std.proofs.Common.{◌+◌, arith, ap, sym, ◌∙◌, Option, Some}
+use Rattle.rbc_model.specs.Lines.{Line, has_section}
+use Rattle.rbc_model.specs.Locks.{longer_back}
+use Rattle.rbc_extent.specs.Walks.{Walked, walked_legs}
+use Rattle.rbc_extent.proofs.CourseLemmas.{back-gains, prev-below}
+use Rattle.rbc_extent.proofs.WalkLemmas.{walk-back, walk-few, walk-small, walked-cons}
+use Rattle.rbc_extent.proofs.walk.Walk.lengthen_back.Goals as goal
+
+pub metres_of-requires : goal.metres_of-requires
+metres_of-requires c =
+    let s = c.self.inside in
+    prev-below s.track.now s.locks.now c.self.invariant.good s.first c.in-Some.leg c.self.invariant.sound (sym c.in-Some.ensures)
+
+pub overflow_add-self : goal.overflow_add-self
+overflow_add-self c =
+    let s = c.self.inside in
+    let longer = walk-back s.track.now s.locks.now s.known.now s.turn s.behind s.ahead s.first s.last s.metres c.self.invariant c.in-Some.leg (s.metres + c.metres_of.result) (sym c.in-Some.ensures) (ap (λ (v : Walked). has_section v.line.legs c.in-Some.leg.section) c.self.view_is ∙ sym c.has_section.ensures ∙ c.if-has_section.false)
+    (ap (λ m. s.metres + m) c.metres_of.ensures) in
+    omega (arith, walk-small s.track.now s.locks.now s.known.now s.turn (s.behind + 1) s.ahead c.in-Some.leg s.last (s.metres + c.metres_of.result) longer)
+
+pub overflow_add-self-2 : goal.overflow_add-self-2
+overflow_add-self-2 c =
+    let s = c.self.inside in
+    omega (arith, walk-few s.track.now s.locks.now s.known.now s.turn s.behind s.ahead s.first s.last s.metres c.self.invariant)
+
+pub invariant_of-self : goal.invariant_of-self
+invariant_of-self c =
+    let s = c.self.inside in
+    walk-back s.track.now s.locks.now s.known.now s.turn s.behind s.ahead s.first s.last s.metres c.self.invariant c.in-Some.leg (s.metres + c.metres_of.result) (sym c.in-Some.ensures) (ap (λ (v : Walked). has_section v.line.legs c.in-Some.leg.section) c.self.view_is ∙ sym c.has_section.ensures ∙ c.if-has_section.false)
+    (ap (λ m. s.metres + m) c.metres_of.ensures)
+
+pub returns-clause-longer : goal.returns-clause-longer
+returns-clause-longer c =
+    let s = c.self.inside in
+    let legs = walked_legs s.locks.now s.known.now s.turn s.behind s.ahead in
+    let some : Line → Option Line = λ l. Some l in
+    ap some (walked-cons s.locks.now s.known.now s.turn s.behind s.ahead s.first c.in-Some.leg c.self.invariant.begins (sym c.in-Some.ensures))
+    ∙ back-gains s.locks.now legs s.first c.in-Some.leg c.self.invariant.begins (sym c.in-Some.ensures) (ap (λ (v : Walked). has_section v.line.legs c.in-Some.leg.section) c.self.view_is ∙ sym c.has_section.ensures ∙ c.if-has_section.false)
+    ∙ ap (λ (v : Walked). longer_back v.locks v.line.legs) c.self.view_is
