@@ -1,6 +1,7 @@
 -- Lemmas on tries to grant.
-use Rattle.std.proofs.Common.{◌≡◌, ℕ, zero, suc, map, replicate, Bool, true, false, length, List, [], ◌∷◌, ◌++◌, Option, Some, Result, Ok, Err, refl, ap, sym, subst, ◌∙◌}
+use Rattle.std.proofs.Common.{◌≡◌, ℕ, zero, suc, map, replicate, Bool, true, false, length, List, [], ◌∷◌, ◌++◌, Option, Some, None, is_some, Result, Ok, Err, refl, ap, sym, subst, ◌∙◌}
 use Rattle.std.specs.Prelude.{if◌then◌else◌, IfErr, IfOk, IfSome, slice_get}
+use Rattle.std.specs.Option.{option_map_or}
 use Rattle.std.specs.Result.{result_map_both}
 use Rattle.rbc_model.specs.declared.memory.OrMemory.{OrMemory}
 use Rattle.rbc_model.specs.declared.memory.OrMemory.TheVariants.{Refused, Memory}
@@ -8,12 +9,14 @@ use Rattle.rbc_model.specs.declared.refusals.ViewFault.{ViewFault}
 use Rattle.rbc_model.specs.declared.refusals.ViewFault.TheVariants.{UnknownTrain, Blocked as BlockedAt}
 use Rattle.rbc_model.specs.declared.reports.Told.{Told}
 use Rattle.rbc_model.specs.Histories.{Entry, Granted, Receipt}
-use Rattle.rbc_model.specs.Views.{View, view}
+use Rattle.rbc_model.specs.Scenes.{train_numbered}
+use Rattle.rbc_model.specs.Views.{View, view, view_of}
 use Rattle.rbc_snap.specs.SameViews.{is_same_view-decides}
 use Rattle.rbc_grant_laws.specs.Candidates.{IsCandidateOf}
 use Rattle.rbc_snap.specs.Candidates.{Candidate, HasChosenProfiles}
 use Rattle.rbc_snap.specs.CommitFault.{CommitFault}
 use Rattle.rbc_snap.specs.CommitFault.TheVariants.{Full as FullToGrants, Stale}
+use Rattle.rbc_snap.specs.Present.{has_train}
 use Rattle.rbc_snap.specs.Records.{HistoryOnTrack, scene_now, is_full, with_entry}
 use Rattle.rbc_snap.specs.Entering.{EntersOrMemory, entry_granted, is_just, is_shown}
 use Rattle.rbc_grant_laws.proofs.CandidateLemmas.{view-train}
@@ -24,9 +27,9 @@ use Rattle.rbc_snap.specs.declared.faults.EyeFault.{EyeFault}
 use Rattle.rbc_snap.specs.declared.faults.EyeFault.TheVariants.{Behind, Unshown}
 use Rattle.rbc_snap.proofs.LaterLemmas.{later_still}
 use Rattle.rbc_desk.specs.declared.faults.AskFault.{AskFault}
-use Rattle.rbc_desk.specs.declared.faults.AskFault.TheVariants.{Blocked}
+use Rattle.rbc_desk.specs.declared.faults.AskFault.TheVariants.{UnknownTrain as UnknownToAsker, Blocked}
 use Rattle.rbc_desk.specs.declared.granted.Granted.{Granted as GrantedAtDesk}
-use Rattle.rbc_desk.specs.Asking.{fault_at, seen_by, tried, Tries, IsRefused, IsAnsweredThen}
+use Rattle.rbc_desk.specs.Asking.{fault_at, seen_by, shown, tried, Tries, IsRefused, IsAnsweredThen}
 use Rattle.rbc_desk.specs.Telling.{IsToldThen}
 
 -- what is entered, by what is asked in turn: whether the history is full, whether the candidate's view is shown
@@ -64,8 +67,9 @@ just_shown (Ok s) version v e = (is_same_view-decides v s).1 (the_view s v e)
 just_shown (Err fault) version v e = cc
 
 -- what a call that enters a candidate's grant answers, as a try
-pub tries : (answer : Result Receipt (OrMemory CommitFault)) (old new : HistoryOnTrack) (candidate : Candidate) → EntersOrMemory answer old new (entry_granted old candidate) → Tries (tried answer) old new candidate
-tries (Ok receipt) old new candidate e =
+pub tries : (answer : Result Receipt (OrMemory CommitFault)) (old new : HistoryOnTrack) (candidate : Candidate) → has_train old candidate.view.train ≡ true
+    → EntersOrMemory answer old new (entry_granted old candidate) → Tries (tried answer) old new candidate
+tries (Ok receipt) old new candidate known e =
     let grant = only_grant (is_full old) (is_shown old candidate.view) (length old.entries) (Granted candidate.grant) receipt.entry e.0 in (
       grant.0,
       e.1,
@@ -73,16 +77,51 @@ tries (Ok receipt) old new candidate e =
       shown_just (view old.track (scene_now old) candidate.view.train) (length old.entries) candidate.view grant.2,
       grant.1,
     )
-tries (Err (Refused FullToGrants)) old new candidate e =
-    (only_full (is_full old) (is_shown old candidate.view) (length old.entries) (Granted candidate.grant) e.0, e.1)
-tries (Err (Refused (Stale at))) old new candidate e =
+tries (Err (Refused FullToGrants)) old new candidate known e =
+    ((only_full (is_full old) (is_shown old candidate.view) (length old.entries) (Granted candidate.grant) e.0, known), e.1)
+tries (Err (Refused (Stale at))) old new candidate known e =
     let other = only_stale (is_full old) (is_shown old candidate.view) (length old.entries) at (Granted candidate.grant) e.0 in
     ((λ current. clash (is_shown old candidate.view) (just_shown (view old.track (scene_now old) candidate.view.train) (length old.entries) candidate.view current) other), e.1)
   where
     clash : (b : Bool) → b ≡ true → b ≡ false → ⊥
     clash true p q = cc
     clash false p q = cc
-tries (Err Memory) old new candidate e = (tt, e.1)
+tries (Err Memory) old new candidate known e = (known, e.1)
+
+-- ---- trains that are there
+
+-- a call that found no memory
+abbrev pub without_memory : (X : Type 0) → Result X (OrMemory ViewFault)
+without_memory X = Err Memory
+
+-- what is not missing is there
+pub there_unless : {X : Type 0} (o : Option X) → (o ≡ None → ⊥) → is_some o ≡ true
+there_unless None h = absurd (h refl)
+there_unless (Some x) h = refl
+
+-- a train that is not told to be missing is there
+pub known_unless : (history : HistoryOnTrack) (train : ℕ) (X : Type 0) → (train_numbered (scene_now history) train ≡ None → without_memory X ≡ Err (Refused UnknownTrain)) → has_train history train ≡ true
+known_unless history train X h = there_unless (train_numbered (scene_now history) train) (λ none. other (h none))
+  where
+    other : without_memory X ≡ Err (Refused UnknownTrain) → ⊥
+    other e = cc
+
+viewed_there : {A E V : Type 0} (see : A → Result V E) (refusal : E) (v : V) (o : Option A) → option_map_or see o (Err refusal) ≡ Ok v → is_some o ≡ true
+viewed_there see refusal v None e = cc
+viewed_there see refusal v (Some a) e = refl
+
+unseen : {A E V : Type 0} (see : A → Result V E) (refusal : E) (o : Option A) → is_some o ≡ false → option_map_or see o (Err refusal) ≡ Err refusal
+unseen see refusal None e = refl
+unseen see refusal (Some a) e = cc
+
+-- a train that is not there is told to be missing
+pub missing_shown : (history : HistoryOnTrack) (train : ℕ) → has_train history train ≡ false → shown history train ≡ Err UnknownToAsker
+missing_shown history train e =
+    ap (result_map_both (λ seen. seen) (fault_at (length history.entries))) (unseen (view_of history.track (scene_now history)) UnknownTrain (train_numbered (scene_now history) train) e)
+
+-- a train that is shown a view is there
+pub known_shown : (history : HistoryOnTrack) (train : ℕ) (v : View) → view history.track (scene_now history) train ≡ Ok v → has_train history train ≡ true
+known_shown history train v e = viewed_there (view_of history.track (scene_now history)) UnknownTrain v (train_numbered (scene_now history) train) e
 
 -- ---- what an eye shows
 
@@ -91,6 +130,12 @@ seen_train old new train (Ok seen) h = view-train new.track (scene_now new) trai
 seen_train old new train (Err (Refused (Behind version))) h = tt
 seen_train old new train (Err (Refused (Unshown fault version))) h = tt
 seen_train old new train (Err Memory) h = tt
+
+seen_known : (old new : HistoryOnTrack) (train : ℕ) (answer : Result (View × ℕ) (OrMemory EyeFault)) → IsSeenIn old new train answer → IfOk (seen_by answer) (λ seen. IfSome seen (λ _. has_train new train ≡ true))
+seen_known old new train (Ok seen) h = known_shown new train seen.0 h.0
+seen_known old new train (Err (Refused (Behind version))) h = tt
+seen_known old new train (Err (Refused (Unshown fault version))) h = tt
+seen_known old new train (Err Memory) h = tt
 
 unshown : (new : HistoryOnTrack) (train version : ℕ) (fault : ViewFault) → view new.track (scene_now new) train ≡ Err fault → version ≡ length new.entries → IsRefused new train (Refused (fault_at version fault))
 unshown new train version UnknownTrain e is = ap (result_map_both (λ seen. seen) (fault_at (length new.entries))) e
@@ -103,12 +148,16 @@ seen_denied old new train (Ok seen) later h = tt
 seen_denied old new train (Err (Refused (Behind version))) later h = tt
 seen_denied old new train (Err (Refused (Unshown fault version))) later h =
     record { before = new; later = later; answered = unshown new train version fault h.0 h.1; told = refl }
-seen_denied old new train (Err Memory) later h = record { before = new; later = later; answered = tt; told = refl }
+seen_denied old new train (Err Memory) later h = record { before = new; later = later; answered = h; told = refl }
 
 -- the same for an answer that is known to be what an eye shows
 pub look_train : (old new : HistoryOnTrack) (train : ℕ) (seen : Result (View × ℕ) (OrMemory EyeFault)) (answer : Result (Option (View × ℕ)) (OrMemory AskFault)) → answer ≡ seen_by seen → IsSeenIn old new train seen
     → IfOk answer (λ seen. IfSome seen (λ s. s.0.train ≡ train))
 look_train old new train seen answer e h = subst (λ a. IfOk a (λ seen. IfSome seen (λ s. s.0.train ≡ train))) (sym e) (seen_train old new train seen h)
+
+pub look_known : (old new : HistoryOnTrack) (train : ℕ) (seen : Result (View × ℕ) (OrMemory EyeFault)) (answer : Result (Option (View × ℕ)) (OrMemory AskFault)) → answer ≡ seen_by seen → IsSeenIn old new train seen
+    → IfOk answer (λ seen. IfSome seen (λ _. has_train new train ≡ true))
+look_known old new train seen answer e h = subst (λ a. IfOk a (λ seen. IfSome seen (λ _. has_train new train ≡ true))) (sym e) (seen_known old new train seen h)
 
 pub look_denied : (old new : HistoryOnTrack) (train : ℕ) (seen : Result (View × ℕ) (OrMemory EyeFault)) (answer : Result (Option (View × ℕ)) (OrMemory AskFault)) → answer ≡ seen_by seen → IsLater old new → IsSeenIn old new train seen
     → IfErr answer (λ fault. IsAnsweredThen old new train (Err fault))
@@ -129,6 +178,10 @@ since_before first begun new train answer later since = record {
 pub since_asked : (first begun new : HistoryOnTrack) (train asked : ℕ) (answer : Result GrantedAtDesk (OrMemory AskFault)) → IsLater first begun → train ≡ asked → IsAnsweredThen begun new train answer → IsAnsweredThen first new asked answer
 since_asked first begun new train asked answer later same since =
     subst (λ n. IsAnsweredThen first new n answer) same (since_before first begun new train answer later since)
+
+-- a train that is there may find no memory
+pub since_known : (begun now : HistoryOnTrack) (train : ℕ) → IsLater begun now → has_train now train ≡ true → IsAnsweredThen begun now train (Err Memory)
+since_known begun now train later known = record { before = now; later = later; answered = known; told = refl }
 
 got_last : {X : Type 0} (xs : List X) (x : X) → slice_get (xs ++ x ∷ []) (length xs) ≡ Some x
 got_last [] x = refl

@@ -11,6 +11,7 @@ use Rattle.rbc_grant_laws.specs.Candidates.{IsCandidateOf}
 use Rattle.rbc_snap.specs.Candidates.{Candidate, HasChosenProfiles}
 use Rattle.rbc_snap.specs.CommitFault.{CommitFault}
 use Rattle.rbc_snap.specs.CommitFault.TheVariants.{Full as FullToGrants, Stale}
+use Rattle.rbc_snap.specs.Present.{has_train}
 use Rattle.rbc_snap.specs.Records.{HistoryOnTrack, scene_now, is_full, with_entry}
 use Rattle.rbc_desk.specs.declared.faults.AskFault.{AskFault}
 use Rattle.rbc_desk.specs.declared.faults.AskFault.TheVariants.{UnknownTrain, Blocked, Full}
@@ -29,12 +30,12 @@ abbrev pub shown : HistoryOnTrack → ℕ → Result View AskFault
 shown history train =
     result_map_both (λ seen. seen) (fault_at (length history.entries)) (view history.track (scene_now history) train)
 
--- Nothing is granted: the history is full, or it shows the train no end, or memory was refused.
+-- Nothing is granted: the history shows the train no end; or it has the train and is full, or memory was refused.
 abbrev pub IsRefused : HistoryOnTrack → ℕ → OrMemory AskFault → Type 0
-IsRefused history train (Refused Full) = is_full history ≡ true
+IsRefused history train (Refused Full) = (is_full history ≡ true) × (has_train history train ≡ true)
 IsRefused history train (Refused UnknownTrain) = shown history train ≡ Err UnknownTrain
 IsRefused history train (Refused (Blocked obstacle at version)) = shown history train ≡ Err (Blocked obstacle at version)
-IsRefused history train Memory = Unit {0}
+IsRefused history train Memory = has_train history train ≡ true
 
 -- What a train that asks after this history is answered: it is granted what is best for what it is shown, with the profiles that the rules
 -- choose, as the next entry; or nothing.

@@ -10,6 +10,7 @@ pub use Rattle.rbc_snap.specs.Entering
 pub use Rattle.rbc_snap.specs.Entries
 pub use Rattle.rbc_snap.specs.Forms
 pub use Rattle.rbc_snap.specs.Later
+pub use Rattle.rbc_snap.specs.Present
 pub use Rattle.rbc_snap.specs.Records
 pub use Rattle.rbc_snap.specs.SameViews
 pub use Rattle.rbc_snap.specs.Steps

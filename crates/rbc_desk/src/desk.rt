@@ -1,10 +1,11 @@
 //! The desk.
 
-ghost use Rattle.std.specs.Prelude.{◌≡◌, ◌+◌, ◌-◌, ◌≤◌, ◌<◌, ◌++◌, ◌∷◌, [], length, take, vec_len};
+ghost use Rattle.std.specs.Prelude.{◌≡◌, ◌+◌, ◌-◌, ◌≤◌, ◌<◌, ◌++◌, ◌∷◌, [], length, take, vec_len, true};
 ghost use Rattle.std.specs.Prelude.{map, replicate, slice_get, All, Some, Ok, Err, IfOk, IfErr, IfSome, IfNone, OnErr};
 ghost use Rattle.rbc_grant_laws.specs.Candidates.{IsCandidateOf};
 ghost use Rattle.rbc_model.specs.Histories.{Granted as GrantedEntry, Heard, IsLegal, Matches};
 ghost use Rattle.rbc_snap.specs.Candidates.{HasChosenProfiles};
+ghost use Rattle.rbc_snap.specs.Present.{has_train};
 ghost use Rattle.rbc_snap.specs.Steps.{IsOfTrack};
 ghost use Rattle.rbc_snap.specs.Later.{IsLater};
 ghost use Rattle.rbc_desk.specs.Asking.{seen_by, IsAnsweredThen};
@@ -88,6 +89,7 @@ fn look<L: DeskName, R: Wait>(
     ensures later { IsLater seat.old.told seat.new.told }
     ensures receipts { seat.new.receipts ≡ seat.old.receipts }
     ensures train { IfOk result (λ seen. IfSome seen (λ shown. shown.0.train ≡ train)) }
+    ensures known { IfOk result (λ seen. IfSome seen (λ _. has_train seat.new.told train ≡ true)) }
     ensures denied { IfErr result (λ fault. IsAnsweredThen seat.old.told seat.new.told train (Err fault)) }
 {
     seen_by(seat.eye.view(rt, alloc, train))
@@ -188,8 +190,8 @@ impl<L: DeskName> Desk<L> {
     ///   history, where no safe end can be given by a message,
     /// - `Full`: the record has 100,000 entries.
     ///
-    /// `Memory`, where there is none for the view, the receipt or the entry, or where the gate finds none. After a
-    /// fault the seat has no new receipt.
+    /// `Memory`, where there is a train of this number, and no memory for the view, the receipt or the entry, or the gate
+    /// finds none. After a fault the seat has no new receipt.
     pub fn ask<R: Threads + Wait + Sync, G: Gate>(
         &self,
         rt: &R,

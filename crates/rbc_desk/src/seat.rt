@@ -46,6 +46,15 @@ impl<L: DeskName> Seat<L> {
         }
     }
 
+    /// Is told all that another seat of its desk was told.
+    pub fn hear(&mut self, other: &Seat<L>)
+        ensures receipts { self.new.receipts ≡ self.old.receipts }
+        ensures later { IsLater self.old.told self.new.told }
+        ensures heard { IsLater other.now.told self.new.told }
+    {
+        self.eye.hear(&other.eye);
+    }
+
     /// The receipts of what was entered from this seat, in order.
     pub fn receipts(&self) -> &[Receipt]
         ensures { result.now ≡ self.now.receipts }

@@ -1,6 +1,6 @@
 //! What lies under the desk's lock.
 
-ghost use Rattle.std.specs.Prelude.{◌≡◌, ◌≢◌, ◌+◌, ◌≤◌, ◌<◌, ◌++◌, ◌∷◌, [], length, take, vec_len, false};
+ghost use Rattle.std.specs.Prelude.{◌≡◌, ◌≢◌, ◌+◌, ◌≤◌, ◌<◌, ◌++◌, ◌∷◌, [], length, take, vec_len, true, false};
 ghost use Rattle.std.specs.Prelude.{All, None, Ok, Err, IfOk, IfErr, IfSome, IfNone, OnErr};
 ghost use Rattle.std.specs.List.{list_any};
 ghost use Rattle.rbc_model.specs.Answers.{AnswersAs};
@@ -8,6 +8,7 @@ ghost use Rattle.rbc_model.specs.Histories.{IsLegal, Matches};
 ghost use Rattle.rbc_grant_laws.specs.Candidates.{IsCandidateOf};
 ghost use Rattle.rbc_snap.specs.Candidates.{HasChosenProfiles};
 ghost use Rattle.rbc_snap.specs.Entering.{EntersOrMemory, entry_granted};
+ghost use Rattle.rbc_snap.specs.Present.{has_train};
 ghost use Rattle.rbc_snap.specs.Records.{is_full};
 ghost use Rattle.rbc_snap.specs.Steps.{IsOfTrack};
 ghost use Rattle.rbc_desk.specs.Closing.{all_receipts, IsUnmatchedIn};
@@ -59,6 +60,13 @@ fn is_full(log: &Record) -> bool
     log.version() >= MOST_ENTRIES as u64
 }
 
+/// Whether the train that was shown the candidate's view is there.
+fn is_there(log: &Record, candidate: &Candidate) -> bool
+    ensures { result ≡ has_train log.now candidate.now.view.train }
+{
+    log.has_train(candidate.view().train())
+}
+
 /// Each candidate is best for its view, with the profiles that the rules choose.
 fn is_best(candidate: &Candidate)
     ensures best { IsCandidateOf candidate.now.view candidate.now.grant }
@@ -92,12 +100,13 @@ fn tried(
     }
 }
 
-/// Enters what the candidate would grant, if its train is still shown its view.
+/// Enters what the candidate would grant to a train that is there, if it is still shown its view.
 fn enter(
     log: &mut Record,
     alloc: Global,
     candidate: &Candidate,
 ) -> Result<Option<Receipt>, OrMemory<AskFault>>
+    requires { has_train log.old candidate.now.view.train ≡ true }
     ensures { Tries result log.old log.new candidate.now }
 {
     tried(committed(log, alloc, candidate))
@@ -206,6 +215,7 @@ impl<L: DeskName> Shared<L> {
     fn look(&self, alloc: Global, train: u32) -> Result<(View, u64), OrMemory<AskFault>>
         ensures shown { AnswersAs (λ seen. seen.0) result (shown self.now.log train) }
         ensures train { IfOk result (λ seen. seen.0.train ≡ train) }
+        ensures known { IfOk result (λ _. has_train self.now.log train ≡ true) }
         ensures refused { IfErr result (IsRefused self.now.log train) }
     {
         let version = self.log.version();
@@ -274,6 +284,9 @@ impl<L: DeskName> Shared<L> {
             eye,
         } = seat;
         press.bring(rt, eye);
+        if !is_there(log, candidate) {
+            return Err(OrMemory::Refused(AskFault::UnknownTrain));
+        }
         if is_full(log) {
             return Err(OrMemory::Refused(AskFault::Full));
         }

@@ -4,6 +4,7 @@ pub mod Records
 pub mod Entering
 pub mod Headline
 pub mod Laws
+pub mod Present
 pub use Rattle.rbc_grant.specs.Candidates
 pub use Rattle.rbc_grant.specs.Entries as BookEntries
 pub use Rattle.rbc_grant.specs.Forms

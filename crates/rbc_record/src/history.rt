@@ -17,6 +17,7 @@ ghost use Rattle.rbc_record.specs.declared.faults.CommitFault.TheVariants.{Full 
 ghost use Rattle.rbc_record.specs.Entries.{entry_of};
 ghost use Rattle.rbc_record.specs.Entering.{EntersOrMemory, as_apply_fault, entry_told, entry_granted, is_shown, refused_at_once};
 ghost use Rattle.rbc_record.specs.Headline.{EachEndIsFarthest, EachProfileIsBest};
+ghost use Rattle.rbc_record.specs.Present.{has_train};
 ghost use Rattle.rbc_record.specs.Records.{scene_now, is_full};
 
 use crate::{ApplyFault, CommitFault, Entry, Grant, Receipt};
@@ -264,6 +265,13 @@ impl Record {
             Err(OrMemory::Refused(_)) => Ok(false),
             Err(OrMemory::Memory) => Err(Memory),
         }
+    }
+
+    /// Whether there is a train of this number.
+    pub fn has_train(&self, train: u32) -> bool
+        ensures { result ≡ has_train self.now train }
+    {
+        self.scene.book().get(train).is_some()
     }
 
     /// What the train of this number is shown where it asks how far it may run.

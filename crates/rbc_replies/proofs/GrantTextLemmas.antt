@@ -1,5 +1,5 @@
 -- The lines of a grant as the pieces that are printed one behind another.
-use Rattle.std.proofs.Common.{◌≡◌, ℕ, ◌<◌, IsTrue, List, [], ◌∷◌, ◌++◌, ℤ, refl, sym, ap, ◌∙◌, subst, append_assoc}
+use Rattle.std.proofs.Common.{◌≡◌, ℕ, ◌<◌, IsTrue, List, [], ◌∷◌, ◌++◌, ℤ, sym, ap, ◌∙◌, subst, append_assoc}
 use Rattle.std.specs.Prelude.{codes, decimal}
 use Rattle.std.specs.Fmt.{signed_decimal}
 use Rattle.rbc_model.specs.declared.refusals.Obstacle.{Obstacle}

@@ -1,7 +1,8 @@
 -- Certificates that are printed, as text.
-use Rattle.std.specs.Prelude.{◌≡◌, ℕ, ◌<◌, IsTrue, List}
+use Rattle.std.specs.Prelude.{◌≡◌, ℕ, ℤ, ◌<◌, IsTrue, List}
 use Rattle.rbc_model.specs.Kinds.{Kind}
 use Rattle.rbc_model.specs.Levels.{Levels}
+use Rattle.rbc_model.specs.Messages.{Authority}
 use Rattle.rbc_model.specs.Profiles.{StepFunction, value_at, is_within}
 use Rattle.rbc_model.specs.StepsReply.{certificate}
 use Rattle.rbc_words.specs.PriceText.{prices_of}
@@ -16,3 +17,10 @@ certificate_text kind end steps basis =
 pub record IsBasisOf {V : Type 0} (levels : Levels V) (profile track : StepFunction V) : Type 0 where
   pub ends : track.end ≡ profile.end
   pub below : (x : ℕ) → x < profile.end → IsTrue (is_within levels (value_at track.steps x) (value_at profile.steps x))
+
+-- the profiles of an authority
+abbrev pub speeds_of : Authority → StepFunction ℕ
+speeds_of authority = record { steps = authority.speeds; end = authority.end }
+
+abbrev pub grades_of : Authority → StepFunction ℤ
+grades_of authority = record { steps = authority.grades; end = authority.end }

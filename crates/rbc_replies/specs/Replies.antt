@@ -1,16 +1,14 @@
 -- The replies of a session that are printed, as text.
-use Rattle.std.specs.Prelude.{◌≡◌, ℕ, ◌<◌, List, [], ◌∷◌, ◌++◌, length, map, codes, decimal}
-use Rattle.std.specs.List.{flat_map}
+use Rattle.std.specs.Prelude.{ℕ, ◌<◌, List, [], ◌∷◌, ◌++◌, length, codes, decimal}
 use Rattle.std.specs.Fmt.{signed_decimal}
 use Rattle.rbc_model.specs.declared.refusals.Obstacle.{Obstacle}
 use Rattle.rbc_model.specs.declared.refusals.Obstacle.TheVariants.{NoLink, NotLocked as NotLockedAhead}
 use Rattle.rbc_model.specs.declared.refusals.Refusal.{Refusal}
 use Rattle.rbc_model.specs.declared.refusals.Refusal.TheVariants.{Clash, LinkTaken, NotLocked, Busy}
 use Rattle.rbc_model.specs.Tracks.{Track}
-use Rattle.rbc_model.specs.Kinds.{Kind, speed_kind, grade_kind}
+use Rattle.rbc_model.specs.Kinds.{speed_kind, grade_kind}
 use Rattle.rbc_model.specs.Words.{line_of, hex_of}
-use Rattle.rbc_model.specs.Levels.{speed_levels, grade_levels}
-use Rattle.rbc_model.specs.Messages.{Authority, message_bytes}
+use Rattle.rbc_model.specs.Messages.{message_bytes}
 use Rattle.rbc_model.specs.SessionReply.{obstacle_words, accepted_reply, blocked_reply, refused_reply, BadLine, UnknownName, BadEvent, Full, Memory}
 use Rattle.rbc_model.specs.SessionReply.{SessionRefusal as Refused}
 use Rattle.rbc_replies.specs.declared.replies.Granted.{Granted}
@@ -18,7 +16,7 @@ use Rattle.rbc_replies.specs.declared.replies.SessionRefusal.{SessionRefusal}
 use Rattle.rbc_replies.specs.declared.replies.SessionRefusal.TheVariants.{BadLine as ToldBadLine, UnknownName as ToldUnknownName, BadEvent as ToldBadEvent, Full as ToldFull, Memory as ToldMemory}
 use Rattle.rbc_replies.specs.declared.replies.SessionReply.{SessionReply}
 use Rattle.rbc_replies.specs.declared.replies.SessionReply.TheVariants.{Nothing, Accepted, Granted as GrantedReply, Blocked, Refused as RefusedReply}
-use Rattle.rbc_replies.specs.Certificates.{certificate_text, IsBasisOf}
+use Rattle.rbc_replies.specs.Certificates.{certificate_text}
 
 -- ---- refusals
 
@@ -78,18 +76,9 @@ abbrev pub RefusalIsOfTrack : Track → SessionRefusal → Type 0
 RefusalIsOfTrack track (ToldBadEvent refusal) = EventIsOfTrack track refusal
 RefusalIsOfTrack track _ = Unit {0}
 
--- ---- what is lent to a reply belongs together
-
--- The obstacle is of the track, the message is the authority's, and its profiles can be chosen for what they were chosen for.
-pub record IsWhole (track : Track) (granted : Granted) : Type 0 where
-  pub obstacle : ObstacleIsOfTrack track granted.obstacle
-  pub message : granted.message.now ≡ message_bytes granted.authority.now
-  pub speeds : IsBasisOf speed_levels (record { steps = granted.authority.now.speeds; end = granted.authority.now.end }) granted.speeds.track.now
-  pub grades : IsBasisOf grade_levels (record { steps = granted.authority.now.grades; end = granted.authority.now.end }) granted.grades.track.now
-
--- The same, of any reply: the sections that it names are the track's.
+-- the same of any reply
 abbrev pub ReplyIsWhole : Track → SessionReply → Type 0
-ReplyIsWhole track (GrantedReply granted) = IsWhole track granted
+ReplyIsWhole track (GrantedReply granted) = ObstacleIsOfTrack track granted.obstacle
 ReplyIsWhole track (Blocked train version at obstacle) = ObstacleIsOfTrack track obstacle
 ReplyIsWhole track (RefusedReply refusal) = RefusalIsOfTrack track refusal
 ReplyIsWhole track _ = Unit {0}

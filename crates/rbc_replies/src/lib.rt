@@ -2,6 +2,8 @@
 #![tactic(auto)]
 
 mod certificates;
+mod printing;
 mod replies;
 
-pub use replies::{Basis, Granted, SessionRefusal, SessionReply, print};
+pub use printing::print;
+pub use replies::{Basis, Granted, SessionRefusal, SessionReply};

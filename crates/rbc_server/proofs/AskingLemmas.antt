@@ -32,9 +32,9 @@ use Rattle.rbc_sweep.specs.CommitFault.{CommitFault}
 use Rattle.rbc_sweep.specs.CommitFault.TheVariants.{Full as FullToGrants, Stale}
 use Rattle.rbc_sweep.specs.Entering.{EntersOrMemory, entry_granted, is_shown}
 use Rattle.rbc_sweep.specs.Records.{HistoryOnTrack, scene_now, is_full, with_entry}
-use Rattle.rbc_replies.specs.Certificates.{IsBasisOf}
+use Rattle.rbc_replies.specs.Certificates.{IsBasisOf, speeds_of, grades_of}
 use Rattle.rbc_words.specs.PriceText.{prices_of}
-use Rattle.rbc_replies.specs.Replies.{ObstacleIsOfTrack, IsWhole, grant_text}
+use Rattle.rbc_replies.specs.Replies.{ObstacleIsOfTrack, grant_text}
 use Rattle.rbc_replies.specs.declared.replies.Granted.{Granted as ToldGrant}
 use Rattle.rbc_session_laws.specs.Turns.{AnswersAuthority, AnswersAsker, IsGrantFor, IsGranted, IsRefused}
 use Rattle.rbc_server.specs.Changes.{Comes}
@@ -132,6 +132,22 @@ basis_is : {V : Type 0} (levels : Levels V) (unit limit n m : ℕ) (runs steps :
 basis_is levels unit limit n m runs steps track chosen is ends =
     subst (IsBasisOf levels (record { steps = steps; end = n })) (sym is) (record { ends = ends; below = let best = chosen.best in let fits = best.fits in fits.below })
 
+-- the profiles of what is granted can be chosen for what the train was shown
+module _ (candidate : Candidate) (authority : Authority) (best : IsCandidateOf candidate.view candidate.grant) (chosen : HasChosenProfiles candidate.view candidate.grant)
+    (same : authority ≡ candidate.grant.authority) where
+  ends : metres_shown candidate.view ≡ candidate.grant.authority.end
+  ends = let whole = best.end in omega arith
+
+  pub speeds_fit : (track : StepFunction ℕ) → track ≡ record { steps = candidate.view.speeds; end = metres_shown candidate.view } → IsBasisOf speed_levels (speeds_of authority) track
+  speeds_fit track is =
+      subst (λ (a : Authority). IsBasisOf speed_levels (speeds_of a) track) (sym same)
+      (basis_is speed_levels _ _ candidate.grant.authority.end (metres_shown candidate.view) candidate.view.speeds candidate.grant.authority.speeds track chosen.speeds is ends)
+
+  pub grades_fit : (track : StepFunction ℤ) → track ≡ record { steps = candidate.view.grades; end = metres_shown candidate.view } → IsBasisOf grade_levels (grades_of authority) track
+  grades_fit track is =
+      subst (λ (a : Authority). IsBasisOf grade_levels (grades_of a) track) (sym same)
+      (basis_is grade_levels _ _ candidate.grant.authority.end (metres_shown candidate.view) candidate.view.grades candidate.grant.authority.grades track chosen.grades is ends)
+
 nine : {A B C D E F G H I : Type 0} {X : Type 0} (f : A → B → C → D → E → F → G → H → I → X) (a a' : A) (b b' : B) (c c' : C) (d d' : D) (e e' : E) (f1 f2 : F) (g g' : G) (h h' : H) (i i' : I)
     → a ≡ a' → b ≡ b' → c ≡ c' → d ≡ d' → e ≡ e' → f1 ≡ f2 → g ≡ g' → h ≡ h' → i ≡ i' → f a b c d e f1 g h i ≡ f a' b' c' d' e' f2 g' h' i'
 nine f a a' b b' c c' d d' e e' f1 f2 g g' h h' i i' p q r s t u v w x = rw (p, q, r, s, t, u, v, w, x) refl
@@ -153,19 +169,8 @@ module _ (track : Track) (candidate : Candidate) (count : ℕ) (granted : ToldGr
       is.train is.version is.from is.obstacle is.authority is.speed_steps is.speeds is.grade_steps is.grades
 
   module _ (best : IsCandidateOf candidate.view candidate.grant) (chosen : HasChosenProfiles candidate.view candidate.grant) where
-    ends : metres_shown candidate.view ≡ candidate.grant.authority.end
-    ends = let whole = best.end in omega arith
-
-    pub told_whole : ObstacleIsOfTrack track candidate.view.obstacle → IsWhole track granted
-    told_whole named =
-        record {
-          obstacle = subst (ObstacleIsOfTrack track) (sym (is.obstacle ∙ best.obstacle)) named;
-          message = is.message ∙ ap message_bytes (sym is.authority);
-          speeds = subst (λ (a : Authority). IsBasisOf speed_levels (record { steps = a.speeds; end = a.end }) granted.speeds.track.now) (sym is.authority)
-              (basis_is speed_levels _ _ candidate.grant.authority.end (metres_shown candidate.view) candidate.view.speeds candidate.grant.authority.speeds granted.speeds.track.now chosen.speeds is.speeds ends);
-          grades = subst (λ (a : Authority). IsBasisOf grade_levels (record { steps = a.grades; end = a.end }) granted.grades.track.now) (sym is.authority)
-              (basis_is grade_levels _ _ candidate.grant.authority.end (metres_shown candidate.view) candidate.view.grades candidate.grant.authority.grades granted.grades.track.now chosen.grades is.grades ends);
-        }
+    pub told_whole : ObstacleIsOfTrack track candidate.view.obstacle → ObstacleIsOfTrack track granted.obstacle
+    told_whole named = subst (ObstacleIsOfTrack track) (sym (is.obstacle ∙ best.obstacle)) named
 
     pub told_grant : (scene : Scene) → IsInForm track → view track scene candidate.view.train ≡ Ok candidate.view
         → IsGrantFor track scene candidate.view.train candidate.view candidate.grant (prices_of granted.speeds.prices.now) (prices_of granted.grades.prices.now)

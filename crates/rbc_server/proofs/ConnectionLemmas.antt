@@ -1,17 +1,29 @@
--- Seats have first what they had.
-use Rattle.std.proofs.Common.{◌≡◌, List, [], ◌∷◌, ◌++◌, length, take, map, refl, sym, ap, ◌∙◌, subst, append_assoc, arith}
-use Rattle.std.proofs.lemmas.List.{append-nil, map_push, take_all}
+-- Connections, each served from a seat.
+use Rattle.std.proofs.Common.{◌≡◌, ℕ, List, [], ◌∷◌, ◌++◌, length, take, map, Option, None, Result, Err, refl, sym, ap, ◌∙◌, subst, append_assoc, lit≤, arith}
+use Rattle.std.proofs.lemmas.List.{append-nil, map_push}
 use Rattle.std.specs.List.{AllZip}
-use Rattle.rbc_sweep.specs.Outcomes.{AreFirst}
+use Rattle.rbc_model.specs.declared.sessions.SessionFault.{SessionFault}
+use Rattle.rbc_model.specs.declared.sessions.SessionFault.TheVariants.{Memory}
 use Rattle.rbc_sweep.specs.Seats.{Seated}
-use Rattle.rbc_sweep.proofs.WorkLemmas.{begins_itself}
+use Rattle.rbc_server.specs.SeatAnswers.{AreLineAnswers}
+use Rattle.rbc_server.specs.SeatSessions.{IsSeatSession}
+use Rattle.rbc_server.specs.Serving.{IsConnection}
 
 pub take_append : {A : Type 0} (xs ys : List A) → take (length xs) (xs ++ ys) ≡ xs
 take_append [] ys = refl
 take_append (x ∷ xs) ys = ap (λ l. x ∷ l) (take_append xs ys)
 
-pub first_itself : (seat : Seated) → AreFirst seat seat
-first_itself seat = record { receipts = take_all (length seat.receipts) seat.receipts (omega arith); told = begins_itself seat.told }
+-- a session of the seat
+pub talked : (before after : Seated) (input : List ℕ) (old new : Option (List ℕ)) (ended : Result (Unit {0}) SessionFault) (session : IsSeatSession before after input old new ended)
+    → AreLineAnswers before.told session.turns → IsConnection before after
+talked before after input old new ended session answers = record { input = input; old = old; new = new; ended = ended; session = session; answers = answers }
+
+-- memory was refused before anything was read
+pub none_begun : (seat : Seated) → IsConnection seat seat
+none_begun seat =
+    let session : IsSeatSession seat seat [] None None (Err Memory) =
+    record { turns = []; rest = []; lines = refl; few = lit≤ tt; each = refl; receipts = sym (append-nil seat.receipts); ends = (tt, refl) } in
+    talked seat seat [] None None (Err Memory) session tt
 
 all_zip_map : {H S : Type 0} (f : H → S) (R : S → S → Type 0) (hs : List H) (ts : List S) → AllZip (λ h t. R (f h) t) hs ts → AllZip R (map f hs) ts
 all_zip_map f R [] [] z = z

@@ -6,6 +6,7 @@ pub mod SeatSessionLemmas
 pub mod SeatAnswerLemmas
 pub mod SessionLemmas
 pub mod TellingLemmas
+pub mod BringingLemmas
 pub mod ConnectionLemmas
 pub mod OutcomeLemmas
 pub mod ServingLemmas

@@ -1,9 +1,12 @@
 -- Outcomes of a sweep that are told one behind another.
-use Rattle.std.proofs.Common.{◌≡◌, ℕ, suc, ◌<◌, ◌≤◌, ◌+◌, List, [], ◌∷◌, ◌++◌, Result, Ok, Err, refl, sym, ap, ◌∙◌, subst, drop, drop-cons, get_or, length, add-one, arith}
-use Rattle.std.specs.Prelude.{All, OnOk}
-use Rattle.std.proofs.lemmas.List.{at_drop_all}
+use Rattle.std.proofs.Common.{◌≡◌, ℕ, ◌<◌, ◌≤◌, ◌+◌, List, [], ◌∷◌, ◌++◌, Option, Result, Ok, Err, refl, sym, ap, ◌∙◌, subst, take, get_or, length, append_assoc, arith}
+use Rattle.std.specs.Prelude.{All, OnOk, OnErr}
+use Rattle.std.specs.Io.KnownBytes.{Appends}
+use Rattle.std.proofs.KnownBytes.{Appends-trans}
+use Rattle.std.proofs.lemmas.List.{append-nil, take_all, take_more}
 use Rattle.std.proofs.lemmas.List.Elements.{All-weaker}
 use Rattle.std.proofs.lemmas.Option.{get_or_from_slice_get, slice_get_within}
+use Rattle.rbc_model.specs.Sessions.{WritesPart}
 use Rattle.rbc_model.specs.SoundTracks.{IsSound}
 use Rattle.rbc_model.specs.Tracks.{Track}
 use Rattle.rbc_model.specs.Histories.{Entry, replay}
@@ -22,19 +25,35 @@ use Rattle.rbc_server.specs.Serving.{TellsAll, TellsOutcome, IsTellable, AnswerI
 use Rattle.rbc_server.proofs.AskingLemmas.{shown_named}
 use Rattle.rbc_server.proofs.SeatLemmas.{below_most, seen, asked_blocked_named}
 
--- the first of the outcomes that are left is told, and then those behind it
-pub tells_next : (track : Track) (outcomes : List Outcome) (index : ℕ) (outcome : Outcome) → index < length outcomes → outcome ≡ get_or outcomes index outcome
-    → (text more : List ℕ) → TellsOutcome track outcome text → TellsAll track (drop (index + 1) outcomes) more → TellsAll track (drop index outcomes) (text ++ more)
-tells_next track outcomes index outcome inside same text more told rest =
-    let left : drop index outcomes ≡ outcome ∷ drop (index + 1) outcomes =
-    drop-cons outcomes index outcome inside
-    ∙ ap (λ o. o ∷ drop (suc index) outcomes) (sym same)
-    ∙ ap (λ i. outcome ∷ drop i outcomes) (sym (add-one index)) in
-    subst (λ os. TellsAll track os (text ++ more)) (sym left) (text, more, told, rest, refl)
+-- one outcome more is told behind those so far
+tells_more : (track : Track) (outcomes : List Outcome) (outcome : Outcome) (text said : List ℕ) → TellsAll track outcomes text → TellsOutcome track outcome said
+    → TellsAll track (outcomes ++ outcome ∷ []) (text ++ said)
+tells_more track [] outcome text said none told = (said, [], told, refl, ap (λ t. t ++ said) none ∙ sym (append-nil said))
+tells_more track (first ∷ outcomes) outcome text said (one, rest, told_one, told_rest, is) told =
+    (one, rest ++ said, told_one, tells_more track outcomes outcome rest said told_rest told, ap (λ t. t ++ said) is ∙ append_assoc one rest said)
 
--- where no outcome is left, nothing is told
-pub tells_end : (track : Track) (outcomes : List Outcome) (index : ℕ) → length outcomes ≤ index → TellsAll track (drop index outcomes) []
-tells_end track outcomes index past = subst (λ os. TellsAll track os []) (sym (at_drop_all (λ os. os) outcomes index past)) refl
+pub tells_next : (track : Track) (outcomes : List Outcome) (index : ℕ) (outcome : Outcome) → index < length outcomes → outcome ≡ get_or outcomes index outcome
+    → (text said : List ℕ) → TellsAll track (take index outcomes) text → TellsOutcome track outcome said → TellsAll track (take (index + 1) outcomes) (text ++ said)
+tells_next track outcomes index outcome inside same text said so_far told =
+    let more : take (index + 1) outcomes ≡ take index outcomes ++ outcome ∷ [] =
+    take_more outcomes index outcome inside ∙ ap (λ o. take index outcomes ++ o ∷ []) (sym same) in
+    subst (λ os. TellsAll track os (text ++ said)) (sym more) (tells_more track (take index outcomes) outcome text said so_far told)
+
+-- where no outcome is left, all are told
+pub tells_all : (track : Track) (outcomes : List Outcome) (index : ℕ) → length outcomes ≤ index → (text : List ℕ) → TellsAll track (take index outcomes) text → TellsAll track outcomes text
+tells_all track outcomes index past text told = subst (λ os. TellsAll track os text) (take_all index outcomes past) told
+
+-- a part is written behind what was written
+pub part_behind : (a b c : Option (List ℕ)) (text said : List ℕ) → Appends a b text → WritesPart b c said → WritesPart a c (text ++ said)
+part_behind a b c text said before (part, rest, is, after) =
+    (text ++ part, rest, ap (λ t. text ++ t) is ∙ sym (append_assoc text part rest), Appends-trans a b c text part before after)
+
+pub whole_part : (a b : Option (List ℕ)) (text : List ℕ) → Appends a b text → WritesPart a b text
+whole_part a b text written = (text, [], sym (append-nil text), written)
+
+pub on_err : {T E : Type 0} (r : Result T E) (P : Type 0) → P → OnErr r P
+on_err (Ok x) P p = tt
+on_err (Err e) P p = p
 
 pub on_ok : {T E : Type 0} (r : Result T E) (P : Type 0) → P → OnOk r P
 on_ok (Ok x) P p = p

@@ -1,17 +1,17 @@
 -- The turns of a session at a desk are answered as the function says that computes the answers.
-use Rattle.std.proofs.Common.{◌≡◌, ◌≢◌, ℕ, Bool, true, false, List, [], ◌∷◌, Option, Some, None, Result, Ok, Err, ◌⊎◌, inl, inr, refl, sym, ap, ◌∙◌, subst, append-nil}
+use Rattle.std.proofs.Common.{◌≡◌, ◌≢◌, ℕ, Bool, true, false, List, [], ◌∷◌, Option, None, Result, Ok, Err, ◌⊎◌, inl, inr, refl, sym, ap, ◌∙◌, subst, append-nil}
 use Rattle.std.specs.Prelude.{bytes_eq}
 use Rattle.std.proofs.lemmas.Slice.Eq.{bytes_eq-Decides}
 use Rattle.rbc_model.specs.Tracks.{Track}
 use Rattle.rbc_model.specs.SoundTracks.{IsInForm}
-use Rattle.rbc_model.specs.Histories.{Entry, Receipt}
+use Rattle.rbc_model.specs.Histories.{Entry}
 use Rattle.rbc_model.specs.SessionReply.{SessionRefusal, Full, Memory, refused_reply}
 use Rattle.rbc_sweep.specs.Later.{IsLater}
 use Rattle.rbc_sweep.specs.Records.{HistoryOnTrack, history_on}
 use Rattle.rbc_session_laws.specs.declared.demand.Demand.{Demand}
 use Rattle.rbc_session_laws.specs.declared.demand.Demand.TheVariants.{Nothing, Event, Authority}
 use Rattle.rbc_session_laws.specs.Demands.{demand_in}
-use Rattle.rbc_session_laws.specs.Turns.{AnswersLine, AnswersDemand, AnswersEvent, AnswersAuthority}
+use Rattle.rbc_session_laws.specs.Turns.{AnswersLine, AnswersDemand, AnswersEvent}
 use Rattle.rbc_session_laws.proofs.LineLemmas.{lines_are_answered}
 use Rattle.rbc_server.specs.Changes.{with_added}
 use Rattle.rbc_server.specs.SeatAnswers.{IsLineAnswer, IsHeldUp, AreLineAnswers}
@@ -55,8 +55,8 @@ module _ (begun : HistoryOnTrack) (turn : SeatTurn) (form : IsInForm begun.track
       → demand_in begun.track turn.line ≡ Ok (Authority train) → turn.reply ≢ refused_reply begun.track Memory
       → AnswersAsked answered.before.track answered.before.entries turn.reply (entry_in turn.receipt) train → IsHeldUp begun.track turn.reply ⊎ IsLineAnswer begun turn
   asked train answered e kept (inl answers) = inr (since (λ track entries added. AnswersAsked track entries turn.reply added train) answered (Ok (Authority train)) e answers kept)
-  asked train answered e kept (inr (inl (full, (said, none)))) = let later = answered.later in inl (inr (subst (λ t. turn.reply ≡ refused_reply t Full) later.track said))
-  asked train answered e kept (inr (inr (said, none))) = let later = answered.later in inl (inl (subst (λ t. turn.reply ≡ refused_reply t Memory) later.track said))
+  asked train answered e kept (inr (known, inl (full, (said, none)))) = let later = answered.later in inl (inr (subst (λ t. turn.reply ≡ refused_reply t Full) later.track said))
+  asked train answered e kept (inr (known, inr (said, none))) = let later = answered.later in inl (inl (subst (λ t. turn.reply ≡ refused_reply t Memory) later.track said))
 
   demanded : (demand : Result Demand SessionRefusal) → demand_in begun.track turn.line ≡ demand → AnswersDemandAtDesk begun turn.told turn.reply turn.receipt demand
       → turn.reply ≢ refused_reply begun.track Memory → IsHeldUp begun.track turn.reply ⊎ IsLineAnswer begun turn

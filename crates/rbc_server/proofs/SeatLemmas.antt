@@ -4,7 +4,7 @@ use Rattle.std.proofs.lemmas.Bool.Decides.{nat_tests}
 use Rattle.std.specs.Prelude.{nat_le, IfOk, OnErr}
 use Rattle.std.specs.Result.{result_map_both}
 use Rattle.rbc_model.specs.declared.memory.OrMemory.{OrMemory}
-use Rattle.rbc_model.specs.declared.memory.OrMemory.TheVariants.{Refused}
+use Rattle.rbc_model.specs.declared.memory.OrMemory.TheVariants.{Refused, Memory as NoMemory}
 use Rattle.rbc_model.specs.declared.refusals.Obstacle.{Obstacle}
 use Rattle.rbc_model.specs.declared.refusals.Refusal.TheVariants.{UnknownTrain as NoSuchTrain}
 use Rattle.rbc_model.specs.declared.refusals.ViewFault.{ViewFault}
@@ -29,7 +29,7 @@ use Rattle.rbc_sweep.specs.Granted.{Granted as GrantedAtDesk}
 use Rattle.rbc_sweep.specs.Asking.{fault_at, IsAnswered, IsAnsweredThen}
 use Rattle.rbc_sweep.specs.Seats.{Seated}
 use Rattle.rbc_sweep.specs.Telling.{IsToldThen}
-use Rattle.rbc_replies.specs.Replies.{refusal_view, ObstacleIsOfTrack, RefusalIsOfTrack, IsWhole, ReplyIsWhole, grant_text}
+use Rattle.rbc_replies.specs.Replies.{refusal_view, ObstacleIsOfTrack, RefusalIsOfTrack, ReplyIsWhole, grant_text}
 use Rattle.rbc_replies.specs.declared.replies.Granted.{Granted as ToldGrant}
 use Rattle.rbc_replies.specs.declared.replies.SessionReply.{SessionReply}
 use Rattle.rbc_session_laws.specs.declared.demand.Demand.{Demand}
@@ -142,10 +142,10 @@ module _ (track : Track) (entries : List Entry) (train : ℕ) where
   asked_blocked_named obstacle at version sound is = let stop = stopped_at shown_there (length entries) obstacle at version is in blocked_named there train obstacle at sound stop.0
 
   pub asked_full : IsAnswered there train (Err (Refused FullToAsker)) → AnswersAsked track entries (refused_reply track Full) None train
-  asked_full is = inr (inl (is, (refl, refl)))
+  asked_full is = inr (is.1, inl (is.0, (refl, refl)))
 
-  pub asked_given_up : AnswersAsked track entries (refused_reply track Memory) None train
-  asked_given_up = inr (inr (refl, refl))
+  pub asked_given_up : IsAnswered there train (Err NoMemory) → AnswersAsked track entries (refused_reply track Memory) None train
+  asked_given_up is = inr (is, inr (refl, refl))
 
   module _ (granted : GrantedAtDesk) (is : IsAnswered there train (Ok granted)) where
     shown_to : shown_there ≡ Ok granted.candidate.view
@@ -164,7 +164,7 @@ module _ (track : Track) (entries : List Entry) (train : ℕ) where
           (granted_answers there granted.candidate place told is.0 (at ∙ is.2) of_candidate best chosen form
           (subst (λ n. view track (replay track entries) n ≡ Ok granted.candidate.view) (sym its_train) shown_to))))
 
-      pub asked_granted_whole : IsSound track → IsWhole track told
+      pub asked_granted_whole : IsSound track → ObstacleIsOfTrack track told.obstacle
       asked_granted_whole sound = told_whole track granted.candidate (place + 1) told of_candidate best chosen (shown_named there train granted.candidate.view sound shown_to)
 
 -- the history that was answered after is on the track of what had been told

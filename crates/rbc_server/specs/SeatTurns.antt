@@ -1,7 +1,8 @@
 -- A session at a desk: what a line is answered from a seat, which receipt the seat gains, and what it is told.
-use Rattle.std.specs.Prelude.{◌≡◌, ℕ, true, List, [], length, Option, option_map, Some, None, Result, Ok, Err, ◌⊎◌}
+use Rattle.std.specs.Prelude.{◌≡◌, ℕ, true, List, [], length, Option, option_map, is_some, Some, None, Result, Ok, Err, ◌⊎◌}
 use Rattle.rbc_model.specs.Tracks.{Track}
-use Rattle.rbc_model.specs.Histories.{Entry, Receipt, is_full}
+use Rattle.rbc_model.specs.Histories.{Entry, Receipt, is_full, replay}
+use Rattle.rbc_model.specs.Scenes.{train_numbered}
 use Rattle.rbc_model.specs.SessionReply.{SessionRefusal, Full, refused_reply}
 use Rattle.rbc_sweep.specs.Later.{IsLater}
 use Rattle.rbc_sweep.specs.Records.{HistoryOnTrack}
@@ -29,13 +30,15 @@ pub record IsAnsweredSince (Answers : Track → List Entry → Option Entry → 
   pub next : IsNext before.entries receipt
   pub told : after ≡ with_added before (entry_in receipt)
 
--- A train that asks is put off, whatever it would be shown: the history was full by the time of the grant, or memory was refused.
-abbrev pub IsPutOff : Track → List Entry → List ℕ → Option Entry → Type 0
-IsPutOff track entries reply added = ((is_full entries ≡ true) × IsRefused track entries reply added Full) ⊎ IsGivenUp track entries reply added
+-- A train that is there is put off, whatever it would be shown: the history was full by the time of the grant, or memory was refused.
+abbrev pub IsPutOff : Track → List Entry → List ℕ → Option Entry → ℕ → Type 0
+IsPutOff track entries reply added train =
+    (is_some (train_numbered (replay track entries) train) ≡ true)
+    × (((is_full entries ≡ true) × IsRefused track entries reply added Full) ⊎ IsGivenUp track entries reply added)
 
 -- What a train that asks at a desk is answered after these entries: what it would be answered alone, or it is put off.
 abbrev pub AnswersAsked : Track → List Entry → List ℕ → Option Entry → ℕ → Type 0
-AnswersAsked track entries reply added train = AnswersAuthority track entries reply added train ⊎ IsPutOff track entries reply added
+AnswersAsked track entries reply added train = AnswersAuthority track entries reply added train ⊎ IsPutOff track entries reply added train
 
 -- From a seat that had been told this history, and is told that one from then on, a line is answered by this reply, and the seat gains this receipt,
 -- or none.

@@ -1,9 +1,9 @@
 //! Connections, each with a thread and a seat of its own.
 
-ghost use Rattle.std.specs.Prelude.{◌≡◌, ◌+◌, ◌≤◌, IfOk, vec_len, vec_capacity};
+ghost use Rattle.std.specs.Prelude.{◌≡◌, ◌+◌, ◌≤◌, ◌<◌, ◌^◌, IfOk, vec_len, vec_capacity};
 ghost use Rattle.std.specs.List.{AllZip};
 ghost use Rattle.std.specs.Thread.{IsSend, IsSync};
-ghost use Rattle.rbc_sweep.specs.Outcomes.{AreFirst};
+ghost use Rattle.rbc_server.specs.Serving.{IsConnection};
 
 use crate::ends::End;
 use crate::session;
@@ -42,14 +42,14 @@ impl From<PortFailed> for ConnectFault {
     }
 }
 
-/// The seat has first what it had: its receipts, and what it was told.
+/// A connection is served from the seat.
 #[derive(Drop)]
-struct Keeps<L: DeskName>(Snapshot<Seat<L>>);
+struct Serves<L: DeskName>(Snapshot<Seat<L>>);
 
-impl<L: DeskName> Promise<Seat<L>> for Keeps<L> {
-    ghost use Rattle.rbc_sweep.specs.Outcomes.{AreFirst};
+impl<L: DeskName> Promise<Seat<L>> for Serves<L> {
+    ghost use Rattle.rbc_server.specs.Serving.{IsConnection};
 
-    ghost kept_by = { λ promise seat. AreFirst promise.0.value seat };
+    ghost kept_by = { λ promise seat. IsConnection promise.0.value seat };
 }
 
 /// A session with a client, from this seat. A fault of the session ends the connection, and nothing else.
@@ -66,7 +66,7 @@ fn connection<
     client: Client<S>,
 ) -> Seat<L>
     requires { track.now ≡ L.opened.track }
-    ensures { AreFirst seat result }
+    ensures { IsConnection seat result }
 {
     let client = RefCell::new(client);
     let ended = talk(rt, alloc, &client, track, desk, &mut seat);
@@ -84,7 +84,7 @@ fn talk<L: DeskName, S: Read + Write + Drop, T: Threads + Wait + Sync>(
     seat: &mut Seat<L>,
 ) -> Result<(), SessionFault>
     requires { track.now ≡ L.opened.track }
-    ensures { AreFirst seat.old seat.new }
+    ensures { IsConnection seat.old seat.new }
 {
     let mut writer = Stream::writer(alloc, End::of(client))?;
     let mut reader = Stream::reader(End::of(client));
@@ -103,12 +103,12 @@ fn talk<L: DeskName, S: Read + Write + Drop, T: Threads + Wait + Sync>(
 /// Waits until these sessions have ended, and gives their seats back in order, in the room that is there for them.
 fn join_all<L: DeskName, T: Threads>(
     rt: &T,
-    handles: Vec<PromisedHandle<Seat<L>, Keeps<L>>>,
+    handles: Vec<PromisedHandle<Seat<L>, Serves<L>>>,
     mut back: Vec<Seat<L>>,
 ) -> Vec<Seat<L>>
     requires empty { vec_len back ≡ 0 }
     requires room { vec_len handles ≤ vec_capacity back }
-    ensures kept { AllZip (λ handle seat. AreFirst handle.promise.0.value seat) handles.items result.items }
+    ensures served { AllZip (λ handle seat. IsConnection handle.promise.0.value seat) handles.items result.items }
     ensures length { vec_len result ≡ vec_len handles }
     ensures room { vec_capacity result ≡ vec_capacity back }
 {
@@ -141,8 +141,8 @@ pub(crate) fn connect<
     more: usize,
 ) -> Result<Vec<Seat<L>>, ConnectFault>
     requires track { track.now ≡ L.opened.track }
-    requires few { vec_len seats + more ≤ 16 }
-    ensures kept { IfOk result (λ back. AllZip AreFirst seats.items back.items) }
+    requires fits { vec_len seats + more < 2 ^ 64 }
+    ensures served { IfOk result (λ back. AllZip IsConnection seats.items back.items) }
     ensures room { IfOk result (λ back. vec_len back + more ≤ vec_capacity back) }
 {
     let mut handles = Vec::with_capacity(alloc, seats.len())?;
@@ -154,7 +154,7 @@ pub(crate) fn connect<
             requires { IsSync T.row × IsSend L.row × IsSync L.row × IsSend S.row × (track.now ≡ L.opened.track)
                 × (vec_len handles ≡ 0) × (vec_len seats ≤ vec_capacity handles)
                 × (vec_len back ≡ 0) × (vec_len seats ≤ vec_capacity back) }
-            ensures { IfOk result (λ served. AllZip AreFirst seats.items served.items
+            ensures { IfOk result (λ served. AllZip IsConnection seats.items served.items
                 × (vec_len served ≤ vec_len seats) × (vec_capacity served ≡ vec_capacity back)) }
         {
             let mut port = port;
@@ -171,11 +171,11 @@ pub(crate) fn connect<
                     }
                 };
                 match scope.spawn_with(
-                    Keeps(Snapshot::of(&seat)),
+                    Serves(Snapshot::of(&seat)),
                     move || -> Seat<L>
                         requires { IsSync T.row × IsSend L.row × IsSync L.row × IsSend S.row
                             × (track.now ≡ L.opened.track) }
-                        ensures { AreFirst seat result }
+                        ensures { IsConnection seat result }
                     { connection(rt, alloc, track, desk, seat, client) },
                 ) {
                     Ok(handle) => handles.push_reserved(handle),

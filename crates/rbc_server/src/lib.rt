@@ -2,6 +2,7 @@
 #![tactic(auto)]
 
 mod asking;
+mod bringing;
 mod centre;
 mod connections;
 mod counter;

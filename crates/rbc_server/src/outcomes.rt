@@ -1,8 +1,8 @@
 //! What a centre that serves connections prints at the end: the outcomes of the sweep, and how many entries there are.
 
-ghost use Rattle.std.specs.Prelude.{◌≡◌, ◌<◌, ◌∷◌, ◌++◌, [], ℕ, List, All, false, decimal, OnOk, is_err};
+ghost use Rattle.std.specs.Prelude.{◌≡◌, ◌<◌, ◌∷◌, ◌++◌, [], ℕ, List, All, false, take, decimal, OnOk, OnErr, is_err};
 ghost use Rattle.std.specs.Io.KnownBytes.{Appends};
-ghost use Rattle.rbc_model.specs.Sessions.{Prints};
+ghost use Rattle.rbc_model.specs.Sessions.{Prints, WritesPart};
 ghost use Rattle.rbc_model.specs.declared.limits.TheConstants.{MOST_ENTRIES};
 ghost use Rattle.rbc_replies.specs.Replies.{ObstacleIsOfTrack};
 ghost use Rattle.rbc_server.specs.Serving.{TellsAll, TellsAnswer, TellsGrant, AnswerIsTellable, IsTellable, closed_line};
@@ -18,7 +18,7 @@ use rbc_words::print_number;
 ///
 /// # Errors
 ///
-/// `WriteFailed`, where the writer fails.
+/// `WriteFailed`, where the writer fails. Then a part of the text stands, from its start.
 pub(crate) fn print_outcomes<W: Sink>(
     track: &Track,
     outcomes: &[Outcome],
@@ -28,6 +28,8 @@ pub(crate) fn print_outcomes<W: Sink>(
     requires tellable { All (IsTellable track.now) outcomes.now }
     ensures text { OnOk result ((text : List ℕ) × TellsAll track.now outcomes.now text
         × Appends (W.written writer.old) (W.written writer.new) text) }
+    ensures part { OnErr result ((count : ℕ) × (text : List ℕ) × TellsAll track.now (take count outcomes.now) text
+        × WritesPart (W.written writer.old) (W.written writer.new) text) }
     ensures failed { W.failed writer.new ≡ is_err result }
 {
     for outcome in outcomes {

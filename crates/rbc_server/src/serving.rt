@@ -1,13 +1,12 @@
 //! A centre that serves connections.
 
-ghost use Rattle.std.specs.Prelude.{◌≡◌, ◌≢◌, ◌↔◌, ◌<◌, ◌≤◌, [], All, false, take, length, vec_len, IsTrue, IfOk, IfErr, OnOk, Err};
+ghost use Rattle.std.specs.Prelude.{◌≡◌, ◌↔◌, ◌<◌, ◌≤◌, [], All, false, take, length, vec_len, IsTrue, IfOk, IfErr, OnOk, Err};
 ghost use Rattle.std.specs.Io.KnownBytes.{Appends};
-ghost use Rattle.rbc_model.specs.Histories.{IsLegal, Matches};
-ghost use Rattle.rbc_sweep.specs.Closing.{all_receipts};
-ghost use Rattle.rbc_sweep.specs.Later.{IsLater};
-ghost use Rattle.rbc_server.specs.Serving.{closed_line, IsAttended, IsCloseFault, IsServed, IsServeFault};
-ghost use Rattle.rbc_server.specs.declared.serving.ServeFault.TheVariants.{Port as PortFault, Write as WriteFault};
+ghost use Rattle.rbc_model.specs.Histories.{IsLegal};
+ghost use Rattle.rbc_server.specs.Serving.{closed_line, IsAttended, IsClosed, IsCloseFault, IsServed, IsServeFault};
+ghost use Rattle.rbc_server.specs.declared.serving.ServeFault.TheVariants.{Port as PortFault, Write as WriteFault, Memory as NoMemory};
 
+use crate::bringing::bring_all;
 use crate::connections::{ConnectFault, connect};
 use crate::outcomes::{print_closed, print_outcomes};
 use rbc_model::Memory;
@@ -102,8 +101,8 @@ fn are_on_track<L: DeskName>(seats: &[Seat<L>])
     }
 }
 
-/// Serves so many connections from the first of these seats, sweeps with those that are left, and prints the outcomes.
-/// Gives all seats back, in their order.
+/// Serves so many connections from the first of these seats. Once all have ended those that are left are told what these
+/// were told, and serve a sweep, whose outcomes are printed. Gives all seats back, in their order.
 ///
 /// # Errors
 ///
@@ -128,21 +127,24 @@ fn attend<
     requires track { track.now ≡ L.opened.track }
     requires some { 1 ≤ connections }
     requires workers { connections < vec_len seats }
-    requires few { vec_len seats ≤ 16 }
     ensures attended { IfOk result (λ kept.
         IsAttended L.opened.track connections seats.items kept.items (W.written writer.old) (W.written writer.new)) }
     ensures port { result ≡ Err PortFault → writer.new ≡ writer.old }
+    ensures memory { result ≡ Err NoMemory → writer.new ≡ writer.old }
     ensures write { (result ≡ Err WriteFault) ↔ IsTrue (W.failed writer.new) }
-    ensures close { IfErr result (IsServeFault L.opened L.parts seats.items) }
+    ensures fault { IfErr result
+        (IsServeFault L.opened L.parts connections seats.items (W.written writer.old) (W.written writer.new)) }
 {
     // The track is sound, so what stands beyond an end, or in the way, is of the track.
     let _sections = track.section_count();
     let mut seats = seats;
     let workers = seats.split_off(connections)?;
-    are_on_track(workers.as_slice());
     let mut served = connect(rt, alloc, port, track, desk, seats, workers.len())?;
+    let workers = bring_all(workers, served.as_slice());
+    are_on_track(workers.as_slice());
     let (mut workers, outcomes) = sweep(rt, alloc, desk, workers, &OpenGate);
-    print_outcomes(track, outcomes?.as_slice(), writer)?;
+    let outcomes = outcomes?;
+    print_outcomes(track, outcomes.as_slice(), writer)?;
     served.append(&mut workers)?;
     Ok(served)
 }
@@ -160,18 +162,16 @@ fn close_desk<L: DeskName, W: Sink, T: Wait>(
     writer: &mut W,
 ) -> Result<Record, ServeFault>
     requires { W.failed writer.old ≡ false }
-    ensures matches { IfOk result (λ log.
-        Matches (all_receipts seats.items) log.entries (length L.opened.entries)) }
+    ensures closing { IfOk result (IsClosed L.opened seats.items) }
     ensures grown { IfOk result (λ log. take (length L.opened.entries) log.entries ≡ L.opened.entries) }
     ensures track { IfOk result (λ log. log.track ≡ L.opened.track) }
     ensures legal { IfOk result (λ log. IsLegal log.track log.entries) }
-    ensures told { IfOk result (λ log. All (λ seat. IsLater seat.told log) seats.items) }
     ensures text { IfOk result (λ log.
         Appends (W.written writer.old) (W.written writer.new) (closed_line (length log.entries))) }
     ensures handed_on { OnOk result (W.held_back writer.new ≡ []) }
-    ensures port { result ≢ Err PortFault }
     ensures write { (result ≡ Err WriteFault) ↔ IsTrue (W.failed writer.new) }
-    ensures close { IfErr result (IsCloseFault L.opened L.parts seats.items) }
+    ensures fault { IfErr result
+        (IsCloseFault L.opened L.parts seats.items (W.written writer.old) (W.written writer.new)) }
 {
     let log = desk.close(rt, seats)?;
     print_closed(log.version(), writer)?;
@@ -210,22 +210,26 @@ pub fn serve<
     requires track { track.now ≡ L.opened.track }
     requires some { 1 ≤ connections }
     requires workers { connections < vec_len seats }
-    requires few { vec_len seats ≤ 16 }
 
     // The record goes on from the one at the desk's opening, and is legal.
     ensures grown { IfOk result (λ log. take (length L.opened.entries) log.entries ≡ L.opened.entries) }
     ensures track { IfOk result (λ log. log.track ≡ L.opened.track) }
     ensures legal { IfOk result (λ log. IsLegal log.track log.entries) }
 
-    // No receipt is lost, and nothing that a seat was told. What was written tells what came of the sweep, and then how
-    // many entries the record has.
+    // Each connection was a session from its seat. The sweep is of a history that goes on from all that these sessions
+    // were told. No receipt is lost, and nothing that a seat was told. What was written tells what came of the sweep, and
+    // then how many entries the record has.
     ensures served { IfOk result (IsServed L.opened connections seats.items (W.written writer.old) (W.written writer.new)) }
     ensures handed_on { OnOk result (W.held_back writer.new ≡ []) }
 
-    // Before the sweep nothing is written. A write fault is answered just where the writer failed.
+    // Where a connection could not be had, or memory was refused, nothing is written. A write fault is answered just where
+    // the writer failed; then a part of the text is written, from its start. Where the desk can't be closed the outcomes
+    // are told.
     ensures port { result ≡ Err PortFault → writer.new ≡ writer.old }
+    ensures memory { result ≡ Err NoMemory → writer.new ≡ writer.old }
     ensures write { (result ≡ Err WriteFault) ↔ IsTrue (W.failed writer.new) }
-    ensures close { IfErr result (IsServeFault L.opened L.parts seats.items) }
+    ensures fault { IfErr result
+        (IsServeFault L.opened L.parts connections seats.items (W.written writer.old) (W.written writer.new)) }
 {
     match attend(rt, alloc, port, track, &desk, seats, connections, writer) {
         Ok(seats) => close_desk(rt, desk, seats, writer),

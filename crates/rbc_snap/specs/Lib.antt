@@ -8,6 +8,7 @@ pub use Rattle.rbc_record.specs.Candidates
 pub use Rattle.rbc_record.specs.Entering
 pub use Rattle.rbc_record.specs.Entries
 pub use Rattle.rbc_record.specs.Forms
+pub use Rattle.rbc_record.specs.Present
 pub use Rattle.rbc_record.specs.Records
 pub use Rattle.rbc_record.specs.SameViews
 pub use Rattle.rbc_record.specs.ScenesOnTracks

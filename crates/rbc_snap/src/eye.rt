@@ -79,7 +79,7 @@ fn look(shown: &Published, told: &Sight, alloc: Global, train: u32) -> Answered
         },
         Err(OrMemory::Memory) => Answered {
             answer: Err(OrMemory::Memory),
-            told: told.again(),
+            told: shown.sight.again(),
         },
     }
 }
@@ -141,7 +141,7 @@ impl<J: HistoryName> Eye<J> {
     ///   scene,
     /// - `Unshown` with why the train is shown no end, and the version.
     ///
-    /// `Memory` may come in place of `Unshown`.
+    /// `Memory`, where there is a train of this number in the published scene, and no room for its view.
     pub fn view<R: Wait>(
         &mut self,
         rt: &R,
@@ -170,6 +170,18 @@ impl<J: HistoryName> Eye<J> {
         let _legal = self.told.version();
         if !token.is_behind(&self.told) {
             self.told = token;
+        }
+    }
+
+    /// Takes in what the seat of another eye was told.
+    pub fn hear(&mut self, other: &Eye<J>)
+        ensures later { IsLater self.old self.new }
+        ensures heard { IsLater other.now self.new }
+    {
+        let _legal = self.told.version();
+        if self.told.is_behind(&other.told) {
+            let _longer = other.told.version();
+            self.told = other.told.again();
         }
     }
 

@@ -61,11 +61,12 @@ impl Sight {
         self.version
     }
 
-    /// Whether it has fewer entries than the other. If not, it goes on from the other.
+    /// Whether it has fewer entries than the other. Then the other goes on from it; if not, it goes on from the other.
     pub fn is_behind(&self, other: &Sight) -> bool
         requires { other.now.book ≡ self.now.book }
         ensures { MatchBool result
-            (length self.now.history.entries < length other.now.history.entries)
+            ((length self.now.history.entries < length other.now.history.entries)
+            × IsLater self.now.history other.now.history)
             (IsLater other.now.history self.now.history) }
     {
         let mut both = self.seen.again();

@@ -8,7 +8,7 @@ use Rattle.crossbeam_queue.specs.Fifo.{Pushes, Pops, Forks, Merges, Learns}
 use Rattle.crossbeam_queue.proofs.Lists.{at_set, at_snoc, set_else}
 use Rattle.rbc_sweep.specs.declared.jobs.Job.{Job}
 use Rattle.rbc_sweep.specs.declared.jobs.Tally.{Tally}
-use Rattle.rbc_sweep.specs.Jobs.{tally, numbered, IdleIsEmpty, IsBalanced, Knows}
+use Rattle.rbc_sweep.specs.Jobs.{all_parts, tally, numbered, IdleIsEmpty, IsBalanced, Knows}
 
 -- ---- totals over all passes
 
@@ -71,12 +71,12 @@ idle_more vs w mine idle j u at none =
 
 -- ---- the moves
 
-pub begins : IsBalanced [] (tally 1024 [] [] ∷ [])
+pub begins : IsBalanced [] (tally all_parts [] [] ∷ [])
 begins = (refl, (λ weight. refl), λ i v at none. absurd (no_part i v at none))
   where
-    no_part : (i : ℕ) (v : Tally) → get_elem? (tally 1024 [] [] ∷ []) i ≡ some v → v.parts ≡ 0 → ⊥
+    no_part : (i : ℕ) (v : Tally) → get_elem? (tally all_parts [] [] ∷ []) i ≡ some v → v.parts ≡ 0 → ⊥
     no_part zero v at none =
-        let parts : 1024 ≡ v.parts = ap (λ (w : Tally). w.parts) (some-injective (tally 1024 [] []) v at) in
+        let parts : all_parts ≡ v.parts = ap (λ (w : Tally). w.parts) (some-injective (tally all_parts [] []) v at) in
         omega arith
     no_part (suc i) v at none = some-ne-none v (sym at)
 
@@ -163,7 +163,7 @@ count [] = refl
 count (x ∷ xs) = let rest = count xs in omega (arith, sum_by-cons (λ x. 1) x xs)
 
 -- a queue that has not all that it has room for is not full
-pub not_full : (room : ℕ) (v : Tally) (waiting : List Job) → v.parts ≡ 1024 → v.taken ≡ [] → length v.put < room → length waiting ≡ room → Knows v waiting → ⊥
+pub not_full : (room : ℕ) (v : Tally) (waiting : List Job) → v.parts ≡ all_parts → v.taken ≡ [] → length v.put < room → length waiting ≡ room → Knows v waiting → ⊥
 not_full room v waiting all none some_room full knows =
     let weighed = knows all (λ job. 1) in
     let taken : sum_by (λ (job : Job). 1) v.taken ≡ 0 = ap (λ jobs. sum_by (λ (job : Job). 1) jobs) none in
@@ -186,11 +186,11 @@ numbered_more place (suc i) (train ∷ trains) d inside =
     let rest : numbered (place + 1) (take (suc i) trains) ≡ next (place + suc i) = numbered_more (place + 1) i trains d (omega arith) ∙ ap next same in
     ap (λ (jobs : List Job). here ∷ jobs) rest
 
-pub put_more : (trains : List ℕ) (i d : ℕ) (v w : Tally) → i < length trains → v ≡ tally 1024 (numbered 0 (take i trains)) []
-    → w ≡ tally 1024 (v.put ++ record { place = i; train = get_or trains i d } ∷ []) [] → w ≡ tally 1024 (numbered 0 (take (i + 1) trains)) []
+pub put_more : (trains : List ℕ) (i d : ℕ) (v w : Tally) → i < length trains → v ≡ tally all_parts (numbered 0 (take i trains)) []
+    → w ≡ tally all_parts (v.put ++ record { place = i; train = get_or trains i d } ∷ []) [] → w ≡ tally all_parts (numbered 0 (take (i + 1) trains)) []
 put_more trains i d v w inside before after =
     let job : ℕ → Job = λ p. record { place = p; train = get_or trains i d } in
-    let put : List Job → Tally = λ jobs. tally 1024 jobs [] in
+    let put : List Job → Tally = λ jobs. tally all_parts jobs [] in
     let all : numbered 0 (take i trains) ++ job i ∷ [] ≡ numbered 0 (take (i + 1) trains) =
     ap (λ p. numbered 0 (take i trains) ++ job p ∷ []) (sym (zero-add i)) ∙ sym (numbered_more 0 i trains d inside)
     ∙ ap (λ n. numbered 0 (take n trains)) (sym (add-one i)) in

@@ -1,5 +1,5 @@
 -- What the crew and the last seat have done is the list, and the seats have gained what was granted.
-use Rattle.std.proofs.Common.{Result, Ok, Err, IfOk, OnErr, [], ◌∷◌, ◌≡◌, ℕ, ◌+◌, ◌-◌, ◌≤◌, List, ◌++◌, length, map, fold, sym, ap, ◌∙◌, subst, arith}
+use Rattle.std.proofs.Common.{Result, Ok, Err, IfOk, OnErr, [], ◌∷◌, ◌≡◌, ℕ, ◌+◌, ◌-◌, ◌<◌, List, ◌++◌, length, map, fold, sym, ap, ◌∙◌, subst, arith}
 use Rattle.std.specs.List.{All, AllZip, flat_map, sum_by}
 use Rattle.std.specs.List.Sorted.{IsPermutation}
 use Rattle.std.proofs.lemmas.List.{append-nil, length-map}
@@ -12,7 +12,7 @@ use Rattle.rbc_sweep.specs.declared.jobs.Job.{Job}
 use Rattle.rbc_sweep.specs.declared.jobs.Tally.{Tally}
 use Rattle.rbc_sweep.specs.declared.order.Done.{Done}
 use Rattle.rbc_sweep.specs.declared.outcome.Outcome.{Outcome}
-use Rattle.rbc_sweep.specs.Jobs.{numbered, tally, AreSameJobs}
+use Rattle.rbc_sweep.specs.Jobs.{all_parts, numbered, tally, AreSameJobs}
 use Rattle.rbc_desk.specs.Seats.{Seated}
 use Rattle.rbc_sweep.specs.Outcomes.{AreFirst, AreTrainsOfFirst, IsToldToOne, granted, receipts_each, receipts_of, train_of}
 use Rattle.rbc_sweep.specs.Serving.{HaveGained, job_of, joined, jobs, outcome_of, receipts_in}
@@ -23,26 +23,26 @@ use Rattle.rbc_sweep.proofs.Permutations.{IsPermutation-flat_map}
 
 -- what is known when all workers have come back
 pub record Gathered (trains : List ℕ) (had back : List Seated) (all : Tally) (others : List Done) : Type 0 where
-  pub together : all ≡ tally 1024 (numbered 0 trains) (jobs others)
+  pub together : all ≡ tally all_parts (numbered 0 trains) (jobs others)
   pub gained : HaveGained had back (receipts_in others)
   pub told : All (λ (d : Done). IsToldToOne had back d.outcome) others
   pub as_many : length back ≡ length had
 
 module _ {W : Type 0} (seat : W → Seated) (known : W → Tally) (done : W → List Done) (trains : List ℕ) where
   pub gathered : (had back : List Seated) (ws vs : List W) (others : List Done) (u v all : Tally) (n : ℕ)
-      → AllZip (HasWorked seat known done) ws vs → map seat ws ≡ had → length had ≡ n → n ≤ 16
-      → u ≡ tally 1024 (numbered 0 trains) [] → v ≡ tally (u.parts - n) u.put u.taken → all ≡ fold joined v (map known vs)
+      → AllZip (HasWorked seat known done) ws vs → map seat ws ≡ had → length had ≡ n → n < all_parts
+      → u ≡ tally all_parts (numbered 0 trains) [] → v ≡ tally (u.parts - n) u.put u.taken → all ≡ fold joined v (map known vs)
       → back ≡ map seat vs → others ≡ flat_map done vs → Gathered trains had back all others
   gathered had back ws vs others u v all n worked hired many few fresh lent joins given lists =
       let long : length vs ≡ length ws = crew_long seat known done ws vs worked in
       let wide : length ws ≡ n = sym (length-map ws seat) ∙ ap length hired ∙ many in
-      let start : v ≡ tally (1024 - n) (numbered 0 trains) [] = lent ∙ ap (λ (t : Tally). tally (t.parts - n) t.put t.taken) fresh in
-      let parts : 1024 - n + length vs ≡ 1024 = omega arith in
+      let start : v ≡ tally (all_parts - n) (numbered 0 trains) [] = lent ∙ ap (λ (t : Tally). tally (t.parts - n) t.put t.taken) fresh in
+      let parts : all_parts - n + length vs ≡ all_parts = omega arith in
       record {
         together = joins ∙ ap (λ (t : Tally). fold joined t (map known vs)) start
-            ∙ crew_known seat known done (tally (1024 - n) (numbered 0 trains) []) ws vs worked
+            ∙ crew_known seat known done (tally (all_parts - n) (numbered 0 trains) []) ws vs worked
             ∙ ap (λ (k : ℕ). tally k (numbered 0 trains) (jobs (flat_map done vs))) parts
-            ∙ ap (λ (l : List Done). tally 1024 (numbered 0 trains) (jobs l)) (sym lists);
+            ∙ ap (λ (l : List Done). tally all_parts (numbered 0 trains) (jobs l)) (sym lists);
         gained = subst (λ (l : List Done). HaveGained had back (receipts_in l)) (sym lists)
             (subst (λ (b : List Seated). HaveGained had b (receipts_in (flat_map done vs))) (sym given)
             (subst (λ (a : List Seated). HaveGained a (map seat vs) (receipts_in (flat_map done vs))) hired (crew_gained seat known done ws vs worked)));
@@ -53,7 +53,7 @@ module _ {W : Type 0} (seat : W → Seated) (known : W → Tally) (done : W → 
       }
 
 -- what the last seat did, and what the others did, is the list
-pub same_jobs : (trains : List ℕ) (all : Tally) (last others : List Done) → all ≡ tally 1024 (numbered 0 trains) (jobs others) → AreSameJobs all.put (all.taken ++ jobs last)
+pub same_jobs : (trains : List ℕ) (all : Tally) (last others : List Done) → all ≡ tally all_parts (numbered 0 trains) (jobs others) → AreSameJobs all.put (all.taken ++ jobs last)
     → AreSameJobs (numbered 0 trains) (jobs (last ++ others))
 same_jobs trains all last others together settled = λ weight.
     let either : sum_by weight (jobs others) + sum_by weight (jobs last) ≡ sum_by weight (jobs last) + sum_by weight (jobs others) = omega arith in

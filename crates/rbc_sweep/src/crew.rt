@@ -4,7 +4,7 @@ ghost use Rattle.std.specs.Prelude.{◌≡◌, ℕ, ◌-◌, ◌<◌, ◌≤◌,
 ghost use Rattle.std.specs.Prelude.{length, map, slice_index_or, vec_capacity, vec_len};
 ghost use Rattle.std.specs.List.{AllZip};
 ghost use Rattle.crossbeam_queue.specs.Passes.{IsPassOf};
-ghost use Rattle.rbc_sweep.specs.Jobs.{tally, AreSameJobs};
+ghost use Rattle.rbc_sweep.specs.Jobs.{all_parts, tally, AreSameJobs};
 ghost use Rattle.rbc_sweep.specs.declared.worker.Worker.{Worker};
 ghost use Rattle.rbc_sweep.specs.Outcomes.{IsToldToOne};
 ghost use Rattle.rbc_sweep.specs.Serving.{HasServed, HaveGained, joined, jobs, receipts_in, tally_of};
@@ -137,7 +137,7 @@ pub(crate) fn finish<L: DeskName, R: Threads + Wait + Sync, G: Gate>(
     done: Vec<Done>,
 ) -> (Vec<Seat<L>>, Vec<Done>)
     requires pass { IsPassOf queue.now pass }
-    requires all { (tally_of pass).parts ≡ 1024 }
+    requires all { (tally_of pass).parts ≡ all_parts }
     requires some { 0 < vec_len seats }
     requires empty { done.items ≡ [] }
     ensures gained { HaveGained seats.items result.0.items (receipts_in result.1.items) }

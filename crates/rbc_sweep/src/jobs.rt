@@ -2,7 +2,7 @@
 
 ghost use Rattle.std.specs.Prelude.{◌≡◌, ◌+◌, ◌-◌, ◌<◌, ◌≤◌, ◌++◌, ◌∷◌, [], length, IfNone, IfOk, IfSome};
 ghost use Rattle.crossbeam_queue.specs.Passes.{view, IsPassOf, ruled_capacity};
-ghost use Rattle.rbc_sweep.specs.Jobs.{tally, numbered, IsSettled};
+ghost use Rattle.rbc_sweep.specs.Jobs.{all_parts, tally, numbered, IsSettled};
 
 use crossbeam_queue::protocol::{Join, Lesson, Outcome, Protocol, Split};
 use crossbeam_queue::{Pass, RuledArrayQueue};
@@ -20,7 +20,7 @@ pub(crate) struct Job {
 
 /// What was put and taken with a pass, and its parts of the right to know the whole. No value of it is made.
 pub(crate) struct Tally {
-    pub(crate) parts: u64,
+    pub(crate) parts: u128,
     pub(crate) put: LinkedList<Job>,
     pub(crate) taken: LinkedList<Job>,
 }
@@ -30,11 +30,11 @@ pub(crate) struct Balanced;
 
 impl Protocol<Job, Tally> for Balanced {
     ghost use Rattle.std.specs.Prelude.{[]};
-    ghost use Rattle.rbc_sweep.specs.Jobs.{tally, IsBalanced};
+    ghost use Rattle.rbc_sweep.specs.Jobs.{all_parts, tally, IsBalanced};
 
     ghost holds = { IsBalanced };
 
-    ghost first = { tally 1024 [] [] };
+    ghost first = { tally all_parts [] [] };
 }
 
 /// A pass is made of one part of another, and gives it back.
@@ -99,7 +99,7 @@ pub(crate) fn queue_for(alloc: Global, count: usize) -> Result<(Queue, JobPass),
     requires { 0 < count }
     ensures room { IfOk result (λ made. ruled_capacity made.0 ≡ count) }
     ensures pass { IfOk result (λ made. IsPassOf made.0 made.1) }
-    ensures none { IfOk result (λ made. view made.1 ≡ tally 1024 [] []) }
+    ensures none { IfOk result (λ made. view made.1 ≡ tally all_parts [] []) }
 {
     Ok(Queue::ruled(alloc, count)?)
 }
@@ -135,7 +135,7 @@ pub(crate) fn take<R: Wait>(rt: &R, queue: &Queue, pass: &mut JobPass) -> Option
     ensures taken { IfSome result (λ job. view pass.new
         ≡ tally (view pass.old).parts (view pass.old).put ((view pass.old).taken ++ job ∷ [])) }
     ensures none { IfNone result (view pass.new ≡ view pass.old) }
-    ensures settled { (view pass.old).parts ≡ 1024 → IfNone result (IsSettled (view pass.old)) }
+    ensures settled { (view pass.old).parts ≡ all_parts → IfNone result (IsSettled (view pass.old)) }
 {
     queue.pop_as::<Takes, R>(rt, pass)
 }
@@ -143,11 +143,11 @@ pub(crate) fn take<R: Wait>(rt: &R, queue: &Queue, pass: &mut JobPass) -> Option
 /// Puts a job, where there is room for it.
 fn put<R: Wait>(rt: &R, queue: &Queue, pass: &mut JobPass, job: Job)
     requires pass { IsPassOf queue.now pass.old }
-    requires all { (view pass.old).parts ≡ 1024 }
+    requires all { (view pass.old).parts ≡ all_parts }
     requires none { (view pass.old).taken ≡ [] }
     requires room { length (view pass.old).put < ruled_capacity queue.now }
     ensures pass { IsPassOf queue.now pass.new }
-    ensures put { view pass.new ≡ tally 1024 ((view pass.old).put ++ job ∷ []) [] }
+    ensures put { view pass.new ≡ tally all_parts ((view pass.old).put ++ job ∷ []) [] }
 {
     match queue.push_as::<Puts, R>(rt, pass, job) {
         Ok(()) => {}
@@ -158,10 +158,10 @@ fn put<R: Wait>(rt: &R, queue: &Queue, pass: &mut JobPass, job: Job)
 /// Puts all trains, in their order.
 pub(crate) fn put_all<R: Wait>(rt: &R, queue: &Queue, pass: &mut JobPass, trains: &[u32])
     requires pass { IsPassOf queue.now pass.old }
-    requires none { view pass.old ≡ tally 1024 [] [] }
+    requires none { view pass.old ≡ tally all_parts [] [] }
     requires room { length trains.now ≤ ruled_capacity queue.now }
     ensures pass { IsPassOf queue.now pass.new }
-    ensures all { view pass.new ≡ tally 1024 (numbered 0 trains.now) [] }
+    ensures all { view pass.new ≡ tally all_parts (numbered 0 trains.now) [] }
 {
     for (place, train) in trains.iter().enumerate() {
         let job = Job {

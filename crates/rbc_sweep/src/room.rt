@@ -2,7 +2,7 @@
 
 ghost use Rattle.std.specs.Prelude.{◌≡◌, ◌<◌, ◌≤◌, [], All, IfOk, vec_capacity, vec_len};
 ghost use Rattle.crossbeam_queue.specs.Passes.{IsPassOf, ruled_capacity};
-ghost use Rattle.rbc_sweep.specs.Jobs.{tally};
+ghost use Rattle.rbc_sweep.specs.Jobs.{all_parts, tally};
 ghost use Rattle.rbc_sweep.specs.Serving.{tally_of};
 
 use crate::Outcome;
@@ -37,7 +37,7 @@ pub(crate) struct Room<L: DeskName> {
     pub(crate) outcomes: Vec<Outcome>,
     pub(crate) ghost capacity: { ruled_capacity queue ≡ train_count },
     pub(crate) ghost tied: { IsPassOf queue pass },
-    pub(crate) ghost none_put: { tally_of pass ≡ tally 1024 [] [] },
+    pub(crate) ghost none_put: { tally_of pass ≡ tally all_parts [] [] },
     pub(crate) ghost no_worker: { workers.items ≡ [] },
     pub(crate) ghost room_for_workers: { seat_count ≤ vec_capacity workers },
     pub(crate) ghost no_seat: { seats.items ≡ [] },

@@ -28,7 +28,6 @@ fn serve_list<L: DeskName + Send + Sync, R: Threads + Wait + Sync, G: Gate + Syn
     room: Room<L>,
 ) -> (Vec<Seat<L>>, Vec<Outcome>)
     requires some { 0 < vec_len seats }
-    requires few { vec_len seats ≤ 16 }
     requires seats { room.seat_count ≡ vec_len seats }
     requires trains { room.train_count ≡ length trains.now }
     ensures gained { HaveGained seats.items result.0.items (granted result.1.items) }
@@ -65,7 +64,6 @@ fn sweep_list<L: DeskName + Send + Sync, R: Threads + Wait + Sync, G: Gate + Syn
     trains: &[u32],
 ) -> (Vec<Seat<L>>, Result<Vec<Outcome>, Memory>)
     requires some { 0 < vec_len seats }
-    requires few { vec_len seats ≤ 16 }
     ensures gained { IfOk result.1 (λ outcomes. HaveGained seats.items result.0.items (granted outcomes.items)) }
     ensures trains { IfOk result.1 (λ outcomes. map train_of outcomes.items ≡ trains.now) }
     ensures told { IfOk result.1 (λ outcomes. All (IsToldToOne seats.items result.0.items) outcomes.items) }
@@ -101,8 +99,8 @@ fn list_trains<L: DeskName, R: Wait>(
     (seats, trains)
 }
 
-/// Serves each train of the desk's scene once, by one worker for each of the 1 to 16 seats, and gives the seats back in
-/// their order. The trains are those of a history that goes on from what the first seat had been told, and each outcome is
+/// Serves each train of the desk's scene once, by one worker for each of the seats, and gives the seats back in their
+/// order. The trains are those of a history that goes on from what the first seat had been told, and each outcome is
 /// that of a history that goes on from what one of the seats had been told. The outcomes stand in the trains' order of
 /// arrival.
 ///
@@ -117,7 +115,7 @@ pub fn sweep<L: DeskName + Send + Sync, R: Threads + Wait + Sync, G: Gate + Sync
     seats: Vec<Seat<L>>,
     gate: &G,
 ) -> (Vec<Seat<L>>, Result<Vec<Outcome>, Memory>)
-    requires { (1 ≤ vec_len seats) × (vec_len seats ≤ 16) }
+    requires { 1 ≤ vec_len seats }
     ensures seats { AllZip AreFirst seats.items result.0.items }
     ensures trains { IfOk result.1 (λ outcomes.
         AreTrainsOfFirst seats.items result.0.items (map train_of outcomes.items)) }

@@ -2,7 +2,7 @@
 
 ghost use Rattle.std.specs.Prelude.{◌≡◌, ◌<◌, ◌≤◌, ◌++◌, [], vec_capacity};
 ghost use Rattle.crossbeam_queue.specs.Passes.{IsPassOf};
-ghost use Rattle.rbc_sweep.specs.Jobs.{IsSettled};
+ghost use Rattle.rbc_sweep.specs.Jobs.{all_parts, IsSettled};
 ghost use Rattle.rbc_desk.specs.Later.{IsLater};
 ghost use Rattle.rbc_sweep.specs.Outcomes.{IsTold, receipts_of};
 ghost use Rattle.rbc_sweep.specs.Serving.{HasServed, tally_of};
@@ -56,7 +56,7 @@ pub(crate) fn serve<L: DeskName, R: Threads + Wait + Sync, G: Gate>(
     ensures pass { IsPassOf queue.now worker.new.pass }
     ensures served { HasServed (tally_of worker.old.pass) worker.old.seat (tally_of worker.new.pass)
         worker.new.seat worker.new.done.items }
-    ensures settled { (tally_of worker.old.pass).parts ≡ 1024 → IsSettled (tally_of worker.new.pass) }
+    ensures settled { (tally_of worker.old.pass).parts ≡ all_parts → IsSettled (tally_of worker.new.pass) }
     ensures room { vec_capacity worker.old.done ≤ vec_capacity worker.new.done }
 {
     let Worker { seat, pass, done } = worker;

@@ -31,7 +31,7 @@ where
     R: Threads + Wait + Abort + AllocGlobal + Sync,
     G: Gate + Sync,
 {
-    assert!(rt; 1 <= seats.len() && seats.len() <= 16);
+    assert!(rt; !seats.is_empty());
     let (seats, outcomes) = sweep(rt, rt.alloc(), desk, seats, gate);
     (seats, outcomes.expect(rt, "outcomes"))
 }

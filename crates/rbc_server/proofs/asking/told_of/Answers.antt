@@ -1,8 +1,9 @@
-use Rattle.std.proofs.Common.{ap, ◌∙◌, refl, rules, SFits, w64}
+use Rattle.std.proofs.Common.{ap, ◌∙◌, refl, rules, sym, SFits, w64}
 use Rattle.std.proofs.lemmas.Int.{to_z-of_z}
+use Rattle.rbc_model.specs.Messages.{message_bytes}
 use Rattle.rbc_model.specs.Views.{View}
 use Rattle.rbc_sweep.specs.Forms.{metres_shown}
-use Rattle.rbc_server.proofs.AskingLemmas.{reads_back}
+use Rattle.rbc_server.proofs.AskingLemmas.{grades_fit, reads_back, speeds_fit}
 use Rattle.rbc_server.proofs.asking.told_of.Goals as goal
 
 pub returns-clause-told : goal.returns-clause-told
@@ -24,4 +25,17 @@ returns-clause-told c =
       grade_steps = c.grade_steps.ensures.steps ∙ ap (λ (v : View). v.grade_steps) seen;
       grades = c.grades.ensures.grades ∙ ap (λ (v : View). record { steps = v.grades; end = metres_shown v }) seen;
       grade_prices = rw c.as_slice-2.ensures.value c.prices-prices.ensures.grades;
+    }
+
+pub invariant_of-result : goal.invariant_of-result
+invariant_of-result c =
+    let candidate = c.args.candidate.now in
+    let view = c.view-view.ensures in
+    let authority = c.authority-authority.ensures.authority in
+    record {
+      told = c.message-message.ensures ∙ ap message_bytes (sym authority);
+      speeds_fit = speeds_fit candidate c.authority-authority.result.now view.best view.chosen authority c.speeds.result.now
+          (c.speeds.ensures.speeds ∙ ap (λ (v : View). record { steps = v.speeds; end = metres_shown v }) view.view);
+      grades_fit = grades_fit candidate c.authority-authority.result.now view.best view.chosen authority c.grades.result.now
+          (c.grades.ensures.grades ∙ ap (λ (v : View). record { steps = v.grades; end = metres_shown v }) view.view);
     }

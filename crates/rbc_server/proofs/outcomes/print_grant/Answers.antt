@@ -5,8 +5,8 @@ use Rattle.rbc_replies.specs.Replies.{grant_text}
 use Rattle.rbc_server.proofs.AskingLemmas.{told_text, told_whole}
 use Rattle.rbc_server.proofs.outcomes.print_grant.Goals as goal
 
-pub print-requires-clause-whole : goal.print-requires-clause-whole
-print-requires-clause-whole g c =
+pub print-requires-clause-of_track : goal.print-requires-clause-of_track
+print-requires-clause-of_track g c =
     let told = c.told_of-told in
     told_whole c.args.track.now c.args.grant.now.candidate (c.place.result + 1) told.result told.ensures.told told.ensures.best told.ensures.chosen c.requires.named
 

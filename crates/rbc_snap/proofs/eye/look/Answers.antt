@@ -11,7 +11,3 @@ returns-in_default-clause-later c =
 pub returns-then-is_behind-clause-later : goal.returns-then-is_behind-clause-later
 returns-then-is_behind-clause-later c =
     subst (λ (s : SeenOf). IsLater c.args.told.now.history s.history) (sym c.again-then-is_behind.ensures) (later_itself c.args.told.now.history c.version-legal.ensures.legal)
-
-pub returns-in-Err-Memory-clause-later : goal.returns-in-Err-Memory-clause-later
-returns-in-Err-Memory-clause-later c =
-    subst (λ (s : SeenOf). IsLater c.args.told.now.history s.history) (sym c.again-in-Err-Memory.ensures) (later_itself c.args.told.now.history c.version-legal.ensures.legal)

@@ -23,7 +23,7 @@ finish-seats-requires-clause-all g c κs within =
     let crew : Gathered c.args.trains.now c.args.seats.items c.gather-seats.result.0.items (tally_of c.gather-seats.new.pass) others =
     gathered seat known done c.args.trains.now c.args.seats.items c.gather-seats.result.0.items c.hire-workers.result.items vs others
     (tally_of c.put_all.new.pass) (tally_of c.hire-workers.new.pass) (tally_of c.gather-seats.new.pass) c.args.seats.len
-    c.serve_all-workers.ensures.served c.hire-workers.ensures.seats (sym c.args.seats.ok.0) c.requires.few c.put_all.ensures.all c.hire-workers.ensures.left
+    c.serve_all-workers.ensures.served c.hire-workers.ensures.seats (sym c.args.seats.ok.0) (omega (arith, c.args.seats.ok.1)) c.put_all.ensures.all c.hire-workers.ensures.left
     c.gather-seats.ensures.joined c.gather-seats.ensures.seats lists in
     ap (λ (t : Tally). t.parts) crew.together
 
@@ -40,7 +40,7 @@ finish-seats-requires-clause-some g c κs within =
     let crew : Gathered c.args.trains.now c.args.seats.items c.gather-seats.result.0.items (tally_of c.gather-seats.new.pass) others =
     gathered seat known done c.args.trains.now c.args.seats.items c.gather-seats.result.0.items c.hire-workers.result.items vs others
     (tally_of c.put_all.new.pass) (tally_of c.hire-workers.new.pass) (tally_of c.gather-seats.new.pass) c.args.seats.len
-    c.serve_all-workers.ensures.served c.hire-workers.ensures.seats (sym c.args.seats.ok.0) c.requires.few c.put_all.ensures.all c.hire-workers.ensures.left
+    c.serve_all-workers.ensures.served c.hire-workers.ensures.seats (sym c.args.seats.ok.0) (omega (arith, c.args.seats.ok.1)) c.put_all.ensures.all c.hire-workers.ensures.left
     c.gather-seats.ensures.joined c.gather-seats.ensures.seats lists in
     omega (arith, crew.as_many, c.args.seats.ok.0, c.gather-seats.result.0.ok.0, c.requires.some)
 
@@ -57,7 +57,7 @@ put_together-done-requires g c =
     let crew : Gathered c.args.trains.now c.args.seats.items c.gather-seats.result.0.items (tally_of c.gather-seats.new.pass) others =
     gathered seat known done c.args.trains.now c.args.seats.items c.gather-seats.result.0.items c.hire-workers.result.items vs others
     (tally_of c.put_all.new.pass) (tally_of c.hire-workers.new.pass) (tally_of c.gather-seats.new.pass) c.args.seats.len
-    c.serve_all-workers.ensures.served c.hire-workers.ensures.seats (sym c.args.seats.ok.0) c.requires.few c.put_all.ensures.all c.hire-workers.ensures.left
+    c.serve_all-workers.ensures.served c.hire-workers.ensures.seats (sym c.args.seats.ok.0) (omega (arith, c.args.seats.ok.1)) c.put_all.ensures.all c.hire-workers.ensures.left
     c.gather-seats.ensures.joined c.gather-seats.ensures.seats lists in
     let last = c.finish-seats.result.1.items in
     let same : AreSameJobs (numbered 0 c.args.trains.now) (jobs (last ++ others)) =
@@ -78,7 +78,7 @@ in_order-requires-clause-room g c =
     let crew : Gathered c.args.trains.now c.args.seats.items c.gather-seats.result.0.items (tally_of c.gather-seats.new.pass) others =
     gathered seat known done c.args.trains.now c.args.seats.items c.gather-seats.result.0.items c.hire-workers.result.items vs others
     (tally_of c.put_all.new.pass) (tally_of c.hire-workers.new.pass) (tally_of c.gather-seats.new.pass) c.args.seats.len
-    c.serve_all-workers.ensures.served c.hire-workers.ensures.seats (sym c.args.seats.ok.0) c.requires.few c.put_all.ensures.all c.hire-workers.ensures.left
+    c.serve_all-workers.ensures.served c.hire-workers.ensures.seats (sym c.args.seats.ok.0) (omega (arith, c.args.seats.ok.1)) c.put_all.ensures.all c.hire-workers.ensures.left
     c.gather-seats.ensures.joined c.gather-seats.ensures.seats lists in
     let last = c.finish-seats.result.1.items in
     let same : AreSameJobs (numbered 0 c.args.trains.now) (jobs (last ++ others)) =
@@ -99,7 +99,7 @@ returns-clause-gained g c =
     let crew : Gathered c.args.trains.now c.args.seats.items c.gather-seats.result.0.items (tally_of c.gather-seats.new.pass) others =
     gathered seat known done c.args.trains.now c.args.seats.items c.gather-seats.result.0.items c.hire-workers.result.items vs others
     (tally_of c.put_all.new.pass) (tally_of c.hire-workers.new.pass) (tally_of c.gather-seats.new.pass) c.args.seats.len
-    c.serve_all-workers.ensures.served c.hire-workers.ensures.seats (sym c.args.seats.ok.0) c.requires.few c.put_all.ensures.all c.hire-workers.ensures.left
+    c.serve_all-workers.ensures.served c.hire-workers.ensures.seats (sym c.args.seats.ok.0) (omega (arith, c.args.seats.ok.1)) c.put_all.ensures.all c.hire-workers.ensures.left
     c.gather-seats.ensures.joined c.gather-seats.ensures.seats lists in
     seats_gained c.args.seats.items c.gather-seats.result.0.items c.finish-seats.result.0.items c.finish-seats.result.1.items others
     c.put_together-done.result.items c.in_order.result.items crew.gained c.finish-seats.ensures.gained c.put_together-done.ensures c.in_order.ensures.permutation
@@ -117,7 +117,7 @@ returns-clause-trains g c =
     let crew : Gathered c.args.trains.now c.args.seats.items c.gather-seats.result.0.items (tally_of c.gather-seats.new.pass) others =
     gathered seat known done c.args.trains.now c.args.seats.items c.gather-seats.result.0.items c.hire-workers.result.items vs others
     (tally_of c.put_all.new.pass) (tally_of c.hire-workers.new.pass) (tally_of c.gather-seats.new.pass) c.args.seats.len
-    c.serve_all-workers.ensures.served c.hire-workers.ensures.seats (sym c.args.seats.ok.0) c.requires.few c.put_all.ensures.all c.hire-workers.ensures.left
+    c.serve_all-workers.ensures.served c.hire-workers.ensures.seats (sym c.args.seats.ok.0) (omega (arith, c.args.seats.ok.1)) c.put_all.ensures.all c.hire-workers.ensures.left
     c.gather-seats.ensures.joined c.gather-seats.ensures.seats lists in
     let last = c.finish-seats.result.1.items in
     let same : AreSameJobs (numbered 0 c.args.trains.now) (jobs (last ++ others)) =
@@ -138,7 +138,7 @@ returns-clause-told g c =
     let crew : Gathered c.args.trains.now c.args.seats.items c.gather-seats.result.0.items (tally_of c.gather-seats.new.pass) others =
     gathered seat known done c.args.trains.now c.args.seats.items c.gather-seats.result.0.items c.hire-workers.result.items vs others
     (tally_of c.put_all.new.pass) (tally_of c.hire-workers.new.pass) (tally_of c.gather-seats.new.pass) c.args.seats.len
-    c.serve_all-workers.ensures.served c.hire-workers.ensures.seats (sym c.args.seats.ok.0) c.requires.few c.put_all.ensures.all c.hire-workers.ensures.left
+    c.serve_all-workers.ensures.served c.hire-workers.ensures.seats (sym c.args.seats.ok.0) (omega (arith, c.args.seats.ok.1)) c.put_all.ensures.all c.hire-workers.ensures.left
     c.gather-seats.ensures.joined c.gather-seats.ensures.seats lists in
     outcomes_told c.args.seats.items c.gather-seats.result.0.items c.finish-seats.result.0.items _ _ c.finish-seats.result.1.items others c.put_together-done.result.items c.in_order.result.items
     crew.gained c.finish-seats.ensures.gained c.finish-seats.ensures.told crew.told c.put_together-done.ensures c.in_order.ensures.permutation

@@ -1,8 +1,9 @@
-use Rattle.std.proofs.Common.{rules, ◌∙◌, subst}
+use Rattle.std.proofs.Common.{rules, ◌∙◌, refl, sym, subst}
+use Rattle.std.proofs.lemmas.Result.{err_from_is_err_and}
 use Rattle.rbc_snap.specs.Later.{IsLater}
 use Rattle.rbc_snap.proofs.LaterLemmas.{later_still}
 use Rattle.rbc_desk.specs.Seats.{Seated}
-use Rattle.rbc_desk.proofs.AskingLemmas.{later_twice}
+use Rattle.rbc_desk.proofs.AskingLemmas.{later_twice, missing_shown}
 use Rattle.rbc_desk.proofs.shared.Shared.commit_now.Goals as goal
 
 pub invariant_of-seat-2 : goal.invariant_of-seat-2
@@ -14,3 +15,24 @@ pub returns-clause-later : goal.returns-clause-later
 returns-clause-later g c =
     let told = later_twice c.seat.inside.eye _ c.bring.new.eye _ c.publish.new.eye c.bring.ensures.later c.bring.ensures.told c.publish.ensures.later c.publish.ensures.told in
     subst (λ (s : Seated). IsLater s.told c.publish.new.eye) c.seat.view_is told
+
+pub returns-then-not-is_there-clause-tries : goal.returns-then-not-is_there-clause-tries
+returns-then-not-is_there-clause-tries g c =
+    let log = c.args.self.now.log in
+    (missing_shown log c.args.candidate.now.view.train (sym c.if-not-is_there.ensures), refl)
+
+pub returns-then-is_full-clause-tries : goal.returns-then-is_full-clause-tries
+returns-then-is_full-clause-tries g c = ((sym c.if-is_full.ensures, sym c.if-not-is_there.ensures), refl)
+
+pub returns-in_err-reserve-clause-tries : goal.returns-in_err-reserve-clause-tries
+returns-in_err-reserve-clause-tries g c =
+    let p = err_from_is_err_and c.from_residual.result c.from_residual.ensures.1 in
+    rw (p.1, p.2) (sym c.if-not-is_there.ensures, refl)
+
+pub returns-in_err-reserve-2-clause-tries : goal.returns-in_err-reserve-2-clause-tries
+returns-in_err-reserve-2-clause-tries g c =
+    let p = err_from_is_err_and c.from_residual-in_err-reserve-2.result c.from_residual-in_err-reserve-2.ensures.1 in
+    rw (p.1, p.2) (sym c.if-not-is_there.ensures, refl)
+
+pub enter-requires : goal.enter-requires
+enter-requires g c = sym c.if-not-is_there.ensures

@@ -6,8 +6,8 @@ use Rattle.rbc_server.proofs.counter.Counter.ask.Goals as goal
 pub reply_to-requires : goal.reply_to-requires
 reply_to-requires g c = asked_below c.args.seat.now.told c.ask_by-answer.new.seat.told c.args.train c.ask_by-answer.result c.ask_by-answer.ensures.since
 
-pub print-requires-clause-whole : goal.print-requires-clause-whole
-print-requires-clause-whole g c =
+pub print-requires-clause-of_track : goal.print-requires-clause-of_track
+print-requires-clause-of_track g c =
     let track = c.args.self.now.track.now in
     let begun = c.args.seat.now.told in
     let later = c.version-version.ensures.later in

@@ -3,7 +3,7 @@ use Rattle.std.specs.Prelude.{vec_capacity}
 use Rattle.std.specs.Vec.Iter.{into_iter_items}
 use Rattle.rbc_server.proofs.connections.fn.connect.scope.Given as goal
 
--- As long as no fault came, each of the seats so far went to a thread that keeps its receipts. There is room for a handle for each seat.
+-- As long as no fault came, each of the seats so far went to a thread that serves a connection from it. There is room for a handle for each seat.
 abbrev pub invariant-loop-seat : goal.invariant-loop-seat
 invariant-loop-seat g l =
     (l.fault ≡ None → map (λ h. h.promise.0.value) l.handles.items ++ into_iter_items l.seat-iterator ≡ into_iter_items l.initial.seat-iterator)

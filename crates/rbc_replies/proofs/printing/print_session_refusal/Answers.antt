@@ -1,4 +1,4 @@
-use Rattle.rbc_replies.proofs.replies.print_session_refusal.Goals as goal
+use Rattle.rbc_replies.proofs.printing.print_session_refusal.Goals as goal
 
 pub returns-in-UnknownName : goal.returns-in-UnknownName
 returns-in-UnknownName g c = rw c.in-UnknownName.is c.print_line.ensures

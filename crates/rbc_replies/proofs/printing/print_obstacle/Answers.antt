@@ -1,7 +1,7 @@
 use Rattle.std.proofs.Common.{[], ◌∷◌, ap, codes}
 use Rattle.rbc_words.specs.PriceText.{spaced}
 use Rattle.rbc_replies.proofs.LineWordLemmas.{prints_as}
-use Rattle.rbc_replies.proofs.replies.print_obstacle.Goals as goal
+use Rattle.rbc_replies.proofs.printing.print_obstacle.Goals as goal
 
 pub returns-in-NotLocked : goal.returns-in-NotLocked
 returns-in-NotLocked g c =

@@ -2,7 +2,7 @@ use Rattle.std.proofs.Common.{[], ◌∷◌, ap, codes}
 use Rattle.std.specs.Prelude.{decimal}
 use Rattle.rbc_model.specs.Words.{line_of}
 use Rattle.rbc_replies.proofs.LineWordLemmas.{prints_as}
-use Rattle.rbc_replies.proofs.replies.print_event_refusal.Goals as goal
+use Rattle.rbc_replies.proofs.printing.print_event_refusal.Goals as goal
 
 pub returns-in-Crowded : goal.returns-in-Crowded
 returns-in-Crowded g c = rw c.in-Crowded.is c.print_line.ensures

@@ -3,7 +3,7 @@ use Rattle.rbc_model.specs.SessionReply.{obstacle_words}
 use Rattle.rbc_words.specs.LineWords.{word_text}
 use Rattle.rbc_words.proofs.SpacedLemmas.{line_of-parts}
 use Rattle.rbc_words.proofs.PrintingLemmas.{prints_then, prints_stopped}
-use Rattle.rbc_replies.proofs.replies.print_stopped.Goals as goal
+use Rattle.rbc_replies.proofs.printing.print_stopped.Goals as goal
 
 pub returns-in_err-put : goal.returns-in_err-put
 returns-in_err-put g c =

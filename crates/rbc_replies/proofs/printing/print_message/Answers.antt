@@ -1,7 +1,7 @@
 use Rattle.std.proofs.Common.{refl}
 use Rattle.rbc_replies.proofs.LineWordLemmas.{line_of-message}
 use Rattle.rbc_words.proofs.PrintingLemmas.{prints_then, prints_stopped}
-use Rattle.rbc_replies.proofs.replies.print_message.Goals as goal
+use Rattle.rbc_replies.proofs.printing.print_message.Goals as goal
 
 pub returns-in_err-put : goal.returns-in_err-put
 returns-in_err-put g c =
