@@ -5,12 +5,14 @@ use Rattle.clap.specs.declared.error.kind.ErrorKind.{ErrorKind}
 use Rattle.clap.specs.declared.error.kind.ErrorKind.TheVariants.{DisplayHelp, DisplayVersion}
 use Rattle.rbc_model.specs.declared.sessions.SessionFault.{SessionFault}
 use Rattle.rbc_model.specs.declared.sessions.SessionFault.TheVariants.{Memory}
-use Rattle.rbc_server.specs.declared.serving.ServeFault.{ServeFault}
-use Rattle.rbc_server.specs.declared.serving.ServeFault.TheVariants.{Memory as NoServeMemory, Close}
+use Rattle.rbc_kept.specs.ServeFault.{ServeFault}
+use Rattle.rbc_kept.specs.ServeFault.TheVariants.{Memory as NoServeMemory, Close}
+use Rattle.rbc.specs.declared.journal.JournalFault.{JournalFault}
+use Rattle.rbc.specs.declared.journal.JournalFault.TheVariants.{Foreign}
 use Rattle.rbc_trackfile.specs.declared.loading.LoadFault.{LoadFault}
 use Rattle.rbc_trackfile.specs.declared.loading.LoadFault.TheVariants.{Memory as NoLoadMemory}
 use Rattle.rbc.specs.declared.failure.Failure.{Failure}
-use Rattle.rbc.specs.declared.failure.Failure.TheVariants.{CommandLine, NotText, NotCertified, Load, Session, History, Serve, Memory as NoMemory}
+use Rattle.rbc.specs.declared.failure.Failure.TheVariants.{CommandLine, NotText, NotCertified, Load, Session, History, Journal, Serve, Memory as NoMemory}
 
 -- after a command line that asks for help, or that is refused
 abbrev pub status_of_kind : ErrorKind → ℕ
@@ -34,6 +36,11 @@ status_of_serve NoServeMemory = 5
 status_of_serve (Close fault) = 6
 status_of_serve _ = 4
 
+-- after a journal that is not opened, or that failed
+abbrev pub status_of_journal : JournalFault → ℕ
+status_of_journal (Foreign line) = 3
+status_of_journal _ = 4
+
 -- after any of them
 abbrev pub status_of : Failure → ℕ
 status_of (CommandLine error) = status_of_kind (kind_of error)
@@ -42,5 +49,6 @@ status_of NotCertified = 1
 status_of (Load fault) = status_of_load fault
 status_of (Session fault) = status_of_fault fault
 status_of History = 4
+status_of (Journal fault) = status_of_journal fault
 status_of (Serve fault) = status_of_serve fault
 status_of NoMemory = 5

@@ -3,7 +3,7 @@
 ghost use Rattle.std.specs.Prelude.{◌≤◌};
 
 use clap::{Arg, ArgAction, ArgMatches, Command, Error, value_parser};
-use rbc_server::Terms;
+use rbc_kept::server::Terms;
 use std::alloc::{AllocError, Global};
 use std::time::Duration;
 
@@ -27,6 +27,8 @@ pub struct Centre<'a> {
     pub track: &'a str,
     /// The file that its history is written to, if there is one.
     pub history: Option<&'a str>,
+    /// The file of its journal, if it has one.
+    pub journal: Option<&'a str>,
 }
 
 /// How a centre serves.
@@ -72,7 +74,8 @@ pub fn read<'a>(alloc: Global, words: &'a [String]) -> Result<Task<'a>, Error> {
         )
         .after_help(REQUESTS)
         .arg(track_file(alloc))?
-        .arg(history_file(alloc))?;
+        .arg(history_file(alloc))?
+        .arg(journal_file(alloc))?;
     let command = Command::new(alloc, "rbc")
         .about("The deciding part of an ETCS Level 2 radio block centre")
         .subcommand_required(true)
@@ -85,6 +88,7 @@ pub fn read<'a>(alloc: Global, words: &'a [String]) -> Result<Task<'a>, Error> {
         return Ok(Task::Run(Centre {
             track: run.get_str("TRACK").unwrap_or(""),
             history: run.get_str("history"),
+            journal: run.get_str("journal"),
         }));
     }
     if let Some(serve) = matches.subcommand_matches("serve") {
@@ -110,6 +114,17 @@ fn history_file<'a>(alloc: Global) -> Arg<'a> {
         .long("history")
         .value_name("FILE")
         .help("Writes to this file, made anew, the lines that lead to the same history again")
+        .action(ArgAction::Set)
+}
+
+/// The journal of a centre.
+fn journal_file<'a>(alloc: Global) -> Arg<'a> {
+    Arg::new(alloc, "journal")
+        .long("journal")
+        .value_name("FILE")
+        .help(
+            "Goes on from what this file tells, and answers nothing before the file has it on the disk",
+        )
         .action(ArgAction::Set)
 }
 

@@ -3,9 +3,12 @@
 ghost use Rattle.std.specs.Prelude.{◌≡◌};
 ghost use Rattle.rbc.specs.Statuses.{status_of};
 
+use crate::journal::JournalFault;
 use clap::error::ErrorKind;
+use rbc_journal_file::OpenFault;
+use rbc_kept::server::ServeFault;
+use rbc_kept::{KeptFault, RunFault};
 use rbc_model::Memory;
-use rbc_server::ServeFault;
 use rbc_trackfile::LoadFault;
 use rbc_words::{SessionFault, WriteFailed};
 use std::alloc::AllocError;
@@ -15,9 +18,9 @@ use std::io;
 const NOT_CERTIFIED: u8 = 1;
 /// The exit status after a command line that is refused.
 const REFUSED: u8 = 2;
-/// The exit status after a track that can't be had.
+/// The exit status after a track that can't be had, or a journal that is not one of this track.
 const NO_TRACK: u8 = 3;
-/// The exit status after a fault of a session, of a port or of a history's file.
+/// The exit status after a fault of a session, of a port, or of the file of a history or of a journal.
 const SESSION_FAULT: u8 = 4;
 /// The exit status after memory was refused.
 const NO_MEMORY: u8 = 5;
@@ -37,6 +40,8 @@ pub enum Failure {
     Session(SessionFault),
     /// The file of the history can't be written.
     History,
+    /// The journal is not opened, or it failed.
+    Journal(JournalFault),
     /// A centre that serves connections ended early, or could not open its port.
     Serve(ServeFault),
     /// A certificate was refused, as the output tells.
@@ -46,8 +51,8 @@ pub enum Failure {
 }
 
 impl Failure {
-    /// The program's exit status: 0 after help, 1 for a certificate, 2 for a command line, 3 for a track, 4 for a fault
-    /// of a session, of a port or of a history's file, 5 for want of memory and 6 for receipts that are not the history.
+    /// The program's exit status: 0 after help, 1 for a certificate, 2 for a command line, 3 for a track or a
+    /// foreign journal, 4 for a fault of a session, of a port, or of the file of a history or of a journal, 5 for want of memory and 6 for receipts that are not the history.
     pub fn status(&self) -> u8
         ensures { result ≡ status_of self.now }
     {
@@ -62,8 +67,9 @@ impl Failure {
             | Failure::Session(SessionFault::Memory)
             | Failure::Serve(ServeFault::Memory)
             | Failure::Memory => NO_MEMORY,
-            Failure::Load(_) => NO_TRACK,
+            Failure::Load(_) | Failure::Journal(JournalFault::Foreign(_)) => NO_TRACK,
             Failure::Session(_) | Failure::History => SESSION_FAULT,
+            Failure::Journal(JournalFault::InUse | JournalFault::Failed) => SESSION_FAULT,
             Failure::Serve(ServeFault::Close(_)) => UNMATCHED,
             Failure::Serve(ServeFault::Port | ServeFault::Write) => SESSION_FAULT,
         }
@@ -79,6 +85,7 @@ impl Failure {
             Failure::Load(fault) => eprintln!(rt; "rbc: {fault}"),
             Failure::Session(fault) => eprintln!(rt; "rbc: {fault}"),
             Failure::History => eprintln!(rt; "rbc: history: Unwritable"),
+            Failure::Journal(fault) => eprintln!(rt; "rbc: {fault}"),
             Failure::Serve(fault) => eprintln!(rt; "rbc: {fault}"),
             Failure::NotCertified => Ok(()),
             Failure::Memory => eprintln!(rt; "rbc: out of memory"),
@@ -101,6 +108,35 @@ impl From<SessionFault> for Failure {
 impl From<ServeFault> for Failure {
     fn from(fault: ServeFault) -> Failure {
         Failure::Serve(fault)
+    }
+}
+
+impl From<OpenFault> for Failure {
+    fn from(fault: OpenFault) -> Failure {
+        match fault {
+            OpenFault::InUse => Failure::Journal(JournalFault::InUse),
+            OpenFault::File => Failure::Journal(JournalFault::Failed),
+            OpenFault::Memory => Failure::Memory,
+        }
+    }
+}
+
+impl From<KeptFault> for Failure {
+    fn from(fault: KeptFault) -> Failure {
+        match fault {
+            KeptFault::Foreign(line) => Failure::Journal(JournalFault::Foreign(line)),
+            KeptFault::Full | KeptFault::Device => Failure::Journal(JournalFault::Failed),
+            KeptFault::Memory => Failure::Memory,
+        }
+    }
+}
+
+impl From<RunFault> for Failure {
+    fn from(fault: RunFault) -> Failure {
+        match fault {
+            RunFault::Session(fault) => Failure::Session(fault),
+            RunFault::Journal => Failure::Journal(JournalFault::Failed),
+        }
     }
 }
 

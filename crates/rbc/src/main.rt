@@ -4,21 +4,24 @@
 mod command_line;
 mod failure;
 mod history;
+mod journal;
 mod serve;
 
 use command_line::{Centre, Service, Task};
 use failure::Failure;
 use history::write_history;
+pub use journal::JournalFault;
+use journal::run_kept;
 pub use rbc_certifier::steps;
 pub use rbc_checks::check;
+use rbc_kept::server::{Port, Record, ServeFault};
 use rbc_model::Memory;
-use rbc_server::{Port, Record, ServeFault};
 use rbc_track::Track;
 pub use rbc_trackfile::{LoadFault, load};
 use rbc_words::Stream;
 use serve::{print_listening, serve};
 use std::env::Env;
-use std::fs::Files;
+use std::fs::{File, Files};
 use std::io::Eprint;
 use std::net::{Ipv4Addr, Net, TcpListener, TcpStream};
 use std::process::ExitCode;
@@ -40,7 +43,7 @@ fn main(rt: HostRuntime) -> ExitCode {
 /// Does what the command line asks for.
 fn run(
     rt: &(impl Env
-        + Files
+        + Files<File = File>
         + Input
         + Print
         + AllocGlobal
@@ -84,13 +87,16 @@ fn run(
 /// Runs a centre on the track of a file: it answers the lines of the standard input. However they end, the history that
 /// they led to is written, if a file is named for it.
 fn run_centre(
-    rt: &(impl Files + Input + Print + AllocGlobal + Threads + Sync),
+    rt: &(impl Files<File = File> + Input + Print + AllocGlobal + Threads + Sync),
     centre: &Centre,
 ) -> Result<(), Failure> {
     let alloc = rt.alloc();
     let track = Arc::new(alloc, read_track(rt, centre.track)?).map_err(Memory::from)?;
     let mut record = Record::new(alloc, track)?;
-    let ended = rbc_server::run(
+    if let Some(journal) = centre.journal {
+        return run_kept(rt, journal, centre.history, record);
+    }
+    let ended = rbc_kept::server::run(
         rt,
         alloc,
         &mut Stream::reader(rt.reader()),

@@ -6,8 +6,8 @@ ghost use Rattle.rbc.specs.Listening.{listening_line};
 
 use crate::command_line::Service;
 use crate::failure::Failure;
+use rbc_kept::server::{Blank, Desk, DeskName, Port, Record};
 use rbc_model::Memory;
-use rbc_server::{Blank, Desk, DeskName, Port, Record};
 use rbc_streams::{Sink, WriteFailed, put};
 use rbc_track::Track;
 use rbc_words::print_number;
@@ -48,7 +48,7 @@ fn print_port<W: Sink>(port: u16, writer: &mut W) -> Result<(), WriteFailed>
 ///
 /// # Errors
 ///
-/// `Memory` for the record or the desk, and those of [`rbc_server::serve`].
+/// `Memory` for the record or the desk, and those of [`rbc_kept::server::serve`].
 pub(crate) fn serve<
     S: Read + Write + OpenStream + Send + Drop,
     N: OpenListener<Stream = S> + Drop,
@@ -111,6 +111,6 @@ fn open<
     requires few { seats ≤ 16 }
 {
     let (desk, seats) = Desk::<L>::new(rt, alloc, log, seats, blank)?;
-    rbc_server::serve(rt, alloc, port, track, desk, seats, connections, writer)?;
+    rbc_kept::server::serve(rt, alloc, port, track, desk, seats, connections, writer)?;
     Ok(())
 }

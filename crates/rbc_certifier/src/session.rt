@@ -22,6 +22,7 @@ struct Certifier;
 impl Answers<()> for Certifier {
     type State = ();
 
+    ghost use Rattle.std.specs.Prelude.{⊤, false, refl};
     ghost use Rattle.rbc_model.specs.declared.limits.TheConstants.{LONGEST_LINE};
     ghost use Rattle.rbc_model.specs.declared.places.Format.TheVariants.{Far};
     ghost use Rattle.rbc_model.specs.StepsReply.{AnswersLine};
@@ -32,6 +33,15 @@ impl Answers<()> for Certifier {
     ghost state = { λ _. tt };
 
     ghost answers = { EachByItself (AnswersLine Far) };
+
+    // It never fails.
+    ghost ready = { λ _. ⊤ };
+
+    ghost broken = { λ _. false };
+
+    ghost works = { λ _ _. refl };
+
+    ghost goes_on = { λ _ _ _ _ _ _. tt };
 
     fn longest_line() -> usize {
         LONGEST_LINE

@@ -106,6 +106,7 @@ impl Checker {
 impl Answers<()> for Checker {
     type State = Checker;
 
+    ghost use Rattle.std.specs.Prelude.{⊤, false, refl};
     ghost use Rattle.rbc_model.specs.declared.limits.TheConstants.{LONGEST_CHECK_LINE};
     ghost use Rattle.rbc_model.specs.declared.places.Format.TheVariants.{Far};
     ghost use Rattle.rbc_model.specs.CheckText.{AnswersCheck};
@@ -115,6 +116,15 @@ impl Answers<()> for Checker {
     ghost state = { λ c. c };
 
     ghost answers = { AnswersCheck Far };
+
+    // A check never fails.
+    ghost ready = { λ _. ⊤ };
+
+    ghost broken = { λ _. false };
+
+    ghost works = { λ _ _. refl };
+
+    ghost goes_on = { λ _ _ _ _ _ _. tt };
 
     fn longest_line() -> usize {
         LONGEST_CHECK_LINE

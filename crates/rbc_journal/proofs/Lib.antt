@@ -1,7 +1,7 @@
 mod LineLemmas
 mod MomentLemmas
 mod CrashLemmas
-mod SessionLemmas
+pub mod SessionLemmas
 mod StagingLemmas
 mod CommitLemmas
 mod CommittedLemmas

@@ -1,2 +1,8 @@
 mod TellingLemmas
 mod BetweenLemmas
+mod AddingLemmas
+mod KeepingLemmas
+mod TalkLemmas
+mod GateLemmas
+mod EndLemmas
+mod TreatingLemmas

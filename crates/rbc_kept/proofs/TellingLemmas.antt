@@ -1,6 +1,5 @@
 -- Lines and the entries that they tell.
-use Rattle.std.proofs.Common.{◌≡◌, ℕ, List, [], ◌∷◌, ◌++◌, length, take, refl, sym, ◌∙◌, ap, subst, append_assoc, Bool, true, false}
-use Rattle.std.specs.Bool.{MatchBool}
+use Rattle.std.proofs.Common.{◌≡◌, ℕ, List, [], ◌∷◌, ◌++◌, length, take, refl, sym, ◌∙◌, ap, subst, append_assoc}
 use Rattle.std.proofs.lemmas.List.{append-nil}
 use Rattle.rbc_journal.specs.Journal.{recovered}
 use Rattle.rbc_kept.specs.Tells.{Tells}
@@ -74,15 +73,3 @@ module _ {Entry : Type 0} (adds : List Entry → List ℕ → Entry → Type 0) 
       subst (StandsFor adds later) (sym added.2) (subst (λ (ls : List (List ℕ)). Tells adds [] ls (old ++ added.0 ∷ []))
       (sym (is ∙ ap (λ (f : List ℕ). recovered f ++ staged) same ∙ ap (λ (ls : List (List ℕ)). recovered file ++ ls) one))
       (one_more [] (recovered file) old line added.0 told added.1))
-
-  pub if_added : {S : Type 0} (entries : S → List Entry) (old new : S) (line : List ℕ) (is_added : Bool) → is_added ≡ true
-      → MatchBool is_added ((entry : Entry) × adds (entries old) line entry × (entries new ≡ entries old ++ entry ∷ [])) (new ≡ old)
-      → (entry : Entry) × adds (entries old) line entry × (entries new ≡ entries old ++ entry ∷ [])
-  if_added entries old new line is_added is found =
-      subst (λ b. MatchBool b ((entry : Entry) × adds (entries old) line entry × (entries new ≡ entries old ++ entry ∷ [])) (new ≡ old)) is found
-
-  pub if_not_added : {S : Type 0} (entries : S → List Entry) (old new : S) (line : List ℕ) (is_added : Bool) → is_added ≡ false
-      → MatchBool is_added ((entry : Entry) × adds (entries old) line entry × (entries new ≡ entries old ++ entry ∷ [])) (new ≡ old)
-      → new ≡ old
-  if_not_added entries old new line is_added is found =
-      subst (λ b. MatchBool b ((entry : Entry) × adds (entries old) line entry × (entries new ≡ entries old ++ entry ∷ [])) (new ≡ old)) is found

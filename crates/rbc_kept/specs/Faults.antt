@@ -1,4 +1,4 @@
--- Why a line is not taken, where the journal refuses it.
+-- Why a journal is not opened, where its file refuses that.
 use Rattle.rbc_journal.specs.declared.fault.JournalFault.{JournalFault}
 use Rattle.rbc_journal.specs.declared.fault.JournalFault.TheVariants.{Memory, Full, Device}
 use Rattle.rbc_kept.specs.declared.fault.KeptFault.{KeptFault}

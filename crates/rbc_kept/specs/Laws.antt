@@ -1,7 +1,14 @@
--- What a crash leaves of a history.
-use Rattle.std.specs.Prelude.{◌≡◌, ℕ, List, ◌++◌, length, take}
-use Rattle.rbc_journal.specs.Journal.{recovered}
+-- What journals tell, and what a crash leaves of a history.
+use Rattle.std.specs.Prelude.{◌≡◌, ◌<◌, ℕ, List, [], ◌++◌, length, take, All}
+use Rattle.rbc_journal.specs.Journal.{recovered, at_rest, IsLine}
+use Rattle.rbc_model.specs.declared.limits.TheConstants.{LONGEST_LINE}
+use Rattle.rbc_model.specs.Tracks.{Track}
+use Rattle.rbc_model.specs.Histories.{Entry}
+use Rattle.rbc_session_laws.specs.Answers.{entries_after}
+use Rattle.rbc_session_laws.specs.Retelling.{IsRetold}
+use Rattle.rbc_kept.specs.Adds.{Adds}
 use Rattle.rbc_kept.specs.Kept.{StandsFor}
+use Rattle.rbc_kept.specs.Tells.{Tells}
 
 -- what lines tell is one history
 abbrev pub TellOne : {Entry : Type 0} → (List Entry → List ℕ → Entry → Type 0) → Type 0
@@ -13,3 +20,12 @@ abbrev pub BeginningsStand : {Entry : Type 0} → (List Entry → List ℕ → E
 BeginningsStand {Entry} adds =
     (file later : List ℕ) (rest : List (List ℕ)) (entries : List Entry)
     → StandsFor adds later entries → recovered later ≡ recovered file ++ rest → StandsFor adds file (take (length (recovered file)) entries)
+
+-- what a file stands for is a history that its own lines lead to
+abbrev pub AreRetold : Type 0
+AreRetold = (track : Track) (file : List ℕ) (entries : List Entry) → StandsFor (Adds track) file entries → IsRetold track entries
+
+-- the session over the bytes of a journal at rest leads to what the journal tells, if each of its lines is short enough with its gate
+abbrev pub JournalsAreSessions : Type 0
+JournalsAreSessions = (track : Track) (lines : List (List ℕ)) (entries : List Entry) → All IsLine lines → All (λ line. length line < LONGEST_LINE) lines
+    → Tells (Adds track) [] lines entries → entries_after track [] (at_rest lines) ≡ entries

@@ -1,4 +1,9 @@
 pub mod Faults
 pub mod Tells
+pub mod Adds
 pub mod Kept
+pub mod Advances
 pub mod Laws
+pub mod Ends
+pub mod Sessions
+pub use Rattle.rbc_server.specs.declared.serving.ServeFault

@@ -1,22 +1,27 @@
-//! Why a line is not taken, or a journal not opened.
+//! Why a journal is not opened, or ends a session.
 
 ghost use Rattle.std.specs.Prelude.{◌≡◌};
 ghost use Rattle.rbc_kept.specs.Faults.{kept_fault};
 
-use rbc_journal::{DeviceFailed, JournalFault};
-use rbc_model::Memory;
+use rbc_journal::JournalFault;
+use rbc_model::{Memory, SessionFault};
+use thiserror::Error;
 
-/// Why a line is not taken, or a journal not opened.
-#[derive(Clone, Copy, Debug, PartialEq, Eq)]
+/// Why a journal is not opened.
+#[derive(Clone, Copy, Debug, PartialEq, Eq, Error)]
 pub enum KeptFault {
     /// The allocator refused memory.
+    #[error("out of memory")]
     Memory,
-    /// The journal takes no more.
+    /// The file has 2^60 bytes.
+    #[error("journal fault")]
     Full,
     /// The file failed.
+    #[error("journal fault")]
     Device,
-    /// A line of the journal adds nothing: it is of another history.
-    Foreign,
+    /// The line of this number, from 1 on, adds nothing: the journal is of another track, or was written by hand.
+    #[error("journal: Foreign {0}")]
+    Foreign(u64),
 }
 
 impl From<JournalFault> for KeptFault {
@@ -31,16 +36,6 @@ impl From<JournalFault> for KeptFault {
     }
 }
 
-impl From<DeviceFailed> for KeptFault {
-    ghost use Rattle.rbc_kept.specs.declared.fault.KeptFault.TheVariants.{Device as File};
-
-    ghost from_gives = { λ _ kept. kept ≡ File };
-
-    fn from(_: DeviceFailed) -> KeptFault {
-        KeptFault::Device
-    }
-}
-
 impl From<Memory> for KeptFault {
     ghost use Rattle.rbc_kept.specs.declared.fault.KeptFault.TheVariants.{Memory as NoMemory};
 
@@ -49,4 +44,15 @@ impl From<Memory> for KeptFault {
     fn from(_: Memory) -> KeptFault {
         KeptFault::Memory
     }
+}
+
+/// Why a session ends before the end of its input.
+#[derive(Clone, Copy, Debug, PartialEq, Eq, Error)]
+pub enum RunFault {
+    /// As a session without a journal does.
+    #[error("{0}")]
+    Session(SessionFault),
+    /// The journal failed. The last line that was treated has no reply.
+    #[error("journal fault")]
+    Journal,
 }

@@ -1,12 +1,16 @@
-//! A history that is kept: each entry is told in a line of a journal, and acknowledged once that is on the disk.
+//! A centre whose record is kept in a journal: each entry is on the disk before the reply that tells of it is written.
 #![tactic(auto)]
 
+mod answering;
 mod fault;
-mod history;
 mod kept;
 mod laws;
+mod line_text;
+mod replaying;
+mod sessions;
 
-pub use fault::KeptFault;
-pub use history::History;
+pub use fault::{KeptFault, RunFault};
 pub use kept::Kept;
 pub use laws::files_tell_one_history;
+pub use rbc_server as server;
+pub use sessions::run;

@@ -13,7 +13,7 @@ use Rattle.rbc_session_laws.specs.SessionRuns.{Turn, entries_of, entries_added, 
 use Rattle.rbc_server.specs.Changes.{with_added, Goes}
 
 -- each turn is right after the entries of those before it
-abbrev AreRight : Track → List Entry → List Turn → Type 0
+abbrev pub AreRight : Track → List Entry → List Turn → Type 0
 AreRight track before turns = (place : ℕ) (turn : Turn) → slice_get turns place ≡ Some turn
     → AnswersLine track (before ++ entries_added (take place turns)) turn.line turn.reply turn.added
 
@@ -29,7 +29,7 @@ one_more track before turn turns first later (suc place) other here =
     (later place other here)
 
 -- turns that lead from one history to another
-record Turned (first last : HistoryOnTrack) (lines : List (List ℕ)) (text : List ℕ) : Type 0 where
+pub record Turned (first last : HistoryOnTrack) (lines : List (List ℕ)) (text : List ℕ) : Type 0 where
   pub turns : List Turn
   pub of_lines : lines_treated turns ≡ lines
   pub said : text ≡ replies_to turns
@@ -37,7 +37,7 @@ record Turned (first last : HistoryOnTrack) (lines : List (List ℕ)) (text : Li
   pub track : last.track ≡ first.track
   pub entries : last.entries ≡ first.entries ++ entries_added turns
 
-turned : (first last : HistoryOnTrack) (lines : List (List ℕ)) (text : List ℕ) → Answered Goes first lines text last → Turned first last lines text
+pub turned : (first last : HistoryOnTrack) (lines : List (List ℕ)) (text : List ℕ) → Answered Goes first lines text last → Turned first last lines text
 turned first last [] text (none, same) = record {
   turns = [];
   of_lines = refl;

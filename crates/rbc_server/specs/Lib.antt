@@ -6,3 +6,4 @@ pub mod SeatAnswers
 pub mod SeatTurns
 pub mod Shown
 pub mod Serving
+pub use Rattle.rbc_sweep.specs.Records

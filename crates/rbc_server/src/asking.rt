@@ -51,7 +51,7 @@ pub(crate) fn ask<W: Sink>(
 }
 
 /// The reply to a train that is shown no end.
-fn stopped(history: &Record, train: u32, fault: OrMemory<ViewFault>) -> SessionReply<'static>
+pub fn stopped(history: &Record, train: u32, fault: OrMemory<ViewFault>) -> SessionReply<'static>
     requires fault { RefusesOrMemory fault (view history.now.track (scene_now history.now) train) }
     requires unknown { train_numbered (scene_now history.now) train ≡ None → fault ≡ Refused UnknownTrain }
     ensures comes { Comes (λ track entries said added. AnswersAuthority track entries said added train)
@@ -98,8 +98,8 @@ fn grant<W: Sink>(
     print(history.track(), &reply, writer)
 }
 
-/// The reply to a train that is shown the candidate's view.
-fn commit<'a>(alloc: Global, history: &mut Record, candidate: &'a Candidate) -> SessionReply<'a>
+/// The reply to a train that is shown the candidate's view. Where it is granted the authority, the history gains an entry.
+pub fn commit<'a>(alloc: Global, history: &mut Record, candidate: &'a Candidate) -> SessionReply<'a>
     requires { view history.old.track (scene_now history.old) candidate.now.view.train ≡ Ok candidate.now.view }
     ensures comes { Comes (λ track entries said added. AnswersAuthority track entries said added
         candidate.now.view.train) history.old (reply_text history.old.track result) history.new }

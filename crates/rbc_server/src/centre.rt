@@ -19,7 +19,7 @@ pub(crate) struct Centre;
 impl Answers<Centre> for Record {
     type State = Record;
 
-    ghost use Rattle.std.specs.Prelude.{◌≡◌, ◌≤◌};
+    ghost use Rattle.std.specs.Prelude.{◌≡◌, ◌≤◌, ⊤, false, refl};
     ghost use Rattle.rbc_model.specs.declared.limits.TheConstants.{LONGEST_LINE};
     ghost use Rattle.rbc_server.specs.Changes.{Goes};
 
@@ -28,6 +28,15 @@ impl Answers<Centre> for Record {
     ghost state = { λ history. history };
 
     ghost answers = { Goes };
+
+    // A record never fails.
+    ghost ready = { λ _. ⊤ };
+
+    ghost broken = { λ _. false };
+
+    ghost works = { λ _ _. refl };
+
+    ghost goes_on = { λ _ _ _ _ _ _. tt };
 
     fn longest_line() -> usize
         ensures value { result ≡ LONGEST_LINE }

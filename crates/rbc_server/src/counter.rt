@@ -114,7 +114,7 @@ pub(crate) fn reply_to<'a>(
 impl<'a, L: DeskName, G: Gate, R: Wait> Answers<Counter<'a, L, G, R>> for Seat<L> {
     type State = Seat<L>;
 
-    ghost use Rattle.std.specs.Prelude.{◌≡◌, ◌≤◌};
+    ghost use Rattle.std.specs.Prelude.{◌≡◌, ◌≤◌, ⊤, false, refl};
     ghost use Rattle.rbc_model.specs.declared.limits.TheConstants.{LONGEST_LINE};
     ghost use Rattle.rbc_server.specs.SeatChanges.{SeatGoes};
 
@@ -123,6 +123,15 @@ impl<'a, L: DeskName, G: Gate, R: Wait> Answers<Counter<'a, L, G, R>> for Seat<L
     ghost state = { λ seat. seat };
 
     ghost answers = { SeatGoes };
+
+    // A seat never fails.
+    ghost ready = { λ _. ⊤ };
+
+    ghost broken = { λ _. false };
+
+    ghost works = { λ _ _. refl };
+
+    ghost goes_on = { λ _ _ _ _ _ _. tt };
 
     fn longest_line() -> usize
         ensures value { result ≡ LONGEST_LINE }

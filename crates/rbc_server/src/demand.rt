@@ -18,7 +18,7 @@ use rbc_words::{Request, parse};
 ///
 /// - `BadLine`: the line is no request.
 /// - `UnknownName`: the track has no route or section of the name that it tells.
-pub(crate) fn demand_in(track: &Track, line: &[u8]) -> Result<Demand, SessionRefusal>
+pub fn demand_in(track: &Track, line: &[u8]) -> Result<Demand, SessionRefusal>
     ensures demand { result_map_both (λ demand. demand) refusal_view result ≡ demand_in track.now line.now }
     ensures of_track { IfOk result (IsDemandOfTrack track.now) }
 {
@@ -29,7 +29,11 @@ pub(crate) fn demand_in(track: &Track, line: &[u8]) -> Result<Demand, SessionRef
 }
 
 /// What a line says, its route or section looked up by its name.
-fn looked_up(track: &Track, request: Request) -> Result<Demand, SessionRefusal>
+///
+/// # Errors
+///
+/// `UnknownName`: the track has none of the name.
+pub fn looked_up(track: &Track, request: Request) -> Result<Demand, SessionRefusal>
     ensures demand { result_map_both (λ demand. demand) refusal_view result
         ≡ looked_up track.now (request_view request) }
     ensures of_track { IfOk result (IsDemandOfTrack track.now) }

@@ -14,9 +14,12 @@ mod serving;
 mod sessions;
 mod telling;
 
+pub use asking::{commit, stopped};
+pub use demand::{demand_in, looked_up};
 pub use histories::print_history;
 pub use rbc_port::{Port, Terms};
 pub use rbc_streams::SessionFault;
-pub use rbc_sweep::{Blank, Desk, DeskName, Record};
+pub use rbc_sweep::{Blank, Candidate, Desk, DeskName, Record, View, candidate};
 pub use serving::{ServeFault, serve};
 pub use sessions::{run, session};
+pub use telling::{in_vain, tell};

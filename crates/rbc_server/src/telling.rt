@@ -13,7 +13,7 @@ use rbc_sweep::{ApplyFault, Record};
 use std::alloc::Global;
 
 /// The reply to what is told. Where it is accepted, the record gains an entry; where it is refused, nothing changes.
-pub(crate) fn tell(alloc: Global, history: &mut Record, told: &Told) -> SessionReply<'static>
+pub fn tell(alloc: Global, history: &mut Record, told: &Told) -> SessionReply<'static>
     requires { IsToldOfTrack history.old.track told.now }
     ensures comes { Comes (λ track entries reply added. AnswersEvent track entries reply added told.now)
         history.old (reply_text history.old.track result) history.new }
@@ -24,6 +24,21 @@ pub(crate) fn tell(alloc: Global, history: &mut Record, told: &Told) -> SessionR
     match history.apply(alloc, told) {
         Ok(receipt) => SessionReply::Accepted(receipt.place() + 1),
         Err(fault) => SessionReply::Refused(refusal_of(fault)),
+    }
+}
+
+/// The reply to what is told where there is no memory for it: what refuses it at once, or that memory does. Nothing changes.
+pub fn in_vain(history: &Record, told: &Told) -> SessionReply<'static>
+    requires { IsToldOfTrack history.now.track told.now }
+    ensures comes { Comes (λ track entries reply added. AnswersEvent track entries reply added told.now)
+        history.now (reply_text history.now.track result) history.now }
+    ensures whole { ReplyIsWhole history.now.track result }
+{
+    // As above.
+    let _sections = history.track().section_count();
+    match history.refusal(told) {
+        Some(fault) => SessionReply::Refused(refusal_of(OrMemory::Refused(fault))),
+        None => SessionReply::Refused(SessionRefusal::Memory),
     }
 }
 

@@ -1,6 +1,6 @@
 //! What answers the lines of a session.
 
-ghost use Rattle.std.specs.Prelude.{◌≡◌, ◌<◌, ◌≤◌, ℕ, List, length, false};
+ghost use Rattle.std.specs.Prelude.{◌≡◌, ◌<◌, ◌≤◌, ◌||◌, ℕ, List, Bool, length, false};
 ghost use Rattle.std.specs.Thread.{IsSync};
 ghost use Rattle.rbc_model.specs.Sessions.{Prints};
 
@@ -19,6 +19,18 @@ pub trait Answers<C> {
     /// In a state a line is answered by a reply, and the next state follows.
     ghost answers: { Self.State → List ℕ → List ℕ → Self.State → Type 0 };
 
+    /// What holds of a state in which a line can be answered.
+    ghost ready: { Self.State → Type 0 };
+
+    /// Whether what answers has failed for good, in a state. Then the session ends.
+    ghost broken: { Self.State → Bool };
+
+    /// It has not failed where a line can be answered.
+    ghost works: { (now : Self.State) → ready now → broken now ≡ false };
+
+    /// And where it has not failed in a line, the next one can be answered.
+    ghost goes_on: { (now next : Self.State) (line reply : List ℕ) → answers now line reply next → broken next ≡ false → ready next };
+
     /// How many bytes a line may have.
     ghost longest: { ℕ };
 
@@ -30,7 +42,7 @@ pub trait Answers<C> {
     /// Prints the reply to a line, which has no line feed. The session hands it on.
     ///
     /// # Errors
-    /// The writer failed. The line is answered all the same: the state is the next one.
+    /// The reply is not written whole: the writer failed, or what answers did. The state is the next one all the same.
     fn answer<T: Threads + Sync, W: Sink>(
         &mut self,
         rt: &T,
@@ -40,17 +52,19 @@ pub trait Answers<C> {
         writer: &mut W,
     ) -> Result<(), WriteFailed>
         requires going { W.failed writer.old ≡ false }
+        requires ready { ready (state self.old) }
         requires runtime { IsSync T.row }
         ensures { (reply : List ℕ) × answers (state self.old) line.now reply (state self.new)
-            × Prints (W.written writer.old) (W.written writer.new) (W.failed writer.new) reply result };
+            × Prints (W.written writer.old) (W.written writer.new) (broken (state self.new) || W.failed writer.new) reply result };
 
     /// Prints the reply to a line that is too long, whatever it says.
     ///
     /// # Errors
-    /// The writer failed, as above.
+    /// As above.
     fn refuse<W: Sink>(&mut self, help: &C, writer: &mut W) -> Result<(), WriteFailed>
-        requires { W.failed writer.old ≡ false }
+        requires going { W.failed writer.old ≡ false }
+        requires ready { ready (state self.old) }
         ensures { (reply : List ℕ)
             × ((line : List ℕ) → longest < length line → answers (state self.old) line reply (state self.new))
-            × Prints (W.written writer.old) (W.written writer.new) (W.failed writer.new) reply result };
+            × Prints (W.written writer.old) (W.written writer.new) (broken (state self.new) || W.failed writer.new) reply result };
 }

@@ -1,6 +1,6 @@
 //! The loop of a session: lines are read, answered and handed on, up to the end of the input or the first fault.
 
-ghost use Rattle.std.specs.Prelude.{◌≡◌, ◌↔◌, ◌<◌, ◌++◌, ◌⊎◌, ℕ, List, [], length, true, false, IsTrue, OnOk, Ok, Err};
+ghost use Rattle.std.specs.Prelude.{◌≡◌, ◌↔◌, ◌<◌, ◌++◌, ◌⊎◌, ◌||◌, ℕ, List, [], length, true, false, IsTrue, OnOk, Ok, Err};
 ghost use Rattle.std.specs.Io.KnownBytes.{Consumes, Keeps, IsAtEnd};
 ghost use Rattle.rbc_model.specs.Sessions.{Prints};
 ghost use Rattle.rbc_model.specs.Talks.{IsTalk};
@@ -17,7 +17,7 @@ use std::thread::Threads;
 ///
 /// # Errors
 /// `Memory` before anything is read or written. Then, for each line in order: `Read` where the reader fails, `Write`
-/// where the writer does, `Overlong` behind the reply to a line that is too long; `Lines` where a further byte comes
+/// where the writer does, or what answers, `Overlong` behind the reply to a line that is too long; `Lines` where a further byte comes
 /// after the last line that a session treats.
 pub fn converse<C, A: Answers<C>, R: Source, W: Sink>(
     rt: &(impl Threads + Sync),
@@ -29,10 +29,11 @@ pub fn converse<C, A: Answers<C>, R: Source, W: Sink>(
 ) -> Result<(), SessionFault>
     requires reader { R.failed reader.old ≡ false }
     requires writer { W.failed writer.old ≡ false }
+    requires ready { A.ready (A.state answerer.old) }
 
-    // A read or write fault is answered just where the reader or the writer failed.
+    // A read or write fault is answered just where the reader failed, or the writer or what answers.
     ensures read { (result ≡ Err SessionFault.Read) ↔ IsTrue (R.failed reader.new) }
-    ensures write { (result ≡ Err SessionFault.Write) ↔ IsTrue (W.failed writer.new) }
+    ensures write { (result ≡ Err SessionFault.Write) ↔ IsTrue (A.broken (A.state answerer.new) || W.failed writer.new) }
 
     // Without memory nothing begins.
     ensures memory { result ≡ Err SessionFault.Memory
@@ -46,8 +47,8 @@ pub fn converse<C, A: Answers<C>, R: Source, W: Sink>(
         × IsTalk A.longest A.answers (A.state answerer.old) (A.state answerer.new) input
         (W.written writer.old) (W.written writer.new) result }
 
-    // And it was handed on, unless the writer failed.
-    ensures handed_on { W.failed writer.new ≡ false → W.held_back writer.old ≡ [] → W.held_back writer.new ≡ [] }
+    // And it was handed on, unless the writer failed, or what answers.
+    ensures handed_on { (A.broken (A.state answerer.new) || W.failed writer.new) ≡ false → W.held_back writer.old ≡ [] → W.held_back writer.new ≡ [] }
 {
     let mut lines = LineReader::new(alloc, A::longest_line())?;
     for count in 0..MOST_LINES {
@@ -107,11 +108,12 @@ fn refuse<C, A: Answers<C>, W: Sink>(
     answerer: &mut A,
     help: &C,
 ) -> Result<(), WriteFailed>
-    requires { W.failed writer.old ≡ false }
+    requires going { W.failed writer.old ≡ false }
+    requires ready { A.ready (A.state answerer.old) }
     ensures reply { (reply : List ℕ)
         × ((line : List ℕ) → A.longest < length line
         → A.answers (A.state answerer.old) line reply (A.state answerer.new))
-        × Prints (W.written writer.old) (W.written writer.new) (W.failed writer.new) reply result }
+        × Prints (W.written writer.old) (W.written writer.new) (A.broken (A.state answerer.new) || W.failed writer.new) reply result }
     ensures handed_on { OnOk result (W.held_back writer.new ≡ []) }
 {
     answerer.refuse(help, writer)?;

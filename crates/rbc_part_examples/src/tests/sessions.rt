@@ -16,13 +16,22 @@ struct Echo;
 impl Answers<()> for Echo {
     type State = ();
 
-    ghost use Rattle.std.specs.Prelude.{⊤};
+    ghost use Rattle.std.specs.Prelude.{⊤, false, refl};
 
     ghost longest = { 4096 };
 
     ghost state = { λ _. tt };
 
     ghost answers = { λ _ _ _ _. ⊤ };
+
+    // It never fails.
+    ghost ready = { λ _. ⊤ };
+
+    ghost broken = { λ _. false };
+
+    ghost works = { λ _ _. refl };
+
+    ghost goes_on = { λ _ _ _ _ _ _. tt };
 
     fn longest_line() -> usize {
         4_096

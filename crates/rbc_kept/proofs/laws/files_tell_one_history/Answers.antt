@@ -1,12 +1,29 @@
-use Rattle.std.proofs.Common.{[], List, ℕ, subst}
+use Rattle.std.proofs.Common.{◌≡◌, [], List, ℕ, Option, Some, sym, ◌∙◌, subst}
 use Rattle.rbc_journal.specs.Journal.{recovered}
+use Rattle.rbc_model.specs.Tracks.{Track}
+use Rattle.rbc_model.specs.Histories.{Entry}
+use Rattle.rbc_kept.specs.Adds.{Adds}
 use Rattle.rbc_kept.specs.Tells.{Tells}
+use Rattle.rbc_kept.proofs.AddingLemmas.{are_retold}
+use Rattle.rbc_kept.proofs.GateLemmas.{journals_are_sessions}
 use Rattle.rbc_kept.proofs.TellingLemmas.{tell_one, front_tells}
 use Rattle.rbc_kept.proofs.laws.files_tell_one_history.Goals as goal
 
+the_same : (a b : Entry) → (let o : Option Entry = Some a in o) ≡ Some b → a ≡ b
+the_same a b e = cc
+
+only_one : (track : Track) (before : List Entry) (line : List ℕ) (a b : Entry) → Adds track before line a → Adds track before line b → a ≡ b
+only_one track before line a b first second = the_same a b (sym first ∙ second)
+
 pub returns-clause-one : goal.returns-clause-one
-returns-clause-one g c file some other a b = tell_one g.H.History.adds g.H.History.only_one [] (recovered file) some other a b
+returns-clause-one c track file some other a b = tell_one (Adds track) (only_one track) [] (recovered file) some other a b
 
 pub returns-clause-beginnings : goal.returns-clause-beginnings
-returns-clause-beginnings g c file later rest entries told is =
-    front_tells g.H.History.adds [] (recovered file) rest entries (subst (λ (ls : List (List ℕ)). Tells g.H.History.adds [] ls entries) is told)
+returns-clause-beginnings c track file later rest entries told is =
+    front_tells (Adds track) [] (recovered file) rest entries (subst (λ (ls : List (List ℕ)). Tells (Adds track) [] ls entries) is told)
+
+pub returns-clause-retold : goal.returns-clause-retold
+returns-clause-retold c = are_retold
+
+pub returns-clause-sessions : goal.returns-clause-sessions
+returns-clause-sessions c = journals_are_sessions

@@ -1,4 +1,4 @@
-use Rattle.std.proofs.Common.{◌≡◌, Bool, true, false, Err, refl, ap, sym, ◌∙◌, subst, arith, add-one}
+use Rattle.std.proofs.Common.{◌≡◌, ◌||◌, Bool, true, false, Err, refl, ap, sym, ◌∙◌, subst, arith, add-one}
 use Rattle.std.specs.Bool.{IsTrue}
 use Rattle.std.proofs.lemmas.Bool.{ltb-true}
 use Rattle.std.proofs.lemmas.Result.{err_from_is_err_and}
@@ -7,6 +7,10 @@ use Rattle.rbc_streams.specs.LineReading.{Steps, IsOverlong, HasNoLineFeed}
 use Rattle.rbc_streams.proofs.LineLemmas.{lines_of_overlong}
 use Rattle.rbc_streams.proofs.UnderWayLemmas.{begins, over_before, takes, hands_on, stops_between, fails_reading, fails_handing_on, ends, has_too_many, goes_on, fails_writing, refuses, front_of, some_line}
 use Rattle.rbc_streams.proofs.session.converse.Goals as goal
+
+both_false : (a b : Bool) → (a || b) ≡ false → (a ≡ false) × (b ≡ false)
+both_false true b none = absurd (let c : ⊥ = cc in c)
+both_false false b none = (refl, none)
 
 is_false : (test : Bool) → (IsTrue test → ⊥) → test ≡ false
 is_false true refutes = absurd (refutes refl)
@@ -19,6 +23,8 @@ loop-count-init g c =
     rw c.in_ok-lines.ensures (record {
       reader_works = c.requires.reader;
       writer_works = c.requires.writer;
+      ready = c.requires.ready;
+      intact = g.A.Answers.works (g.A.Answers.state c.args.answerer.now) c.requires.ready;
       longest = c.longest_line.ensures.value;
       end = λ over. cc;
       handed_on = λ held none. held;
@@ -101,9 +107,12 @@ loop-count-preserved g c =
     (takes g.A.Answers.longest g.A.Answers.answers c.loop-count.invariant.under_way (g.R.Source.left c.next_line.new.reader)
     c.next_line.new.lines.ended did.next.0 did.ended did.next.2 did.next.1) (g.W.Sink.written c.next_line.new.writer) did.written in
     let reply = rw c.line.ensures at c.in_ok-answer-in-Line.ensures in
+    let works = both_false (g.A.Answers.broken (g.A.Answers.state c.answer.new.self)) (g.W.Sink.failed c.answer.new.writer) reply.2.failed in
     record {
       reader_works = is_false _ (λ failed. let e = did.read.1 failed in cc);
-      writer_works = reply.2.failed;
+      writer_works = works.1;
+      ready = g.A.Answers.goes_on (g.A.Answers.state c.loop-count.answerer) (g.A.Answers.state c.answer.new.self) c.next_line.new.lines.line reply.0 reply.1 works.0;
+      intact = works.0;
       longest = size;
       end = did.end c.loop-count.invariant.end;
       handed_on = λ held none. absurd (omega (arith, none));

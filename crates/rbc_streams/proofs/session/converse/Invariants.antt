@@ -7,6 +7,8 @@ abbrev pub invariant-loop-count : goal.invariant-loop-count
 invariant-loop-count g l = record {
   reader_works : g.R.Source.failed l.reader ≡ false;
   writer_works : g.W.Sink.failed l.writer ≡ false;
+  ready : g.A.Answers.ready (g.A.Answers.state l.answerer);
+  intact : g.A.Answers.broken (g.A.Answers.state l.answerer) ≡ false;
   longest : l.lines.longest ≡ g.A.Answers.longest;
   end : KnowsEnd l.lines (g.R.Source.left l.reader);
   handed_on : g.W.Sink.held_back l.fn.writer ≡ [] → l.count ≡ 0 → g.W.Sink.held_back l.writer ≡ [];

@@ -1,0 +1,77 @@
+//! A centre whose history is kept in a journal.
+
+ghost use Rattle.std.specs.Prelude.{◌≡◌, []};
+
+use crate::failure::Failure;
+use crate::history::write_history;
+use rbc_kept::Kept;
+use rbc_kept::server::Record;
+use rbc_words::Stream;
+use std::fs::{File, Files};
+use std::io;
+use std::thread::Threads;
+use thiserror::Error;
+
+/// Why there is no journal.
+#[derive(Clone, Copy, Debug, PartialEq, Eq, Error)]
+pub enum JournalFault {
+    /// Another centre has its file.
+    #[error("journal: in use")]
+    InUse,
+    /// Its line of this number, from 1 on, adds nothing to the history: it is of another track, or was written by hand.
+    #[error("journal: Foreign {0}")]
+    Foreign(u64),
+    /// Its file failed.
+    #[error("journal fault")]
+    Failed,
+}
+
+/// Runs a centre over the standard input, from what a journal tells on: an empty record gains that first. The history
+/// that this leads to is written, if a file is named for it, unless the journal fails.
+///
+/// # Errors
+///
+/// `Journal`, where the journal is not opened, or fails; `Memory`; `Session`; `History`.
+pub(crate) fn run_kept(
+    rt: &(impl Files<File = File> + Input + Print + AllocGlobal + Threads + Sync),
+    journal: &str,
+    history: Option<&str>,
+    empty: Record,
+) -> Result<(), Failure>
+    requires { empty.entries ≡ [] }
+{
+    let alloc = rt.alloc();
+    let (bytes, device) = rbc_journal_file::open(rt, journal)?;
+    if !is_journal(bytes.as_slice()) {
+        return Err(Failure::Journal(JournalFault::Foreign(1)));
+    }
+    let mut kept = match Kept::open(rt, alloc, empty, bytes.as_slice(), device) {
+        Ok(kept) => kept,
+        Err((fault, _)) => return Err(fault.into()),
+    };
+    let ended = rbc_kept::run(
+        rt,
+        alloc,
+        &mut Stream::reader(rt.reader()),
+        &mut Stream::writer(alloc, io::writer(rt))?,
+        &mut kept,
+    );
+    let written = match (history, kept.history()) {
+        (Some(path), Some(history)) => write_history(rt, path, history),
+        _ => Ok(()),
+    };
+    ended?;
+    written
+}
+
+/// How many bytes a file has at most whose first gate is still closed: a line was being put behind it.
+const MOST_TORN: usize = 128;
+
+/// Whether a centre may have left these bytes, however it ended: else they are not to be cut. Of one byte alone the first
+/// write of a journal may have made any.
+fn is_journal(bytes: &[u8]) -> bool {
+    match bytes {
+        [] | [_] => true,
+        [first, ..] => *first == b' ' || *first == b'#' && bytes.len() <= MOST_TORN,
+    }
+}

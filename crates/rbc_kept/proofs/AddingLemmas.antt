@@ -1,0 +1,169 @@
+-- Lines and the entries that they add to the history of a centre.
+use Rattle.std.proofs.Common.{◌≡◌, ℕ, zero, suc, ◌<◌, Bool, true, false, List, [], ◌∷◌, ◌++◌, length, Option, Some, None, Result, Ok, refl, sym, ap, ◌∙◌, subst, arith, append-nil, append_assoc, nat_lt, Err}
+use Rattle.std.specs.Bool.{MatchBool}
+use Rattle.std.specs.Prelude.{slice_get, take, IfOk, OnErr}
+use Rattle.std.specs.Result.{result_map_both}
+use Rattle.std.proofs.lemmas.Bool.{ltb-true, lt-ltb}
+use Rattle.std.proofs.lemmas.List.{length-append}
+use Rattle.rbc_journal.specs.Journal.{recovered}
+use Rattle.rbc_model.specs.Results.{◌>>=◌}
+use Rattle.rbc_model.specs.Tracks.{Track}
+use Rattle.rbc_model.specs.SoundTracks.{IsInForm}
+use Rattle.rbc_model.specs.Histories.{Entry}
+use Rattle.rbc_model.specs.HistoryText.{entry_line}
+use Rattle.rbc_model.specs.SessionText.{parse_session}
+use Rattle.rbc_model.specs.SessionReply.{BadLine, Memory, refused_reply}
+use Rattle.rbc_server.proofs.CentreLemmas.{line_comes}
+use Rattle.rbc_server.specs.Changes.{Comes, Goes}
+use Rattle.rbc_server.specs.Records.{HistoryOnTrack, with_entry}
+use Rattle.rbc_session_laws.specs.declared.demand.Demand.TheVariants.{Authority}
+use Rattle.rbc_session_laws.specs.Demands.{looked_up, demand_in}
+use Rattle.rbc_session_laws.specs.Turns.{AnswersAuthority, AnswersLine}
+use Rattle.rbc_session_laws.specs.Answers.{Answer, demand_answer, line_answer}
+use Rattle.rbc_session_laws.proofs.LineLemmas.{lines_are_answered, given_up_adds_none}
+use Rattle.rbc_session_laws.proofs.RetellingLemmas.{entries_are_told_again}
+use Rattle.rbc_kept.specs.Adds.{Adds, Gains, GainsGrant}
+use Rattle.rbc_kept.specs.Laws.{AreRetold}
+use Rattle.rbc_kept.specs.Tells.{Tells}
+use Rattle.rbc_kept.proofs.TellingLemmas.{Goes as Replays, goes_on}
+
+-- ---- a line that adds an entry
+
+some_is_none : (entry : Entry) → (let o : Option Entry = Some entry in o) ≡ None → ⊥
+some_is_none entry e = cc
+
+-- the entry that an answer adds is the one that the line adds
+pub adds_of : (track : Track) (before : List Entry) (line reply : List ℕ) (entry : Entry) → IsInForm track → AnswersLine track before line reply (Some entry) → Adds track before line entry
+adds_of track before line reply entry form answers =
+    let heard = λ (lost : reply ≡ refused_reply track Memory). some_is_none entry (given_up_adds_none track before line reply (Some entry) answers lost) in
+    let is = lines_are_answered track before line reply (Some entry) form answers heard in
+    sym is.1
+
+-- what says the same adds the same
+pub same_adds : (track : Track) (before : List Entry) (line text : List ℕ) (entry : Entry) → parse_session text ≡ parse_session line → Adds track before line entry → Adds track before text entry
+unfolding line_answer
+same_adds track before line text entry says adds =
+    ap (λ read. (demand_answer track before (result_map_both (λ said. said) BadLine read >>= looked_up track)).added) says ∙ adds
+
+longer : (entries : List Entry) → length entries < length (entries ++ []) → ⊥
+longer entries more = let same = length-append entries (let none : List Entry = [] in none) in absurd (omega (arith, more, same))
+
+-- where there are more entries, the line has added one
+pub grown : (before after : HistoryOnTrack) (line reply : List ℕ) → Goes before line reply after → length before.entries < length after.entries
+    → (entry : Entry) × AnswersLine before.track before.entries line reply (Some entry) × (after ≡ with_entry before entry)
+grown before after line reply (None, answers, is) more =
+    absurd (longer before.entries (subst (λ (h : HistoryOnTrack). length before.entries < length h.entries) is more))
+grown before after line reply (Some entry, answers, is) more = (entry, answers, is)
+
+shorter : (entries : List Entry) (entry : Entry) → (length entries < length (entries ++ entry ∷ []) → ⊥) → ⊥
+shorter entries entry no_more = let count = length-append entries (entry ∷ []) in no_more (omega (arith, count))
+
+-- else it has added none
+pub not_grown : (before after : HistoryOnTrack) (line reply : List ℕ) → Goes before line reply after → (length before.entries < length after.entries → ⊥) → after ≡ before
+not_grown before after line reply (None, answers, is) no_more = is ∙ ap (λ entries. record { track = before.track; entries = entries }) (append-nil before.entries)
+not_grown before after line reply (Some entry, answers, is) no_more =
+    absurd (shorter before.entries entry (λ more. no_more (subst (λ (h : HistoryOnTrack). length before.entries < length h.entries) (sym is) more)))
+
+both : (b : Bool) → b ≡ false → b ≡ true → ⊥
+both b low high = cc
+
+pub gains : (before after : HistoryOnTrack) (line reply : List ℕ) (is_added : Bool) → IsInForm before.track → Goes before line reply after
+    → is_added ≡ nat_lt (length before.entries) (length after.entries) → MatchBool is_added (Gains before line after) (after ≡ before)
+gains before after line reply true form goes is =
+    let g = grown before after line reply goes (ltb-true (length before.entries) (length after.entries) (sym is)) in
+    (g.0, adds_of before.track before.entries line reply g.0 form g.1, g.2)
+gains before after line reply false form goes is =
+    not_grown before after line reply goes (λ more. no_more (length before.entries) (length after.entries) more (sym is))
+  where
+    no_more : (a b : ℕ) → a < b → nat_lt a b ≡ false → ⊥
+    no_more a b less least = both (nat_lt a b) least (lt-ltb a b less)
+
+-- by the versions of the record before and after it
+pub gains_at : (before after : HistoryOnTrack) (line reply : List ℕ) (m n : ℕ) → IsInForm before.track → Goes before line reply after → m ≡ length before.entries → n ≡ length after.entries
+    → MatchBool (nat_lt m n) (Gains before line after) (after ≡ before)
+gains_at before after line reply m n form goes first last =
+    subst (λ k. MatchBool (nat_lt k n) (Gains before line after) (after ≡ before)) (sym first)
+    (subst (λ k. MatchBool (nat_lt (length before.entries) k) (Gains before line after) (after ≡ before)) (sym last)
+    (gains before after line reply (nat_lt (length before.entries) (length after.entries)) form goes refl))
+
+not_less : (m n : ℕ) → m < n → nat_lt m n ≡ false → ⊥
+not_less m n less least = both (nat_lt m n) least (lt-ltb m n less)
+
+gains_grant_by : (before after : HistoryOnTrack) (train : ℕ) (reply : List ℕ) (is_added : Bool) → IsInForm before.track
+    → Comes (λ track entries said added. AnswersAuthority track entries said added train) before reply after
+    → is_added ≡ nat_lt (length before.entries) (length after.entries) → MatchBool is_added (GainsGrant before train after) (after ≡ before)
+gains_grant_by before after train reply true form comes is =
+    λ line asks. gains before after line reply true form (line_comes before after line reply (Ok (Authority train)) before.track refl (sym asks) comes) is
+gains_grant_by before after train reply false form (None, answers, same) is = same ∙ ap (λ entries. record { track = before.track; entries = entries }) (append-nil before.entries)
+gains_grant_by before after train reply false form (Some entry, answers, same) is =
+    absurd (shorter before.entries entry (λ more. not_less (length before.entries) (length after.entries) (subst (λ (h : HistoryOnTrack). length before.entries < length h.entries) (sym same) more) (sym is)))
+
+pub gains_grant : (before after : HistoryOnTrack) (train asker : ℕ) (reply : List ℕ) (m n : ℕ) → IsInForm before.track
+    → Comes (λ track entries said added. AnswersAuthority track entries said added train) before reply after → train ≡ asker → m ≡ length before.entries → n ≡ length after.entries
+    → MatchBool (nat_lt m n) (GainsGrant before asker after) (after ≡ before)
+gains_grant before after train asker reply m n form comes same first last =
+    subst (λ k. MatchBool (nat_lt k n) (GainsGrant before asker after) (after ≡ before)) (sym first)
+    (subst (λ k. MatchBool (nat_lt (length before.entries) k) (GainsGrant before asker after) (after ≡ before)) (sym last)
+    (subst (λ t. MatchBool (nat_lt (length before.entries) (length after.entries)) (GainsGrant before t after) (after ≡ before)) same
+    (gains_grant_by before after train reply (nat_lt (length before.entries) (length after.entries)) form comes refl)))
+
+-- what was found out is told
+pub told_added : {E : Type 0} (result : Result Bool E) (is_added : Bool) (P : Bool → Type 0) → IfOk result (λ told. told ≡ is_added) → P is_added → IfOk result P
+told_added (Ok told) is_added P is p = subst P (sym is) p
+told_added (Err fault) is_added P is p = tt
+
+pub told_not_added : {E : Type 0} (result : Result Bool E) (is_added : Bool) (X Y : Type 0) → OnErr result (is_added ≡ false) → MatchBool is_added Y X → OnErr result X
+told_not_added (Ok told) is_added X Y is found = tt
+told_not_added (Err fault) is_added X Y is found = subst (λ b. MatchBool b Y X) is found
+
+-- a train that asks by a line is granted what it is granted
+pub granted_gains : (before after : HistoryOnTrack) (line : List ℕ) (train : ℕ) (is_added : Bool) → demand_in before.track line ≡ Ok (Authority train)
+    → MatchBool is_added (GainsGrant before train after) (after ≡ before) → MatchBool is_added (Gains before line after) (after ≡ before)
+granted_gains before after line train true asks found = found line asks
+granted_gains before after line train false asks found = found
+
+pub granted_told : {E : Type 0} (result : Result Bool E) (before after : HistoryOnTrack) (line : List ℕ) (train : ℕ) → demand_in before.track line ≡ Ok (Authority train)
+    → IfOk result (λ is_added. MatchBool is_added (GainsGrant before train after) (after ≡ before)) → IfOk result (λ is_added. MatchBool is_added (Gains before line after) (after ≡ before))
+granted_told (Ok told) before after line train asks found = granted_gains before after line train told asks found
+granted_told (Err fault) before after line train asks found = tt
+
+pub gained : (before after : HistoryOnTrack) (line : List ℕ) (is_added : Bool) → is_added ≡ true → MatchBool is_added (Gains before line after) (after ≡ before) → Gains before line after
+gained before after line is_added is found = subst (λ b. MatchBool b (Gains before line after) (after ≡ before)) is found
+
+pub not_gained : (before after : HistoryOnTrack) (line : List ℕ) (is_added : Bool) → is_added ≡ false → MatchBool is_added (Gains before line after) (after ≡ before) → after ≡ before
+not_gained before after line is_added is found = subst (λ b. MatchBool b (Gains before line after) (after ≡ before)) is found
+
+-- one line more of a file
+pub replays_on : (track : Track) (before after : HistoryOnTrack) (file rest further line : List ℕ) → before.track ≡ track → recovered rest ≡ line ∷ recovered further
+    → Gains before line after → Replays (Adds track) file before.entries rest → Replays (Adds track) file after.entries further
+replays_on track before after file rest further line same reads g so_far =
+    goes_on (Adds track) file rest further line before.entries after.entries reads
+    (g.0, subst (λ t. Adds t before.entries line g.0) same g.1, ap (λ (h : HistoryOnTrack). h.entries) g.2) so_far
+
+-- ---- what a file stands for is retold
+
+the_same : (a b : Entry) → (let o : Option Entry = Some a in o) ≡ Some b → a ≡ b
+the_same a b e = cc
+
+none_is_some : (b : Entry) → (let o : Option Entry = None in o) ≡ Some b → ⊥
+none_is_some b e = cc
+
+module _ (track : Track) where
+  retold_behind : (before : List Entry) (lines : List (List ℕ)) (entries : List Entry) → Tells (Adds track) before lines entries
+      → (place : ℕ) (entry : Entry) → slice_get entries place ≡ Some entry → (line_answer track (before ++ take place entries) (entry_line track entry)).added ≡ Some entry
+  retold_behind before [] entries told place entry here =
+      absurd (none_is_some entry (subst (λ (l : List Entry). slice_get l place ≡ Some entry) told here))
+  retold_behind before (line ∷ lines) entries (e, rest, is, adds, later) zero entry here =
+      let found : slice_get (e ∷ rest) 0 ≡ Some entry = subst (λ (l : List Entry). slice_get l 0 ≡ Some entry) is here in
+      let again : (line_answer track before (entry_line track e)).added ≡ Some e = ap (λ (a : Answer). a.added) (entries_are_told_again track before line e adds) ∙ adds in
+      subst (λ (l : List Entry). (line_answer track (before ++ take 0 l) (entry_line track entry)).added ≡ Some entry) (sym is)
+      (subst (λ (x : Entry). (line_answer track (before ++ []) (entry_line track x)).added ≡ Some x) (the_same e entry found)
+      (subst (λ (b : List Entry). (line_answer track b (entry_line track e)).added ≡ Some e) (sym (append-nil before)) again))
+  retold_behind before (line ∷ lines) entries (e, rest, is, adds, later) (suc place) entry here =
+      let found : slice_get rest place ≡ Some entry = subst (λ (l : List Entry). slice_get l (suc place) ≡ Some entry) is here in
+      subst (λ (l : List Entry). (line_answer track (before ++ take (suc place) l) (entry_line track entry)).added ≡ Some entry) (sym is)
+      (subst (λ (b : List Entry). (line_answer track b (entry_line track entry)).added ≡ Some entry) (append_assoc before (e ∷ []) (take place rest))
+      (retold_behind (before ++ e ∷ []) lines rest later place entry found))
+
+pub are_retold : AreRetold
+are_retold track file entries told = retold_behind track [] (recovered file) entries told

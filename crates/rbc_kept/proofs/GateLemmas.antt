@@ -1,0 +1,93 @@
+-- The gate in front of a line changes nothing of what the line says: so a journal at rest is a session.
+use Rattle.std.proofs.Common.{◌≡◌, ℕ, suc, ◌-◌, ◌<◌, ◌==◌, Bool, true, false, not, cond, List, [], ◌∷◌, ◌++◌, length, map, take, Option, Some, None, Result, Ok, Err, refl, sym, ap, ap₂, ◌∙◌, arith, nat_lt}
+use Rattle.std.specs.Prelude.{slice_index}
+use Rattle.std.specs.List.{AllByRecursion}
+use Rattle.std.specs.Option.{option_map_or}
+use Rattle.std.specs.Result.{result_map_both}
+use Rattle.std.proofs.lemmas.List.Elements.{recursion_from_All}
+use Rattle.rbc_journal.specs.Journal.{at_rest}
+use Rattle.rbc_journal.specs.Sessions.{lines_of as lines_in, with_front as with_first}
+use Rattle.rbc_journal.proofs.SessionLemmas.{at_rest_lines}
+use Rattle.rbc_model.specs.declared.limits.TheConstants.{LONGEST_LINE}
+use Rattle.rbc_model.specs.declared.refusals.LineFault.{LineFault}
+use Rattle.rbc_model.specs.declared.refusals.LineFault.TheVariants.{Overlong, NotText}
+use Rattle.rbc_model.specs.RequestText.{request_words}
+use Rattle.rbc_model.specs.Results.{◌>>=◌}
+use Rattle.rbc_model.specs.Sessions.{lines_of, with_front}
+use Rattle.rbc_model.specs.SessionText.{SessionLine, Blank, words_line}
+use Rattle.rbc_model.specs.SessionReply.{BadLine}
+use Rattle.rbc_model.specs.Tracks.{Track}
+use Rattle.rbc_model.specs.Histories.{Entry}
+use Rattle.rbc_model.specs.Words.{without_return, words_of, is_blank, is_text}
+use Rattle.rbc_session_laws.specs.Answers.{Answer, demand_answer, line_answer, turns_of}
+use Rattle.rbc_session_laws.specs.Demands.{looked_up}
+use Rattle.rbc_session_laws.specs.SessionRuns.{entries_added}
+use Rattle.rbc_kept.specs.Adds.{Adds}
+use Rattle.rbc_kept.specs.Laws.{JournalsAreSessions}
+use Rattle.rbc_kept.specs.Tells.{Tells}
+
+-- ---- what a line says
+
+in_both : (b : Bool) (x y : List ℕ) → cond b (32 ∷ x) (32 ∷ y) ≡ 32 ∷ cond b x y
+in_both true x y = refl
+in_both false x y = refl
+
+without_return-gate : (line : List ℕ) → without_return (32 ∷ line) ≡ 32 ∷ without_return line
+without_return-gate [] = refl
+without_return-gate (byte ∷ line) =
+    let last : length (32 ∷ byte ∷ line) - 1 ≡ suc (length line) = omega arith in
+    let same : length (byte ∷ line) - 1 ≡ length line = omega arith in
+    rw (last, same) (in_both (slice_index (byte ∷ line) (length line) == 13) (take (length line) (byte ∷ line)) (byte ∷ line))
+
+-- the words of a line that is too long or not, by what it is without its carriage return
+abbrev words_read : Bool → List ℕ → Result (Option (List (List ℕ))) LineFault
+words_read long stripped =
+    cond long (Err Overlong) (cond (is_blank (words_of stripped)) (Ok None) (cond (not (is_text stripped)) (Err NotText) (Ok (Some (words_of stripped)))))
+
+fits : (n : ℕ) → n < LONGEST_LINE → nat_lt LONGEST_LINE n ≡ false
+fits n short = grind arith
+
+request_words-gate : (line : List ℕ) → length line < LONGEST_LINE → request_words (32 ∷ line) ≡ request_words line
+request_words-gate line short =
+    let behind : nat_lt LONGEST_LINE (length (32 ∷ line)) ≡ false = grind arith in
+    ap₂ words_read behind (without_return-gate line) ∙ ap (λ long. words_read long (without_return line)) (sym (fits (length line) short))
+
+line_answer-gate : (track : Track) (before : List Entry) (line : List ℕ) → length line < LONGEST_LINE → line_answer track before (32 ∷ line) ≡ line_answer track before line
+unfolding line_answer
+line_answer-gate track before line short =
+    ap (λ read. demand_answer track before (result_map_both (λ said. said) BadLine (read >>= (λ found. words_or_blank found)) >>= looked_up track)) (request_words-gate line short)
+  where
+    words_or_blank : Option (List (List ℕ)) → Result SessionLine LineFault
+    words_or_blank found = option_map_or words_line found (Ok Blank)
+
+-- ---- the lines of a file
+
+same_front : (byte : ℕ) (lines : List (List ℕ)) → with_front byte lines ≡ with_first byte lines
+same_front byte [] = refl
+same_front byte (line ∷ lines) = refl
+
+same_lines : (file : List ℕ) → lines_of file ≡ lines_in file
+same_lines [] = refl
+same_lines (byte ∷ file) =
+    ap (λ (lines : List (List ℕ)). cond (byte == 10) ([] ∷ lines) (with_front byte lines)) (same_lines file)
+    ∙ ap (λ (lines : List (List ℕ)). cond (byte == 10) ([] ∷ lines_in file) lines) (same_front byte (lines_in file))
+
+-- ---- what they lead to
+
+module _ (track : Track) where
+  nothing_said : (before : List Entry) → (line_answer track before (35 ∷ [])).added ≡ None
+  unfolding line_answer
+  nothing_said before = refl
+
+  leads : (before : List Entry) (lines : List (List ℕ)) (entries : List Entry) → AllByRecursion (λ line. length line < LONGEST_LINE) lines → Tells (Adds track) before lines entries
+      → entries_added (turns_of track before (map (λ line. 32 ∷ line) lines ++ (35 ∷ []) ∷ [])) ≡ entries
+  unfolding turns_of
+  leads before [] entries short told = rw (nothing_said before) (sym told)
+  leads before (line ∷ lines) entries short (entry, rest, is, adds, later) =
+      let said : (line_answer track before (32 ∷ line)).added ≡ Some entry = ap (λ (a : Answer). a.added) (line_answer-gate track before line short.0) ∙ adds in
+      rw said (ap (λ (l : List Entry). entry ∷ l) (leads (before ++ entry ∷ []) lines rest short.1 later) ∙ sym is)
+
+pub journals_are_sessions : JournalsAreSessions
+journals_are_sessions track lines entries are short told =
+    ap (λ (all : List (List ℕ)). entries_added (turns_of track [] all)) (same_lines (at_rest lines) ∙ at_rest_lines lines are)
+    ∙ leads track [] lines entries (recursion_from_All (λ line. length line < LONGEST_LINE) lines short) told

@@ -1,0 +1,124 @@
+-- What a line asks for, treated.
+use Rattle.std.proofs.Common.{◌≡◌, ℕ, ◌<◌, ◌&&◌, List, [], ◌∷◌, true, false, nat_le, arith, length, None, Result, Ok, Err, refl, sym, ap, ◌∙◌, subst, append-nil, inr}
+use Rattle.std.specs.Prelude.{◌≢◌}
+use Rattle.std.specs.List.{AllByRecursion, list_all}
+use Rattle.std.specs.Result.{result_map_both}
+use Rattle.std.proofs.lemmas.List.Elements.{All-from_recursion}
+use Rattle.rbc_journal.specs.Journal.{IsLine}
+use Rattle.rbc_model.proofs.CountingLemmas.{both_of}
+use Rattle.rbc_model.proofs.SaidLineLemmas.{said_is_text}
+use Rattle.rbc_journal.specs.Settled.{IsSettled, staged}
+use Rattle.std.proofs.lemmas.Bool.{leb-true, lt-ltb}
+use Rattle.rbc_model.specs.declared.limits.TheConstants.{LONGEST_LINE}
+use Rattle.rbc_model.specs.declared.refusals.LineFault.{LineFault}
+use Rattle.rbc_model.specs.declared.refusals.LineFault.TheVariants.{Overlong}
+use Rattle.rbc_model.specs.Results.{◌>>=◌}
+use Rattle.rbc_model.specs.Tracks.{Track}
+use Rattle.rbc_model.specs.Views.{View, view}
+use Rattle.rbc_model.specs.SessionText.{SessionLine, parse_session, said_line, IsSayable}
+use Rattle.rbc_model.specs.SessionReply.{SessionRefusal, BadLine, refused_reply}
+use Rattle.rbc_replies.specs.Replies.{reply_text}
+use Rattle.rbc_replies.specs.declared.replies.SessionRefusal.TheVariants.{Memory as NoMemory}
+use Rattle.rbc_replies.specs.declared.replies.SessionReply.{SessionReply}
+use Rattle.rbc_replies.specs.declared.replies.SessionReply.TheVariants.{Refused as RefusedReply}
+use Rattle.rbc_server.specs.Changes.{Comes, Goes}
+use Rattle.rbc_server.specs.Records.{HistoryOnTrack, scene_now}
+use Rattle.rbc_server.proofs.CentreLemmas.{line_comes, printed_comes, refused_comes}
+use Rattle.rbc_session_laws.specs.declared.demand.Demand.{Demand}
+use Rattle.rbc_session_laws.specs.declared.demand.Demand.TheVariants.{Nothing, Authority}
+use Rattle.rbc_session_laws.specs.Demands.{looked_up, demand_in}
+use Rattle.rbc_session_laws.specs.Turns.{AnswersAsker, AnswersDemand}
+use Rattle.rbc_kept.specs.Advances.{Advances, IsTreated}
+use Rattle.rbc_kept.specs.Kept.{IsReady}
+use Rattle.rbc_kept.specs.declared.kept.Kept.{Kept}
+use Rattle.rbc_kept.proofs.KeepingLemmas.{stays}
+
+-- what is asked for comes to this
+abbrev pub ComesTo : Result Demand SessionRefusal → HistoryOnTrack → List ℕ → HistoryOnTrack → Type 0
+ComesTo demand before reply after = Comes (λ track entries said added. AnswersDemand track entries said added demand) before reply after
+
+-- a line asks for what the request in it does
+pub demand_said : (track : Track) (line : List ℕ) (said : SessionLine) → parse_session line ≡ Ok said → demand_in track line ≡ looked_up track said
+demand_said track line said read = ap (λ r. result_map_both (λ x. x) BadLine r >>= looked_up track) read
+
+-- what a request asks for, as it was found
+pub asked : (track other : Track) (said : SessionLine) (found demand : Demand) → track ≡ other → found ≡ demand → Ok found ≡ looked_up track said → looked_up other said ≡ Ok demand
+asked track other said found demand is same e =
+    subst (λ t. looked_up t said ≡ Ok demand) is (sym (subst (λ d. Ok d ≡ looked_up track said) same e))
+
+-- a blank line comes to nothing
+pub nothing_comes : (history : HistoryOnTrack) → ComesTo (Ok Nothing) history [] history
+nothing_comes history = (None, (refl, refl), ap (λ entries. record { track = history.track; entries = entries }) (sym (append-nil history.entries)))
+
+-- a train that is shown a view is given up where there is no memory
+pub given_up : (first now : HistoryOnTrack) (train : ℕ) (shown : View) → now ≡ first → view first.track (scene_now first) train ≡ Ok shown
+    → ComesTo (Ok (Authority train)) now (reply_text now.track (RefusedReply NoMemory)) now
+given_up first now train shown same is = (
+  None,
+  subst (AnswersAsker now.track now.entries (reply_text now.track (RefusedReply NoMemory)) None train)
+      (sym (subst (λ (h : HistoryOnTrack). view h.track (scene_now h) train ≡ Ok shown) (sym same) is)) (inr (refl, refl)),
+  ap (λ entries. record { track = now.track; entries = entries }) (sym (append-nil now.entries)),
+)
+
+-- what is refused when it is looked up changes nothing
+pub refused_said : (history : HistoryOnTrack) (line : List ℕ) (said : SessionLine) (refusal : SessionRefusal) (track printed : Track) → track ≡ history.track → printed ≡ history.track
+    → parse_session line ≡ Ok said → Err refusal ≡ looked_up track said → Goes history line (refused_reply printed refusal) history
+refused_said history line said refusal track printed is also read e =
+    refused_comes history line refusal track printed is also (e ∙ sym (demand_said track line said read))
+
+pub goes_by : (before after : HistoryOnTrack) (line reply : List ℕ) (said : SessionLine) (demand : Result Demand SessionRefusal) → parse_session line ≡ Ok said
+    → looked_up before.track said ≡ demand → ComesTo demand before reply after → Goes before line reply after
+goes_by before after line reply said demand read asks comes =
+    line_comes before after line reply demand before.track refl (sym (demand_said before.track line said read ∙ asks)) comes
+
+pub treated_by : (first before after : HistoryOnTrack) (line text : List ℕ) (said : SessionLine) (demand : Result Demand SessionRefusal) (reply : SessionReply) → before ≡ first
+    → parse_session line ≡ Ok said → parse_session text ≡ Ok said → looked_up first.track said ≡ demand → ComesTo demand before (reply_text before.track reply) after
+    → IsTreated first after line text (reply_text after.track reply)
+treated_by first before after line text said demand reply same read says asks comes =
+    let from_first = subst (λ (h : HistoryOnTrack). ComesTo demand h (reply_text h.track reply) after) same comes in
+    record {
+      goes = goes_by first after line (reply_text after.track reply) said demand read asks
+          (printed_comes (λ track entries s added. AnswersDemand track entries s added demand) first after reply after.track refl from_first);
+      says = says ∙ sym read;
+    }
+
+module _ {D : Type 0} (seen : D → List ℕ) (may_leave : D → List ℕ → Type 0) (moment : D → ℕ) (left_since : D → ℕ → List ℕ → Type 0) (faults : D → ℕ)
+    (only_now : (file : D) (c : List ℕ) → left_since file (moment file) c → may_leave file c) where
+  -- nothing is added, and the reply is printed with the names of the track
+  pub stays_by : (first now : Kept D) (line : List ℕ) (said : SessionLine) (demand : Result Demand SessionRefusal) (reply : SessionReply) (track : Track)
+      → IsReady seen may_leave first → now.history ≡ first.history → now.has_failed ≡ false → now.journal.device ≡ first.journal.device
+      → IsSettled seen may_leave now.journal → staged now.journal ≡ [] → parse_session line ≡ Ok said → looked_up first.history.track said ≡ demand → track ≡ now.history.track
+      → ComesTo demand now.history (reply_text now.history.track reply) now.history → Advances seen may_leave moment left_since faults first line (reply_text track reply) now
+  stays_by first now line said demand reply track ready same whole device settled none read asks names comes =
+      let printed = printed_comes (λ t entries s added. AnswersDemand t entries s added demand) now.history now.history reply track names comes in
+      stays seen may_leave moment left_since faults only_now first now line (reply_text track reply) ready same whole device settled none
+      (goes_by first.history now.history line (reply_text track reply) said demand read asks
+      (subst (λ (h : HistoryOnTrack). ComesTo demand h (reply_text track reply) now.history) same printed))
+
+-- ---- lines that are refused before they are looked up
+
+pub refused_goes : (history : HistoryOnTrack) (line : List ℕ) (fault : LineFault) (track : Track) → track ≡ history.track → parse_session line ≡ Err fault
+    → Goes history line (refused_reply track (BadLine fault)) history
+refused_goes history line fault track is read =
+    refused_comes history line (BadLine fault) history.track track refl is (sym (ap (λ r. result_map_both (λ x. x) BadLine r >>= looked_up history.track) read))
+
+pub overlong_goes : (history : HistoryOnTrack) (line : List ℕ) (track : Track) → track ≡ history.track → LONGEST_LINE < length line
+    → Goes history line (refused_reply track (BadLine Overlong)) history
+overlong_goes history line track is long =
+    let read : parse_session line ≡ Err Overlong = rw (lt-ltb LONGEST_LINE (length line) long) refl in
+    refused_goes history line Overlong track is read
+
+-- ---- the line of a request has no line feed
+
+no_feed : (bytes : List ℕ) → list_all (λ byte. nat_le 0x20 byte && nat_le byte 0x7e) bytes ≡ true → AllByRecursion (λ byte. byte ≢ 10) bytes
+no_feed [] is = tt
+no_feed (byte ∷ bytes) is =
+    let both = both_of (nat_le 0x20 byte && nat_le byte 0x7e) (list_all (λ b. nat_le 0x20 b && nat_le b 0x7e) bytes) is in
+    let low = both_of (nat_le 0x20 byte) (nat_le byte 0x7e) both.0 in
+    (above byte low.0, no_feed bytes both.1)
+  where
+    above : (n : ℕ) → nat_le 0x20 n ≡ true → n ≡ 10 → ⊥
+    above n low same = let le = leb-true 32 n low in absurd (omega arith)
+
+pub said_is_line : (said : SessionLine) → IsSayable said → IsLine (said_line said)
+said_is_line said sayable = All-from_recursion (λ byte. byte ≢ 10) (said_line said) (no_feed (said_line said) (said_is_text said sayable))

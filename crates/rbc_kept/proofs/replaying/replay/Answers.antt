@@ -1,0 +1,23 @@
+use Rattle.std.proofs.Common.{refl, ap, ◌∙◌}
+use Rattle.rbc_server.specs.Records.{HistoryOnTrack}
+use Rattle.rbc_kept.specs.Adds.{Adds}
+use Rattle.rbc_kept.proofs.AddingLemmas.{gained, replays_on}
+use Rattle.rbc_kept.proofs.TellingLemmas.{begins, ends}
+use Rattle.rbc_kept.proofs.replaying.replay.Goals as goal
+
+pub loop-line-init : goal.loop-line-init
+loop-line-init g c = record { track = refl; goes = begins (Adds c.args.history.now.track) c.args.bytes.now c.args.history.now.entries c.requires }
+
+pub loop-line-preserved : goal.loop-line-preserved
+loop-line-preserved g c =
+    let i = c.loop-line.invariant in
+    let gains = gained c.loop-line.history c.take.new.history c.in-Some.line.now c.in_ok-take.field-0 c.if-not-branch.false c.in_ok-take.ensures.added in
+    record {
+      track = ap (λ (h : HistoryOnTrack). h.track) gains.2 ∙ i.track;
+      goes = replays_on c.args.history.now.track c.loop-line.history c.take.new.history c.args.bytes.now c.loop-line.rest.now c.in-Some.after.now c.in-Some.line.now i.track c.in-Some.ensures.line gains i.goes;
+    }
+
+pub returns-clause-told : goal.returns-clause-told
+returns-clause-told g c =
+    let i = c.loop-line.invariant in
+    ends (Adds c.args.history.now.track) c.args.bytes.now c.loop-line.rest.now c.loop-line.history.entries c.in_default.ensures.none i.goes

@@ -1,0 +1,66 @@
+use Rattle.std.proofs.Common.{◌∙◌, sym}
+use Rattle.std.specs.Io.KnownBytes.{IsAtEnd}
+use Rattle.rbc_server.specs.Answered.{AnswersAll}
+use Rattle.rbc_kept.proofs.EndLemmas.{read_told, write_told, journal_told, broken_told, memory_told, ok_told, handed_told}
+use Rattle.rbc_kept.proofs.TalkLemmas.{leaves_in, track_in, ready_after, fails_in, kept_session, kept_answers}
+use Rattle.rbc_kept.proofs.sessions.run.Goals as goal
+
+pub returns-clause-read : goal.returns-clause-read
+returns-clause-read g c = rw c.run_end.ensures (read_told c.converse-ended.result c.converse-ended.new.answerer.has_failed _ _ c.converse-ended.ensures.read c.converse-ended.ensures.write)
+
+pub returns-clause-write : goal.returns-clause-write
+returns-clause-write g c told =
+    write_told c.converse-ended.result c.converse-ended.new.answerer.has_failed (g.W.Sink.failed c.converse-ended.new.writer) c.converse-ended.ensures.write (sym c.run_end.ensures ∙ told)
+
+pub returns-clause-journal : goal.returns-clause-journal
+returns-clause-journal g c = rw c.run_end.ensures (journal_told c.converse-ended.result c.converse-ended.new.answerer.has_failed)
+
+pub returns-clause-failed : goal.returns-clause-failed
+returns-clause-failed g c told =
+    fails_in g.D.Device.seen g.D.Device.may_leave g.D.Device.moment g.D.Device.left_since g.D.Device.faults g.met.D.Device.only_now g.met.D.Device.counts_now
+    c.args.kept.now c.converse-ended.new.answerer c.converse-ended.ensures.talk.0 _ _ c.converse-ended.result c.requires.ready c.converse-ended.ensures.talk.2
+    (broken_told c.converse-ended.result c.converse-ended.new.answerer.has_failed (sym c.run_end.ensures ∙ told))
+
+pub returns-clause-memory : goal.returns-clause-memory
+returns-clause-memory g c told = c.converse-ended.ensures.memory (memory_told c.converse-ended.result c.converse-ended.new.answerer.has_failed (sym c.run_end.ensures ∙ told))
+
+pub returns-clause-end : goal.returns-clause-end
+returns-clause-end g c =
+    rw c.run_end.ensures (ok_told c.converse-ended.result c.converse-ended.new.answerer.has_failed (IsAtEnd (g.R.Source.left c.converse-ended.new.reader)) (λ whole. c.converse-ended.ensures.end))
+
+pub returns-clause-ready : goal.returns-clause-ready
+returns-clause-ready g c whole =
+    ready_after g.D.Device.seen g.D.Device.may_leave g.D.Device.moment g.D.Device.left_since g.D.Device.faults g.met.D.Device.only_now g.met.D.Device.counts_now
+    c.args.kept.now c.converse-ended.new.answerer c.converse-ended.ensures.talk.0 _ _ c.converse-ended.result c.requires.ready c.converse-ended.ensures.talk.2 whole
+
+pub returns-clause-any_moment : goal.returns-clause-any_moment
+returns-clause-any_moment g c =
+    leaves_in g.D.Device.seen g.D.Device.may_leave g.D.Device.moment g.D.Device.left_since g.D.Device.faults g.met.D.Device.only_now g.met.D.Device.counts_now
+    c.args.kept.now c.converse-ended.new.answerer c.converse-ended.ensures.talk.0 _ _ c.converse-ended.result c.requires.ready c.converse-ended.ensures.talk.2
+
+pub returns-clause-track : goal.returns-clause-track
+returns-clause-track g c =
+    track_in g.D.Device.seen g.D.Device.may_leave g.D.Device.moment g.D.Device.left_since g.D.Device.faults g.met.D.Device.only_now g.met.D.Device.counts_now
+    c.args.kept.now c.converse-ended.new.answerer c.converse-ended.ensures.talk.0 _ _ c.converse-ended.result c.requires.ready c.converse-ended.ensures.talk.2
+
+pub returns-clause-session : goal.returns-clause-session
+returns-clause-session g c = (
+  c.converse-ended.ensures.talk.0,
+  c.converse-ended.ensures.talk.1,
+  rw c.run_end.ensures
+      (kept_session g.D.Device.seen g.D.Device.may_leave g.D.Device.moment g.D.Device.left_since g.D.Device.faults g.met.D.Device.only_now g.met.D.Device.counts_now
+      c.args.kept.now c.converse-ended.new.answerer c.converse-ended.ensures.talk.0 _ _ c.converse-ended.result (g.W.Sink.failed c.converse-ended.new.writer) c.requires.ready c.converse-ended.ensures.talk.2 c.converse-ended.ensures.write),
+)
+
+pub returns-clause-answers : goal.returns-clause-answers
+returns-clause-answers g c =
+    rw c.run_end.ensures
+    (ok_told c.converse-ended.result c.converse-ended.new.answerer.has_failed
+    (AnswersAll c.args.kept.now.history c.converse-ended.new.answerer.history (g.R.Source.left c.args.reader.now) (g.W.Sink.written c.args.writer.now) (g.W.Sink.written c.converse-ended.new.writer))
+    (λ whole.
+    kept_answers g.D.Device.seen g.D.Device.may_leave g.D.Device.moment g.D.Device.left_since g.D.Device.faults g.met.D.Device.only_now g.met.D.Device.counts_now
+    c.args.kept.now c.converse-ended.new.answerer c.converse-ended.ensures.talk.0 _ _ _ _ c.converse-ended.result c.version-version.ensures.form c.converse-ended.ensures.end c.converse-ended.ensures.talk.1 c.converse-ended.ensures.talk.2 whole))
+
+pub returns-clause-handed_on : goal.returns-clause-handed_on
+returns-clause-handed_on g c =
+    rw c.run_end.ensures (handed_told c.converse-ended.result c.converse-ended.new.answerer.has_failed (g.W.Sink.failed c.converse-ended.new.writer) _ c.converse-ended.ensures.write c.converse-ended.ensures.handed_on)
