@@ -12,7 +12,7 @@ use Rattle.rbc.specs.declared.journal.JournalFault.TheVariants.{Foreign}
 use Rattle.rbc_trackfile.specs.declared.loading.LoadFault.{LoadFault}
 use Rattle.rbc_trackfile.specs.declared.loading.LoadFault.TheVariants.{Memory as NoLoadMemory}
 use Rattle.rbc.specs.declared.failure.Failure.{Failure}
-use Rattle.rbc.specs.declared.failure.Failure.TheVariants.{CommandLine, NotText, NotCertified, Load, Session, History, Journal, Serve, Memory as NoMemory}
+use Rattle.rbc.specs.declared.failure.Failure.TheVariants.{CommandLine, NotText, NotCertified, NotRead, Load, Session, History, Journal, Serve, Memory as NoMemory}
 
 -- after a command line that asks for help, or that is refused
 abbrev pub status_of_kind : ErrorKind → ℕ
@@ -46,6 +46,7 @@ abbrev pub status_of : Failure → ℕ
 status_of (CommandLine error) = status_of_kind (kind_of error)
 status_of NotText = 2
 status_of NotCertified = 1
+status_of NotRead = 1
 status_of (Load fault) = status_of_load fault
 status_of (Session fault) = status_of_fault fault
 status_of History = 4

@@ -14,6 +14,8 @@ pub enum Task<'a> {
     Steps,
     /// Judge the certificates of the standard input.
     Check,
+    /// Print the messages of the standard input field by field.
+    Decode,
     /// Run a centre.
     Run(Centre<'a>),
     /// Serve connections.
@@ -68,6 +70,8 @@ pub fn read<'a>(alloc: Global, words: &'a [String]) -> Result<Task<'a>, Error> {
     let check = Command::new(alloc, "check").about(
         "Tells of each certificate on standard input whether its prices show that no profile loses less",
     );
+    let decode = Command::new(alloc, "decode")
+        .about("Prints each message 3 and packet on standard input field by field, and in words");
     let run = Command::new(alloc, "run")
         .about(
             "Runs a centre on the track of a file: answers reports, locks and requests on standard input",
@@ -81,6 +85,7 @@ pub fn read<'a>(alloc: Global, words: &'a [String]) -> Result<Task<'a>, Error> {
         .subcommand_required(true)
         .subcommand(steps)?
         .subcommand(check)?
+        .subcommand(decode)?
         .subcommand(run)?
         .subcommand(serve(alloc)?)?;
     let matches = command.try_get_matches_from(words)?;
@@ -93,6 +98,9 @@ pub fn read<'a>(alloc: Global, words: &'a [String]) -> Result<Task<'a>, Error> {
     }
     if let Some(serve) = matches.subcommand_matches("serve") {
         return Ok(Task::Serve(service_in(serve)));
+    }
+    if matches.subcommand_matches("decode").is_some() {
+        return Ok(Task::Decode);
     }
     match matches.subcommand_matches("check") {
         Some(_) => Ok(Task::Check),

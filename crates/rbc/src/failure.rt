@@ -16,6 +16,8 @@ use std::io;
 
 /// The exit status after a certificate that is refused.
 const NOT_CERTIFIED: u8 = 1;
+/// The exit status after a message or packet that is refused.
+const NOT_READ: u8 = 1;
 /// The exit status after a command line that is refused.
 const REFUSED: u8 = 2;
 /// The exit status after a track that can't be had, or a journal that is not one of this track.
@@ -46,13 +48,16 @@ pub enum Failure {
     Serve(ServeFault),
     /// A certificate was refused, as the output tells.
     NotCertified,
+    /// A message or packet was refused, as the output tells.
+    NotRead,
     /// Memory was refused.
     Memory,
 }
 
 impl Failure {
-    /// The program's exit status: 0 after help, 1 for a certificate, 2 for a command line, 3 for a track or a
-    /// foreign journal, 4 for a fault of a session, of a port, or of the file of a history or of a journal, 5 for want of memory and 6 for receipts that are not the history.
+    /// The program's exit status: 0 after help, 1 for a certificate, message or packet, 2 for a command line, 3 for a track or
+    /// a foreign journal, 4 for a fault of a session, of a port, or of the file of a history or of a journal, 5 for want of
+    /// memory and 6 for receipts that are not the history.
     pub fn status(&self) -> u8
         ensures { result ≡ status_of self.now }
     {
@@ -63,6 +68,7 @@ impl Failure {
             },
             Failure::NotText => REFUSED,
             Failure::NotCertified => NOT_CERTIFIED,
+            Failure::NotRead => NOT_READ,
             Failure::Load(LoadFault::Memory)
             | Failure::Session(SessionFault::Memory)
             | Failure::Serve(ServeFault::Memory)
@@ -87,7 +93,7 @@ impl Failure {
             Failure::History => eprintln!(rt; "rbc: history: Unwritable"),
             Failure::Journal(fault) => eprintln!(rt; "rbc: {fault}"),
             Failure::Serve(fault) => eprintln!(rt; "rbc: {fault}"),
-            Failure::NotCertified => Ok(()),
+            Failure::NotCertified | Failure::NotRead => Ok(()),
             Failure::Memory => eprintln!(rt; "rbc: out of memory"),
         };
     }

@@ -14,6 +14,7 @@ pub use journal::JournalFault;
 use journal::run_kept;
 pub use rbc_certifier::steps;
 pub use rbc_checks::check;
+pub use rbc_fields::decode;
 use rbc_kept::server::{Port, Record, ServeFault};
 use rbc_model::Memory;
 use rbc_track::Track;
@@ -77,6 +78,19 @@ fn run(
                 Ok(())
             } else {
                 Err(Failure::NotCertified)
+            }
+        }
+        Task::Decode => {
+            let all_read = decode(
+                rt,
+                alloc,
+                &mut Stream::reader(rt.reader()),
+                &mut Stream::writer(alloc, io::writer(rt))?,
+            )?;
+            if all_read {
+                Ok(())
+            } else {
+                Err(Failure::NotRead)
             }
         }
         Task::Run(centre) => run_centre(rt, &centre),

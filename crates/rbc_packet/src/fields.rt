@@ -11,7 +11,7 @@ use rbc_model::{FieldName, Memory};
 pub(crate) type Field = (FieldName, u32);
 
 /// How many bits the field has.
-pub(crate) fn width_of(name: FieldName) -> u32
+pub fn width_of(name: FieldName) -> u32
     ensures width { result ≡ width_of name }
     ensures at_most_32 { result ≤ 32 }
 {

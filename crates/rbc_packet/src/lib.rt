@@ -15,6 +15,7 @@ mod profile;
 
 pub use authority::Authority;
 pub use encoded::Encoded;
+pub use fields::width_of;
 pub use message::{read_message, write_message};
 pub use packet_21::write_grade;
 pub use packet_27::write_speed;

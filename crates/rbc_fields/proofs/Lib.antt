@@ -1,0 +1,6 @@
+pub mod DigitLemmas
+pub mod RestLemmas
+pub mod PrintedLemmas
+pub mod DecodedLemmas
+pub mod AgreementLemmas
+pub mod MessageAgreementLemmas

@@ -1,0 +1,20 @@
+-- The walk over the bytes of a message and its reading come to the same.
+use Rattle.std.specs.Prelude.{◌≡◌, ℕ, List, Option, Some, None, option_map, Result, Ok, Err}
+use Rattle.rbc_model.specs.declared.messages.Fault.{Fault}
+use Rattle.rbc_model.specs.declared.places.Format.TheVariants.{Far}
+use Rattle.rbc_model.specs.Reading.{read_message}
+use Rattle.rbc_fields.specs.declared.fields.Found.{Found}
+use Rattle.rbc_fields.specs.Readings.{Reading, message_reading}
+
+-- the fault that is found, if one is
+abbrev pub fault_found : Reading → Option Fault
+fault_found reading = option_map (λ (found : Found). found.fault) reading.found
+
+-- the fault that is answered, if one is
+abbrev pub fault_in : {A : Type 0} → Result A Fault → Option Fault
+fault_in (Ok x) = None
+fault_in (Err fault) = Some fault
+
+-- No fault is found in the fields of a message just where it is read, and else the fault that reading answers.
+abbrev pub FaultsAgree : Type 0
+FaultsAgree = (bytes : List ℕ) → fault_found (message_reading bytes) ≡ fault_in (read_message Far bytes)

@@ -1,0 +1,173 @@
+-- What is printed of a message, or of a packet alone: each field with its name, its width and its value, and then what the fields say in words, or what is
+-- found where they end.
+use Rattle.std.specs.Prelude.{ℕ, zero, ◌*◌, Bool, true, List, [], ◌∷◌, ◌++◌, Option, Some, None, is_some, ◌==◌, if◌then◌else◌, codes, decimal}
+use Rattle.std.specs.Fmt.{signed_decimal}
+use Rattle.std.specs.List.{flat_map}
+use Rattle.rbc_model.specs.declared.limits.TheConstants.{SPEED_STEP}
+use Rattle.rbc_model.specs.declared.messages.FieldName.{FieldName}
+use Rattle.rbc_model.specs.declared.messages.FieldName.TheVariants.{NID_MESSAGE, L_MESSAGE, T_TRAIN, M_ACK, NID_C, NID_BG, NID_PACKET, Q_DIR, L_PACKET, Q_SCALE, V_LOA, T_LOA, N_ITER, L_ENDSECTION, Q_SECTIONTIMER, Q_ENDTIMER, Q_DANGERPOINT, Q_OVERLAP, D_GRADIENT, Q_GDIR, G_A, D_STATIC, V_STATIC, Q_FRONT}
+use Rattle.rbc_model.specs.declared.messages.Fault.{Fault}
+use Rattle.rbc_model.specs.declared.messages.Fault.TheVariants.{Short, Number, Length, Field, Padding, Extra}
+use Rattle.rbc_model.specs.Messages.{width_of}
+use Rattle.rbc_model.specs.Reading.{signed_value}
+use Rattle.rbc_model.specs.Scales.{unit_of_scale}
+use Rattle.rbc_model.specs.Words.{line_of}
+use Rattle.rbc_fields.specs.declared.row.Row.{Row}
+use Rattle.rbc_fields.specs.declared.row.Row.TheVariants.{Header, Authority, GradientHead, GradientEnd, SpeedHead, SpeedEnd}
+use Rattle.rbc_fields.specs.declared.walk.Walk.{Walk}
+use Rattle.rbc_fields.specs.declared.fields.Found.{Found}
+use Rattle.rbc_fields.specs.declared.fields.Place.{Place}
+use Rattle.rbc_fields.specs.declared.fields.Place.TheVariants.{Field as AtField, Missing, Filling, Behind}
+use Rattle.rbc_fields.specs.declared.fields.Item.{Item}
+use Rattle.rbc_fields.specs.Rows.{packet_number}
+use Rattle.rbc_fields.specs.Walks.{scale_told}
+use Rattle.rbc_fields.specs.Readings.{Reading}
+
+-- ---- fields
+
+abbrev pub name_text : FieldName → List ℕ
+name_text NID_MESSAGE = codes "NID_MESSAGE"
+name_text L_MESSAGE = codes "L_MESSAGE"
+name_text T_TRAIN = codes "T_TRAIN"
+name_text M_ACK = codes "M_ACK"
+name_text NID_C = codes "NID_C"
+name_text NID_BG = codes "NID_BG"
+name_text NID_PACKET = codes "NID_PACKET"
+name_text Q_DIR = codes "Q_DIR"
+name_text L_PACKET = codes "L_PACKET"
+name_text Q_SCALE = codes "Q_SCALE"
+name_text V_LOA = codes "V_LOA"
+name_text T_LOA = codes "T_LOA"
+name_text N_ITER = codes "N_ITER"
+name_text L_ENDSECTION = codes "L_ENDSECTION"
+name_text Q_SECTIONTIMER = codes "Q_SECTIONTIMER"
+name_text Q_ENDTIMER = codes "Q_ENDTIMER"
+name_text Q_DANGERPOINT = codes "Q_DANGERPOINT"
+name_text Q_OVERLAP = codes "Q_OVERLAP"
+name_text D_GRADIENT = codes "D_GRADIENT"
+name_text Q_GDIR = codes "Q_GDIR"
+name_text G_A = codes "G_A"
+name_text D_STATIC = codes "D_STATIC"
+name_text V_STATIC = codes "V_STATIC"
+name_text Q_FRONT = codes "Q_FRONT"
+
+-- the line of a field
+abbrev pub field_line : FieldName → ℕ → List ℕ
+field_line name value = line_of (codes " " ∷ name_text name ∷ decimal (width_of name) ∷ decimal value ∷ [])
+
+-- the line of a row that begins a message or a packet
+abbrev pub packet_line : Row → List ℕ
+packet_line row = line_of (codes "packet" ∷ decimal (packet_number row) ∷ [])
+
+abbrev pub row_text : Row → List ℕ
+row_text Header = codes "message\n"
+row_text Authority = packet_line Authority
+row_text GradientHead = packet_line GradientHead
+row_text SpeedHead = packet_line SpeedHead
+row_text _ = []
+
+abbrev pub head_text : Item → List ℕ
+head_text item = if item.walk.index == 0 then row_text item.row else []
+
+-- a field, behind the line of what begins with it
+abbrev pub item_text : Item → List ℕ
+item_text item = head_text item ++ field_line item.name item.value
+
+-- ---- words
+
+-- how many metres a distance counts as one
+abbrev pub unit_told : Walk → ℕ
+unit_told walk = unit_of_scale (scale_told walk.scale)
+
+-- where the element begins that is read, in metres
+abbrev pub start_told : Walk → ℕ
+start_told walk = unit_told walk * walk.from
+
+abbrev pub direction_text : ℕ → List ℕ
+direction_text direction = if direction == 1 then codes "nominal" else codes "reverse"
+
+abbrev pub direction_line : ℕ → List ℕ
+direction_line direction = line_of (codes "direction" ∷ direction_text direction ∷ [])
+
+abbrev pub end_line : ℕ → List ℕ
+end_line metres = line_of (codes "end" ∷ decimal metres ∷ [])
+
+abbrev pub grade_line : Walk → ℕ → List ℕ
+grade_line walk size = line_of (codes "grade" ∷ decimal (start_told walk) ∷ signed_decimal (signed_value walk.uphill size) ∷ [])
+
+abbrev pub speed_line : Walk → ℕ → List ℕ
+speed_line walk fives = line_of (codes "speed" ∷ decimal (start_told walk) ∷ decimal (SPEED_STEP * fives) ∷ [])
+
+-- the direction is told by packet 15, and by a packet alone
+abbrev pub direction_said : Walk → Row → ℕ → List ℕ
+direction_said walk Authority direction = direction_line direction
+direction_said walk _ direction = if walk.is_alone then direction_line direction else []
+
+-- the end element of a packet alone tells the end
+abbrev pub end_said : Walk → List ℕ
+end_said walk = if walk.is_alone then end_line (start_told walk) else []
+
+abbrev pub grade_said : Walk → Row → ℕ → List ℕ
+grade_said walk GradientEnd size = end_said walk
+grade_said walk _ size = grade_line walk size
+
+abbrev pub speed_said : Walk → Row → ℕ → List ℕ
+speed_said walk SpeedEnd fives = end_said walk
+speed_said walk _ fives = speed_line walk fives
+
+-- what a field says in words: the time, the group in two parts (47 is the slash, 10 the line feed), the direction, the end, gradients and speeds
+abbrev pub said_by : FieldName → Walk → Row → ℕ → List ℕ
+said_by T_TRAIN walk row value = line_of (codes "time" ∷ decimal value ∷ [])
+said_by NID_C walk row value = codes "group " ++ decimal value
+said_by NID_BG walk row value = 47 ∷ (decimal value ++ 10 ∷ [])
+said_by Q_DIR walk row value = direction_said walk row value
+said_by L_ENDSECTION walk row value = end_line (unit_told walk * value)
+said_by G_A walk row value = grade_said walk row value
+said_by V_STATIC walk row value = speed_said walk row value
+said_by _ walk row value = []
+
+abbrev pub said_text : Item → List ℕ
+said_text item = said_by item.name item.walk item.row item.value
+
+-- ---- faults
+
+abbrev pub fault_text : Fault → List ℕ
+fault_text Short = codes "Short"
+fault_text Number = codes "Number"
+fault_text Length = codes "Length"
+fault_text (Field name) = codes "Field"
+fault_text Padding = codes "Padding"
+fault_text Extra = codes "Extra"
+
+-- what stands at a fault, and whether its value is told or how many bits are left
+abbrev pub place_text : Place → List ℕ
+place_text (AtField name) = name_text name
+place_text (Missing name) = name_text name
+place_text Filling = codes "filling"
+place_text Behind = codes "filling"
+
+abbrev pub measure_text : Place → List ℕ
+measure_text (AtField name) = codes "value"
+measure_text (Missing name) = codes "left"
+measure_text Filling = codes "value"
+measure_text Behind = codes "left"
+
+abbrev pub found_line : Found → List ℕ
+found_line found =
+    line_of (codes "refused" ∷ fault_text found.fault ∷ place_text found.place ∷ codes "bit" ∷ decimal found.bit ∷ measure_text found.place ∷ decimal found.value ∷ [])
+
+-- ---- a whole message or packet
+
+abbrev pub items_text : List Item → List ℕ
+items_text items = flat_map item_text items
+
+abbrev pub words_text : List Item → List ℕ
+words_text items = flat_map said_text items
+
+-- behind the fields: their words, or what is found where they end
+abbrev pub outcome_text : List Item → Option Found → List ℕ
+outcome_text items None = words_text items ++ codes "done\n"
+outcome_text items (Some found) = found_line found
+
+abbrev pub reading_text : Reading → List ℕ
+reading_text reading = items_text reading.items ++ outcome_text reading.items reading.found

@@ -1,0 +1,261 @@
+//! The session over a text with messages: each is printed field by field, and in words.
+
+ghost use Rattle.std.specs.Prelude.{◌≡◌, ◌↔◌, ◌≤◌, ◌/◌, ◌||◌, ℕ, List, Bool, [], not, true, false, length, IsTrue, OnOk, IfOk, Ok, Err};
+ghost use Rattle.std.specs.Io.KnownBytes.{Consumes, IsAtEnd};
+ghost use Rattle.rbc_model.specs.declared.limits.TheConstants.{LONGEST_CHECK_LINE};
+ghost use Rattle.rbc_model.specs.declared.sessions.SessionFault.TheVariants.{Read, Write, Memory as NoMemory};
+ghost use Rattle.rbc_model.specs.Sessions.{Prints};
+ghost use Rattle.rbc_model.specs.Talks.{IsTalk};
+ghost use Rattle.rbc_fields.specs.Readings.{reading_of};
+ghost use Rattle.rbc_fields.specs.Texts.{items_text, words_text, outcome_text, reading_text};
+ghost use Rattle.rbc_fields.specs.DecodeText.{is_hex, bytes_in, start_of, reading_kind, digits_reply, are_refused, told_reply, is_told_refused, told_view, IsToldInHex};
+ghost use Rattle.rbc_fields.specs.DecodeText.{AnswersDecode, DecodesAll, outcome_of};
+
+use crate::fields::{Fields, Found};
+use crate::line::{Digits, digits_in};
+use crate::text::{print_found, print_item, print_said};
+use crate::walk::Walk;
+use rbc_model::limits::{LONGEST_CHECK_LINE, LONGEST_LINE};
+use rbc_streams::{Answers, Sink, Source, WriteFailed, converse, put};
+use rbc_words::SessionFault;
+use std::alloc::Global;
+use std::thread::Threads;
+
+/// How many bytes a message or packet may have here.
+const MOST_BYTES: usize = LONGEST_LINE / 2;
+
+/// What is found where the fields of these bytes end, if that is a fault.
+#[tactic(auto, unfolding(crate::specs::Readings::reading_of))]
+fn find(start: &Walk, bytes: &[u8]) -> Option<Found>
+    requires { length bytes.now ≤ 4096 }
+    ensures { result ≡ (reading_of start.now bytes.now).found }
+{
+    let mut fields = Fields::new(start, bytes);
+    while let Some(_) = fields.next() {}
+    fields.found()
+}
+
+/// Writes each field of these bytes, up to the last or to the first at fault.
+#[tactic(auto, unfolding(crate::specs::Readings::reading_of))]
+fn print_fields<W: Sink>(start: &Walk, bytes: &[u8], writer: &mut W) -> Result<(), WriteFailed>
+    requires going { W.failed writer.old ≡ false }
+    requires short { length bytes.now ≤ 4096 }
+    ensures { Prints (W.written writer.old) (W.written writer.new) (W.failed writer.new)
+        (items_text (reading_of start.now bytes.now).items) result }
+{
+    let mut fields = Fields::new(start, bytes);
+    while let Some(item) = fields.next() {
+        print_item(&item, writer)?;
+    }
+    Ok(())
+}
+
+/// Writes what the fields of these bytes say in words.
+#[tactic(auto, unfolding(crate::specs::Readings::reading_of))]
+fn print_words<W: Sink>(start: &Walk, bytes: &[u8], writer: &mut W) -> Result<(), WriteFailed>
+    requires going { W.failed writer.old ≡ false }
+    requires short { length bytes.now ≤ 4096 }
+    ensures { Prints (W.written writer.old) (W.written writer.new) (W.failed writer.new)
+        (words_text (reading_of start.now bytes.now).items) result }
+{
+    let mut fields = Fields::new(start, bytes);
+    while let Some(item) = fields.next() {
+        print_said(&item, writer)?;
+    }
+    Ok(())
+}
+
+/// Writes what stands behind the fields of these bytes: their words, or what was found where they end.
+fn print_outcome<W: Sink>(
+    start: &Walk,
+    bytes: &[u8],
+    found: Option<Found>,
+    writer: &mut W,
+) -> Result<(), WriteFailed>
+    requires going { W.failed writer.old ≡ false }
+    requires short { length bytes.now ≤ 4096 }
+    ensures { Prints (W.written writer.old) (W.written writer.new) (W.failed writer.new)
+        (outcome_text (reading_of start.now bytes.now).items found) result }
+{
+    match found {
+        None => {
+            print_words(start, bytes, writer)?;
+            put(writer, b"done\n")
+        }
+        Some(found) => print_found(&found, writer),
+    }
+}
+
+/// Writes what these bytes tell, where this is found.
+fn print_reading<W: Sink>(
+    start: &Walk,
+    bytes: &[u8],
+    found: Option<Found>,
+    writer: &mut W,
+) -> Result<(), WriteFailed>
+    requires going { W.failed writer.old ≡ false }
+    requires short { length bytes.now ≤ 4096 }
+    requires found { found ≡ (reading_of start.now bytes.now).found }
+    ensures { Prints (W.written writer.old) (W.written writer.new) (W.failed writer.new)
+        (reading_text (reading_of start.now bytes.now)) result }
+{
+    print_fields(start, bytes, writer)?;
+    print_outcome(start, bytes, found, writer)
+}
+
+/// Whether a message or packet was refused so far.
+#[derive(Drop)]
+struct Decoder {
+    refused: bool,
+}
+
+impl Decoder {
+    /// Writes what a line has told.
+    fn print_told<W: Sink>(&mut self, told: Digits, writer: &mut W) -> Result<(), WriteFailed>
+        requires going { W.failed writer.old ≡ false }
+        requires hex { IsToldInHex (told_view told) }
+        ensures reply { Prints (W.written writer.old) (W.written writer.new) (W.failed writer.new)
+            (told_reply (told_view told.entry)) result }
+        ensures refused { self.new.refused ≡ (self.old.refused || is_told_refused (told_view told.entry)) }
+    {
+        match told {
+            Digits::Message(digits) => self.print_digits(false, digits, writer),
+            Digits::Packet(digits) => self.print_digits(true, digits, writer),
+            Digits::None => Ok(()),
+        }
+    }
+
+    /// Writes what the digits of a message tell, or of a packet alone.
+    fn print_digits<W: Sink>(
+        &mut self,
+        is_packet: bool,
+        digits: &[u8],
+        writer: &mut W,
+    ) -> Result<(), WriteFailed>
+        requires going { W.failed writer.old ≡ false }
+        requires hex { IsTrue (is_hex digits.now) }
+        ensures reply { Prints (W.written writer.old) (W.written writer.new) (W.failed writer.new)
+            (digits_reply (reading_kind is_packet) digits.now) result }
+        ensures refused { self.new.refused ≡ (self.old.refused || are_refused (reading_kind is_packet) digits.now) }
+    {
+        if digits.len() > LONGEST_LINE {
+            self.refused = true;
+            return put(writer, b"refused Overlong\n");
+        }
+        let mut room = [0; MOST_BYTES];
+        let bytes = &mut room[..digits.len() / 2];
+        decode_digits(digits, bytes);
+        let start = start_of(is_packet, bytes);
+        let found = find(&start, bytes);
+        self.refused = self.refused || found.is_some();
+        print_reading(&start, bytes, found, writer)
+    }
+}
+
+/// The bytes that pairs of digits spell, half as many.
+fn decode_digits(digits: &[u8], bytes: &mut [u8])
+    requires hex { IsTrue (is_hex digits.now) }
+    requires half { length bytes.old ≡ length digits.now / 2 }
+    ensures { bytes.new ≡ bytes_in digits.now }
+{
+    hex::decode_to_slice(digits, bytes).unwrap();
+}
+
+/// At the first field of these bytes.
+fn start_of(is_packet: bool, bytes: &[u8]) -> Walk
+    ensures { result ≡ start_of is_packet bytes.now }
+{
+    if is_packet {
+        Walk::over_packet(bytes)
+    } else {
+        Walk::over_message(bytes.len())
+    }
+}
+
+impl Answers<()> for Decoder {
+    type State = bool;
+
+    ghost use Rattle.std.specs.Prelude.{⊤, false, refl};
+    ghost use Rattle.rbc_model.specs.declared.limits.TheConstants.{LONGEST_CHECK_LINE};
+    ghost use Rattle.rbc_fields.specs.DecodeText.{AnswersDecode};
+
+    ghost longest = { LONGEST_CHECK_LINE };
+
+    ghost state = { λ d. d.refused };
+
+    ghost answers = { AnswersDecode };
+
+    // Decoding never fails.
+    ghost ready = { λ _. ⊤ };
+
+    ghost broken = { λ _. false };
+
+    ghost works = { λ _ _. refl };
+
+    ghost goes_on = { λ _ _ _ _ _ _. tt };
+
+    fn longest_line() -> usize {
+        LONGEST_CHECK_LINE
+    }
+
+    fn answer<T: Threads + Sync, W: Sink>(
+        &mut self,
+        _rt: &T,
+        _alloc: Global,
+        help: &(),
+        line: &[u8],
+        writer: &mut W,
+    ) -> Result<(), WriteFailed> {
+        if line.len() > LONGEST_CHECK_LINE {
+            return self.refuse(help, writer);
+        }
+        self.print_told(digits_in(line), writer)
+    }
+
+    fn refuse<W: Sink>(&mut self, _help: &(), writer: &mut W) -> Result<(), WriteFailed> {
+        self.refused = true;
+        put(writer, b"refused Overlong\n")
+    }
+}
+
+/// Prints each message and packet in the text that is read, field by field and in words, or what is wrong with it and
+/// where. Answers whether none was refused.
+///
+/// # Errors
+/// `Memory` before anything is read or written. Then, for each line in order: `Read` where the reader fails, `Write`
+/// where the writer does, `Overlong` behind the reply to a line that is too long; `Lines` where a further byte comes
+/// after the last line that a session treats.
+pub fn decode<R: Source, W: Sink>(
+    rt: &(impl Threads + Sync),
+    alloc: Global,
+    reader: &mut R,
+    writer: &mut W,
+) -> Result<bool, SessionFault>
+    requires reader { R.failed reader.old ≡ false }
+    requires writer { W.failed writer.old ≡ false }
+
+    // A read or write fault is answered just where the reader or the writer failed.
+    ensures read { (result ≡ Err Read) ↔ IsTrue (R.failed reader.new) }
+    ensures write { (result ≡ Err Write) ↔ IsTrue (W.failed writer.new) }
+
+    // Without memory nothing begins.
+    ensures memory { result ≡ Err NoMemory → (reader.new ≡ reader.old) × (writer.new ≡ writer.old) }
+
+    // Ok is answered at the end of the input.
+    ensures end { OnOk result (IsAtEnd (R.left reader.new)) }
+
+    // What was written answers the lines of what was read, and Ok tells whether none was refused.
+    ensures talk { (input : List ℕ) × Consumes (R.left reader.old) (R.left reader.new) input × (refused : Bool)
+        × IsTalk LONGEST_CHECK_LINE AnswersDecode false refused input (W.written writer.old) (W.written writer.new)
+        (outcome_of result) × IfOk result (λ all. all ≡ not refused) }
+
+    // At the end of the input what was written, and whether none was refused, is one function of what was read.
+    ensures answers { IfOk result (λ all. DecodesAll all (R.left reader.old) (W.written writer.old) (W.written writer.new)) }
+
+    // And it was handed on, unless the writer failed.
+    ensures handed_on { W.failed writer.new ≡ false → W.held_back writer.old ≡ [] → W.held_back writer.new ≡ [] }
+{
+    let mut decoder = Decoder { refused: false };
+    converse(rt, alloc, reader, writer, &mut decoder, &())?;
+    Ok(!decoder.refused)
+}
