@@ -12,19 +12,18 @@ use rbc_reduce::{Priced, Reduced, reduce};
 use rbc_steps::Runs;
 use rbc_words::{Certified, Spelled, StepsLine, StepsReply, StepsRequest, parse_steps};
 use std::alloc::Global;
-use std::thread::Threads;
 
 /// The reply to a line.
-pub fn reply_to(rt: &(impl Threads + Sync), alloc: Global, line: &[u8]) -> StepsReply
+pub fn reply_to(alloc: Global, line: &[u8]) -> StepsReply
     ensures { AnswersLine Far line.now (reply_text result) }
 {
     match parse_steps(alloc, line) {
         Ok(StepsLine::Blank) => StepsReply::Nothing,
-        Ok(StepsLine::Speed(request)) => match certify(rt, alloc, request) {
+        Ok(StepsLine::Speed(request)) => match certify(alloc, request) {
             Ok(certified) => StepsReply::Speed(certified),
             Err(refusal) => StepsReply::Refused(refusal),
         },
-        Ok(StepsLine::Grade(request)) => match certify(rt, alloc, request) {
+        Ok(StepsLine::Grade(request)) => match certify(alloc, request) {
             Ok(certified) => StepsReply::Grade(certified),
             Err(refusal) => StepsReply::Refused(refusal),
         },
@@ -36,7 +35,6 @@ pub fn reply_to(rt: &(impl Threads + Sync), alloc: Global, line: &[u8]) -> Steps
 /// What a request comes to: the chosen profile with its loss and its packet, or why there is none. `V` is spelled in
 /// lines as the kind of level that stands in its packet.
 fn certify<V: Spelled + Encoded + Priced>(
-    rt: &(impl Threads + Sync),
     alloc: Global,
     request: StepsRequest<V>,
 ) -> Result<Certified<V>, StepsRefusal>
@@ -52,7 +50,7 @@ fn certify<V: Spelled + Encoded + Priced>(
         profile,
         loss,
         prices,
-    } = reduce(rt, alloc, &track, limit)?;
+    } = reduce(alloc, &track, limit)?;
     let packet = write_profile(alloc, &profile, true)?;
     Ok(Certified {
         limit,

@@ -49,13 +49,13 @@ impl Answers<()> for Certifier {
 
     fn answer<T: Threads + Sync, W: Sink>(
         &mut self,
-        rt: &T,
+        _rt: &T,
         alloc: Global,
         _help: &(),
         line: &[u8],
         writer: &mut W,
     ) -> Result<(), WriteFailed> {
-        print(&reply_to(rt, alloc, line), writer)
+        print(&reply_to(alloc, line), writer)
     }
 
     fn refuse<W: Sink>(&mut self, _help: &(), writer: &mut W) -> Result<(), WriteFailed> {

@@ -1,5 +1,5 @@
 -- Reductions of a view's speeds and gradients make a candidate of it.
-use Rattle.std.proofs.Common.{◌≡◌, ℕ, ℤ, Bool, true, List, Option, Some, refl, sym, ap, ◌∙◌, subst, arith, nat_le}
+use Rattle.std.proofs.Common.{◌≡◌, ℕ, ℤ, Bool, true, List, Option, Some, refl, sym, ap, ◌∙◌, subst, arith}
 use Rattle.std.specs.Global.{Vec}
 use Rattle.rbc_model.specs.declared.places.Format.TheVariants.{Far}
 use Rattle.rbc_model.specs.GroupNames.{GroupName}
@@ -13,14 +13,7 @@ use Rattle.rbc_reach.specs.Forms.{metres_shown, IsViewInForm}
 use Rattle.rbc_grant.specs.Candidates.{granted, IsCandidate}
 use Rattle.rbc_grant.specs.declared.certificates.Losses.{Losses}
 use Rattle.rbc_grant.specs.declared.certificates.PriceTables.{PriceTables}
-use Rattle.rbc_grant.proofs.ReductionLemmas.{IsReduction}
-
--- the speeds and the gradients that a view shows
-abbrev pub speeds_shown : View → StepFunction ℕ
-speeds_shown view = record { steps = view.speeds; end = metres_shown view }
-
-abbrev pub grades_shown : View → StepFunction ℤ
-grades_shown view = record { steps = view.grades; end = metres_shown view }
+use Rattle.rbc_grant.specs.Reductions.{IsReduction, speeds_shown, grades_shown}
 
 -- the authority of a view with these profiles
 abbrev pub authority_for : View → List (ℕ × ℕ) → List (ℕ × ℤ) → Authority

@@ -1,4 +1,5 @@
 pub mod Candidates
+pub mod Reductions
 pub use Rattle.rbc_reach.specs.Entries
 pub use Rattle.rbc_reach.specs.Forms
 pub use Rattle.rbc_reach.specs.SameViews

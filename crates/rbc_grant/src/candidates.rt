@@ -12,6 +12,7 @@ use rbc_reach::View;
 use std::marker::Model;
 
 pub(crate) mod of_view;
+mod reductions;
 
 /// What may be granted to a train that was shown a view: the authority that is best for it, with its message 3 and
 /// the tables of prices that show that no profiles lose less. It knows the version of the history that the view is of.

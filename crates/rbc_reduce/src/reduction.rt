@@ -13,7 +13,6 @@ use crate::traceback::steps_of;
 use rbc_model::Memory;
 use rbc_steps::{Level, Profile, Runs};
 use std::alloc::Global;
-use std::thread::Threads;
 
 /// The profile that was chosen for a track, and what it loses.
 #[derive(Drop)]
@@ -34,17 +33,11 @@ pub struct Reduced<V: Level> {
 ///
 /// The table is filled break by break, and what one step costs is held up to one break at a time. So it holds 12 bytes for
 /// each price of the table while it works, and some 50 bytes for each run: 1.4 MB for 3,100 runs and 31 steps, and up to
-/// twice as much where it cuts at tens. No thread is started, since a price takes less time than that would; `rt` is
-/// asked for all the same, so that callers stay as they are where tables are shared out.
+/// twice as much where it cuts at tens. No thread is started, since a price takes less time than that would.
 ///
 /// # Errors
 /// `Memory` is the only one.
-pub fn reduce<V: Priced>(
-    rt: &(impl Threads + Sync),
-    alloc: Global,
-    track: &Runs<V>,
-    limit: usize,
-) -> Result<Reduced<V>, Memory>
+pub fn reduce<V: Priced>(alloc: Global, track: &Runs<V>, limit: usize) -> Result<Reduced<V>, Memory>
     requires some { 1 ≤ limit }
     requires few { limit ≤ MOST_STEPS }
     requires whole { track.now.end % unit_of track.now.end ≡ 0 }
@@ -61,7 +54,6 @@ pub fn reduce<V: Priced>(
     ensures prices { IfOk result
         (λ r. IsGreatestSoundTable V.levels (unit_of track.now.end) limit track.now.end track.now.steps (prices_of r.prices.items)) }
 {
-    let _threads = rt;
     let end = track.end();
     let stretches = stretches_of(alloc, track)?;
     let prices = fill(alloc, track, &stretches, limit)?;

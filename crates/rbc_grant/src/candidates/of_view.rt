@@ -5,11 +5,11 @@ ghost use Rattle.rbc_grant_laws.specs.Candidates.{IsCandidateOf};
 ghost use Rattle.rbc_grant.specs.Candidates.{HasChosenProfiles};
 
 use super::Candidate;
+use super::reductions::reduced;
 use crate::{Losses, PriceTables};
 use rbc_model::Memory;
 use rbc_packet::{Authority, write_message};
 use rbc_reach::View;
-use rbc_reduce::reduce;
 use std::alloc::Global;
 use std::thread::Threads;
 
@@ -31,8 +31,9 @@ pub fn candidate(
     ensures best { IfOk result (λ c. IsCandidateOf view c.grant) }
     ensures chosen { IfOk result (λ c. HasChosenProfiles view c.grant) }
 {
-    let speeds = reduce(rt, alloc, view.speeds(), view.speed_steps())?;
-    let grades = reduce(rt, alloc, view.grades(), view.grade_steps())?;
+    let (speeds, grades) = reduced(rt, alloc, &view);
+    let speeds = speeds?;
+    let grades = grades?;
     let (time, group, nominal) = (view.time(), view.group(), view.nominal());
     // Both profiles end where the view does, and a message can give them.
     let authority = Authority::new(time, group, nominal, speeds.profile, grades.profile).unwrap();

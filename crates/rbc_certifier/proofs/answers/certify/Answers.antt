@@ -12,9 +12,6 @@ reduce-requires-send-V g c κs within = c.type_bounds.send-V
 pub reduce-requires-sync-V : goal.reduce-requires-sync-V
 reduce-requires-sync-V g c κs within = c.type_bounds.sync-V
 
-pub reduce-requires-sync-typeof-rt : goal.reduce-requires-sync-typeof-rt
-reduce-requires-sync-typeof-rt g c κs within = c.type_bounds.sync-typeof-rt
-
 pub reduce-requires-after_bounds : goal.reduce-requires-after_bounds
 reduce-requires-after_bounds g c κs within =
     let request = c.args.request in

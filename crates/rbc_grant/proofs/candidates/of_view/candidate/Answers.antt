@@ -1,16 +1,17 @@
-use Rattle.std.proofs.Common.{refl, ap}
-use Rattle.rbc_model.specs.Levels.{speed_levels, grade_levels}
+use Rattle.std.proofs.Common.{refl, subst}
 use Rattle.rbc_model.specs.Messages.{message_bytes}
-use Rattle.rbc_model.specs.Scales.{unit_of}
-use Rattle.rbc_reach.specs.Forms.{metres_shown}
+use Rattle.rbc_reach.specs.Forms.{IsViewInForm}
 use Rattle.rbc_grant.specs.Candidates.{granted, IsCandidate}
 use Rattle.rbc_grant.specs.declared.certificates.Losses.{Losses}
 use Rattle.rbc_grant.specs.declared.certificates.PriceTables.{PriceTables}
-use Rattle.rbc_grant.proofs.ReductionLemmas.{reduction_of}
-use Rattle.rbc_grant.proofs.MadeLemmas.{speeds_shown, grades_shown, AreReductions, the_authority, candidate_made}
+use Rattle.rbc_grant.proofs.MadeLemmas.{AreReductions, the_authority, candidate_made}
 use Rattle.rbc_grant.proofs.candidates.of_view.candidate.Given.{Over}
 use Rattle.rbc_grant.proofs.candidates.of_view.candidate.Goals as goal
 use Rattle.rbc_grant.proofs.candidates.of_view.candidate.Goals.{After-unwrap-authority}
+
+-- the view ends where a message can give it
+form_here : (g : Over) (c : After-unwrap-authority g) → IsViewInForm c.args.view
+form_here g c = subst IsViewInForm c.view.view_is c.view.invariant.0
 
 -- both profiles are reductions of what the view shows
 reductions_here : (g : Over) (c : After-unwrap-authority g)
@@ -18,20 +19,10 @@ reductions_here : (g : Over) (c : After-unwrap-authority g)
     (record { speeds = c.in_ok-speeds.speeds.loss; grades = c.in_ok-grades.grades.loss })
     (record { speeds = c.in_ok-speeds.speeds.prices; grades = c.in_ok-grades.grades.prices })
 reductions_here g c =
-    let view = c.args.view in
-    let form = c.speeds.ensures.form in
-    let speeds = c.in_ok-speeds.speeds in
-    let grades = c.in_ok-grades.grades in
     record {
-      far = form.expressible;
-      speeds_reduced =
-          reduction_of speed_levels (unit_of c.speeds.result.now.end) c.speed_steps.result (unit_of (metres_shown view)) view.speed_steps c.speeds.result.now (speeds_shown view) speeds.profile speeds.loss speeds.prices.items
-          (ap (λ track. unit_of track.end) c.speeds.ensures.speeds) c.speed_steps.ensures.steps c.speeds.ensures.speeds
-          (record { chosen = c.in_ok-speeds.ensures.chosen; end = c.in_ok-speeds.ensures.end; loss = c.in_ok-speeds.ensures.loss; prices = c.in_ok-speeds.ensures.prices });
-      grades_reduced =
-          reduction_of grade_levels (unit_of c.grades.result.now.end) c.grade_steps.result (unit_of (metres_shown view)) view.grade_steps c.grades.result.now (grades_shown view) grades.profile grades.loss grades.prices.items
-          (ap (λ track. unit_of track.end) c.grades.ensures.grades) c.grade_steps.ensures.steps c.grades.ensures.grades
-          (record { chosen = c.in_ok-grades.ensures.chosen; end = c.in_ok-grades.ensures.end; loss = c.in_ok-grades.ensures.loss; prices = c.in_ok-grades.ensures.prices });
+      far = (form_here g c).expressible;
+      speeds_reduced = rw c.in_ok-speeds.was at c.reduced-speeds.ensures.speeds;
+      grades_reduced = rw c.in_ok-grades.was at c.reduced-speeds.ensures.grades;
     }
 
 -- with the message of its authority, what has been made is a candidate of the view
@@ -46,7 +37,7 @@ candidate_here g c =
     let lost : Losses = record { speeds = speeds.loss; grades = grades.loss } in
     let tables : PriceTables = record { speeds = speeds.prices; grades = grades.prices } in
     let are = reductions_here g c in
-    candidate_made view c.unwrap-authority.result speeds.profile grades.profile lost tables (message_bytes c.unwrap-authority.result) c.speeds.ensures.form are
+    candidate_made view c.unwrap-authority.result speeds.profile grades.profile lost tables (message_bytes c.unwrap-authority.result) (form_here g c) are
     (the_authority view speeds.profile grades.profile lost tables c.time-time.result c.group-group.result c.nominal-nominal.result c.new.result c.unwrap-authority.result are
     c.time-time.ensures c.group-group.ensures c.nominal-nominal.ensures c.new.ensures c.unwrap-authority.ensures)
     refl
