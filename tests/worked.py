@@ -62,6 +62,16 @@ OVERRUN = TWO_TRAINS + [
     ("ask 2", "blocked 2 7 705 Occupied 1"),
     ("ask 1", "blocked 1 7 495 Occupied 2"),
 ]
+# Reports that are refused, each behind entries that leave room for more: a known train that its line does not lead to the
+# group, whose front lies beyond the locks, and a new one whose rear does.
+REFUSED_REPORTS = [
+    LOCKED,
+    ("report 1 5/17 nominal 300 5 5 200 1000", "ok 2"),
+    ("report 1 5/18 reverse 50 5 5 200 2000", "refused Offline"),
+    ("report 1 5/17 nominal 996 5 5 200 3000", "refused Unplaced"),
+    ("report 2 5/17 nominal 300 101 5 200 4000", "refused Unplaced"),
+    ("report 2 5/17 nominal 700 5 5 200 5000", "ok 3"),
+]
 
 # Certificates and the verdict on each: a best one, and forged ones.
 HEAD = "speed 2 0:160 100:120 150:160 end 300"

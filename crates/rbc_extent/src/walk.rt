@@ -25,8 +25,11 @@ pub(crate) struct Walk<'a> {
     track: &'a Track,
     locks: &'a Locks,
     known: &'a [Leg],
+    /// The leg behind the known ones.
     turn: Leg,
+    /// How many legs were gained before the first one of these.
     behind: usize,
+    /// How many legs were gained behind the last one.
     ahead: usize,
     first: Leg,
     last: Leg,

@@ -1,5 +1,5 @@
 -- How a proof goes from field to field, over the walk and the reading at once.
-use Rattle.std.proofs.Common.{◌≡◌, ℕ, zero, suc, ◌+◌, ◌-◌, ◌<◌, ◌≤◌, Bool, true, false, not, List, [], length, take, drop, length-drop, Option, Some, None, Result, Ok, Err, refl, sym, ap, ◌∙◌, subst, arith, lit≤, nat_lt, nat_le, if◌then◌else◌, ◌==◌}
+use Rattle.std.proofs.Common.{◌≡◌, ℕ, zero, suc, ◌+◌, ◌<◌, ◌≤◌, Bool, true, false, not, List, [], length, take, drop, length-drop, Option, Some, None, Result, Ok, Err, refl, sym, ap, ◌∙◌, subst, arith, lit≤, nat_lt, nat_le, if◌then◌else◌, ◌==◌}
 use Rattle.std.proofs.lemmas.Bool.{eqb-true}
 use Rattle.rbc_model.specs.declared.messages.Fault.{Fault}
 use Rattle.rbc_model.specs.declared.messages.Fault.TheVariants.{Short, Length, Extra, Padding}
@@ -15,11 +15,11 @@ use Rattle.rbc_fields.specs.declared.walk.Walk.{Walk}
 use Rattle.rbc_fields.specs.declared.fields.Item.{Item}
 use Rattle.rbc_fields.specs.declared.fields.Place.TheVariants.{Missing, Filling, Behind}
 use Rattle.rbc_fields.specs.Walks.{field_of, behind, is_allowed, length_fault, told, moved}
-use Rattle.rbc_fields.specs.Readings.{Reading, reading, field_read, with_next, filling_found, stopped}
+use Rattle.rbc_fields.specs.Readings.{reading, field_read, with_next, stopped}
 use Rattle.rbc_fields.specs.Laws.{fault_found}
 
 -- each field has a bit
-some_bits : (name : FieldName) → 1 ≤ width_of name
+pub some_bits : (name : FieldName) → 1 ≤ width_of name
 some_bits NID_MESSAGE = lit≤ tt
 some_bits L_MESSAGE = lit≤ tt
 some_bits T_TRAIN = lit≤ tt
@@ -85,8 +85,8 @@ module _ {A : Type 0} (walk : Walk) (row : Row) (name : FieldName) (allowed : �
         (if short
         then stopped (Some (record { fault = Short; place = Missing name; bit = bit; value = length bits }))
         else with_next (record { walk = walk; row = row; name = name; value = number_of (take (width_of name) bits) }) bit
-            (behind walk row name (number_of (take (width_of name) bits)))
-            (λ next. reading most next (drop (width_of name) bits) (bit + width_of name)))
+        (behind walk row name (number_of (take (width_of name) bits)))
+        (λ next. reading most next (drop (width_of name) bits) (bit + width_of name)))
         ≡ then_fault
         (rest_of_reading
         (if short then Err Short

@@ -1,15 +1,14 @@
 -- A session that came to the end of its input has answered it as the function says.
-use Rattle.std.proofs.Common.{◌≡◌, ℕ, Bool, true, false, not, ◌||◌, ◌&&◌, List, [], ◌∷◌, ◌++◌, Option, Some, Result, Ok, Err, refl, ap, sym, ◌∙◌, subst, append-nil}
-use Rattle.std.specs.Prelude.{OnOk, IfOk, IfSome}
+use Rattle.std.proofs.Common.{◌≡◌, ℕ, Bool, true, false, not, ◌||◌, ◌&&◌, List, [], ◌∷◌, ◌++◌, Option, Some, Ok, refl, ap, sym, ◌∙◌, subst, append-nil}
+use Rattle.std.specs.Prelude.{IfSome}
 use Rattle.std.specs.List.{flat_map, list_all}
 use Rattle.std.specs.Io.KnownBytes.{Consumes, IsAtEnd}
 use Rattle.std.proofs.KnownBytes.{Consumes-whole}
 use Rattle.std.proofs.lemmas.List.{append_cancel_left}
 use Rattle.rbc_model.specs.declared.limits.TheConstants.{LONGEST_CHECK_LINE}
-use Rattle.rbc_model.specs.declared.sessions.SessionFault.{SessionFault}
 use Rattle.rbc_model.specs.Sessions.{lines_of}
 use Rattle.rbc_model.specs.Talks.{Answered, IsTalk}
-use Rattle.rbc_fields.specs.DecodeText.{decode_reply, is_refused, AnswersDecode, DecodesAll, decode_text, is_all_read, outcome_of}
+use Rattle.rbc_fields.specs.DecodeText.{decode_reply, is_refused, AnswersDecode, DecodesAll, decode_text, is_all_read}
 
 -- none of the lines is refused
 abbrev all_read : List (List ℕ) → Bool

@@ -1,10 +1,10 @@
 -- Pairs of digits of base 16 are decoded.
-use Rattle.std.proofs.Common.{◌≡◌, ℕ, ◌+◌, ◌*◌, ◌/◌, ◌%◌, Bool, true, false, not, ◌&&◌, ◌||◌, ◌==◌, List, [], ◌∷◌, length, Ok, refl, sym, ap, ◌∙◌, arith, nat_le, if◌then◌else◌, Some, None, is_some, Option}
+use Rattle.std.proofs.Common.{◌≡◌, ℕ, ◌/◌, ◌%◌, Bool, true, false, not, ◌&&◌, ◌||◌, ◌==◌, List, [], ◌∷◌, length, Ok, refl, sym, ap, ◌∙◌, arith, nat_le, if◌then◌else◌, Some, None, is_some}
 use Rattle.std.specs.Char.{is_ascii_hexdigit}
-use Rattle.std.specs.List.{list_all, AllPass}
+use Rattle.std.specs.List.{list_all}
 use Rattle.std.proofs.lemmas.Bool.{eqb-true, and_parts}
 use Rattle.std.proofs.lemmas.List.Sums.{AllPass-from_list_all}
-use Rattle.hex.specs.Hex.{decode_of, decode_sized, is_hex_digit}
+use Rattle.hex.specs.Hex.{decode_sized, is_hex_digit}
 use Rattle.hex.proofs.HexLemmas.{decode_of-digits, decode_sized-twice}
 use Rattle.rbc_fields.specs.DecodeText.{is_hex, bytes_in, bytes_decoded}
 

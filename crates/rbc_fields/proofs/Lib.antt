@@ -4,3 +4,5 @@ pub mod PrintedLemmas
 pub mod DecodedLemmas
 pub mod AgreementLemmas
 pub mod MessageAgreementLemmas
+pub mod SpeltLemmas
+pub mod MessageFieldsLemmas

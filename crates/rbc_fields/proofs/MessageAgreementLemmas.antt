@@ -1,14 +1,13 @@
 -- The walk over a message finds the fault that reading answers.
-use Rattle.std.proofs.Common.{◌≡◌, ℕ, zero, suc, pred, ◌+◌, ◌-◌, ◌*◌, ◌/◌, ◌^◌, ◌<◌, ◌≤◌, min, Bool, true, false, not, ◌&&◌, ◌||◌, ◌⊎◌, inl, inr, List, [], ◌∷◌, length, Option, Some, None, Result, Ok, Err, refl, sym, ap, ◌∙◌, subst, arith, nat_lt, nat_le, if◌then◌else◌, ◌==◌, nat_abs, ℤ}
-use Rattle.std.proofs.lemmas.Bool.{leb-true, eqb-true, eq-eqb, and_parts, cases_eq, or_cases, ne_eqb}
+use Rattle.std.proofs.Common.{◌≡◌, ℕ, zero, suc, pred, ◌+◌, ◌-◌, ◌/◌, ◌^◌, ◌≤◌, min, Bool, true, false, ◌&&◌, inl, inr, List, [], length, Option, Some, None, Result, Ok, Err, refl, sym, ap, ◌∙◌, subst, arith, nat_lt, nat_le, if◌then◌else◌, ◌==◌, nat_abs, ℤ}
+use Rattle.std.proofs.lemmas.Bool.{leb-true, eq-eqb, and_parts, cases_eq, or_cases, ne_eqb}
 use Rattle.rbc_model.specs.declared.limits.TheConstants.{FARTHEST_END, FIRST_END_IN_TENS, FARTHEST_END_IN_TENS, TEN_METRES, MESSAGE_NUMBER, LAST_GROUP, NO_TIME_OUT, AUTHORITY_PACKET, AUTHORITY_BITS, GRADIENT_PACKET, SPEED_PACKET, STEEPEST, GRADIENT_END_MARK, MOST_SPEED_STEPS, SPEED_END_MARK}
 use Rattle.rbc_model.specs.declared.messages.Fault.{Fault}
-use Rattle.rbc_model.specs.declared.messages.Fault.TheVariants.{Short, Length, Extra, Field}
+use Rattle.rbc_model.specs.declared.messages.Fault.TheVariants.{Field}
 use Rattle.rbc_model.specs.declared.messages.FieldName.TheVariants.{NID_MESSAGE, L_MESSAGE, T_TRAIN, M_ACK, NID_C, NID_BG, NID_PACKET, Q_DIR, L_PACKET, Q_SCALE, V_LOA, T_LOA, N_ITER, L_ENDSECTION, Q_SECTIONTIMER, Q_ENDTIMER, Q_DANGERPOINT, Q_OVERLAP, D_GRADIENT, Q_GDIR, G_A, D_STATIC, V_STATIC, Q_FRONT}
 use Rattle.rbc_model.specs.declared.places.Format.TheVariants.{Far}
 use Rattle.rbc_model.specs.Messages.{Authority, gradient_length, speed_length}
-use Rattle.rbc_model.specs.Readers.{Reader}
-use Rattle.rbc_model.specs.Reading.{Header, header_at, Frame, packet_15_at, gradient_value_at, gradient_elements_at, packet_21_at, speed_value_at, speed_elements_at, packet_27_at, filling_at, authority_at, read_message, value_of}
+use Rattle.rbc_model.specs.Reading.{Header, header_at, Frame, packet_15_at, gradient_value_at, gradient_elements_at, packet_21_at, speed_value_at, speed_elements_at, packet_27_at, filling_at, authority_at, value_of}
 use Rattle.rbc_model.specs.Bits.{byte_bits}
 use Rattle.rbc_model.specs.Results.{is_from_to}
 use Rattle.rbc_model.specs.Scales.{is_end_at}
@@ -17,12 +16,12 @@ use Rattle.rbc_fields.specs.declared.row.Row.TheVariants.{Header as AtHeader, Au
 use Rattle.rbc_fields.specs.declared.walk.Walk.{Walk}
 use Rattle.rbc_fields.specs.Walks.{at_row, entered, further, field_of}
 use Rattle.rbc_fields.specs.Readings.{reading_of}
-use Rattle.rbc_fields.specs.Laws.{fault_in, fault_found, FaultsAgree}
+use Rattle.rbc_fields.specs.Laws.{fault_in, FaultsAgree}
 use Rattle.rbc_fields.proofs.AgreementLemmas.{Agree, then_fault, go, step, fixed, under, follows_said, follows_length, follows_fixed_length, ends}
 
 -- ---- how far an element lies
 
-further_capped : (f g v : ℕ) → f ≡ min g (2 ^ 32 - 1) → further f v ≡ min (g + v) (2 ^ 32 - 1)
+pub further_capped : (f g v : ℕ) → f ≡ min g (2 ^ 32 - 1) → further f v ≡ min (g + v) (2 ^ 32 - 1)
 further_capped f g v e = omega arith
 
 same_test : (a b e : ℕ) → (a ≡ e → b ≡ e) → (b ≡ e → a ≡ e) → (a == e) ≡ (b == e)
@@ -31,23 +30,23 @@ same_test a b e h k = elim (cases_eq a e) [
   | inr other ↦ ne_eqb a e other ∙ sym (ne_eqb b e (λ x. other (k x)))
 ]
 
-same_end : (f g v e : ℕ) → e ≤ 32000 → f ≡ min g (2 ^ 32 - 1) → (further f v == e) ≡ (g + v == e)
+pub same_end : (f g v e : ℕ) → e ≤ 32000 → f ≡ min g (2 ^ 32 - 1) → (further f v == e) ≡ (g + v == e)
 same_end f g v e near is = same_test (further f v) (g + v) e (λ h. omega arith) (λ h. omega arith)
 
-near_end : (s e : ℕ) → is_end_at s e ≡ true → e ≤ 32000
+pub near_end : (s e : ℕ) → is_end_at s e ≡ true → e ≤ 32000
 near_end s e ok = elim (or_cases ((s == 1) && is_from_to 1 FARTHEST_END e) ((s == 2) && is_from_to (FIRST_END_IN_TENS / TEN_METRES) (FARTHEST_END_IN_TENS / TEN_METRES) e) ok) [
   | inl one ↦ leb-true e 32000 (and_parts (nat_le 1 e) (nat_le e 32000) (and_parts (s == 1) (is_from_to 1 FARTHEST_END e) one).1).1
   | inr two ↦ let near = leb-true e 8000 (and_parts (nat_le 3201 e) (nat_le e 8000) (and_parts (s == 2) (is_from_to (FIRST_END_IN_TENS / TEN_METRES) (FARTHEST_END_IN_TENS / TEN_METRES) e) two).1).1 in omega arith
 ]
 
-some_left : (m : ℕ) → nat_lt 0 (suc m) ≡ true
+pub some_left : (m : ℕ) → nat_lt 0 (suc m) ≡ true
 some_left m = grind arith
 
 pred_is : (v : ℕ) → pred v ≡ v - 1
 pred_is zero = refl
 pred_is (suc v) = omega arith
 
-less_one : (m : ℕ) → suc m - 1 ≡ m
+pub less_one : (m : ℕ) → suc m - 1 ≡ m
 less_one m = omega arith
 
 -- what packet 15 tells
@@ -76,11 +75,11 @@ module _ (n : ℕ) where
 
   module _ (d s e : ℕ) where
     -- before packet 21
-    abbrev at_21 : ℕ → Walk
+    abbrev pub at_21 : ℕ → Walk
     at_21 sd = record { row = Some GradientHead; index = 0; is_alone = false; bytes = n; direction = Some d; scale = Some s; end = Some e; said = sd; later = 0; from = 0; uphill = 0 }
 
     -- before packet 27
-    abbrev at_27 : ℕ → ℕ → Walk
+    abbrev pub at_27 : ℕ → ℕ → Walk
     at_27 sd u = record { row = Some SpeedHead; index = 0; is_alone = false; bytes = n; direction = Some d; scale = Some s; end = Some e; said = sd; later = 0; from = 0; uphill = u }
 
   packet_15 : (c : Frame → List Bool → Option Fault) → ((d s e sd : ℕ) → is_end_at s e ≡ true → Agree (at_21 d s e sd) (c (frame d s e)))
@@ -104,10 +103,10 @@ module _ (n : ℕ) where
 
   module _ (d s e sd : ℕ) (near : e ≤ 32000) where
     -- behind a step, with so many left
-    abbrev behind_grade : Option Row → ℕ → ℕ → ℕ → ℕ → Bool → Walk
+    abbrev pub behind_grade : Option Row → ℕ → ℕ → ℕ → ℕ → Bool → Walk
     behind_grade r i m f u more = entered (record { row = r; index = i; is_alone = false; bytes = n; direction = Some d; scale = Some s; end = Some e; said = sd; later = m; from = f; uphill = u }) (if more then Some GradientStep else Some GradientEnd)
 
-    abbrev at_grade : ℕ → ℕ → ℕ → Walk
+    abbrev pub at_grade : ℕ → ℕ → ℕ → Walk
     at_grade m f u = record { row = Some GradientStep; index = 0; is_alone = false; bytes = n; direction = Some d; scale = Some s; end = Some e; said = sd; later = m; from = f; uphill = u }
 
     grades : (m f g u i : ℕ) (r : Option Row) → f ≡ min g (2 ^ 32 - 1) → (c : List (ℕ × ℤ) → List Bool → Option Fault)
@@ -154,10 +153,10 @@ module _ (n : ℕ) where
 
   module _ (d s e sd : ℕ) (near : e ≤ 32000) where
     -- behind a step, with so many left
-    abbrev behind_speed : Option Row → ℕ → ℕ → ℕ → ℕ → Bool → Walk
+    abbrev pub behind_speed : Option Row → ℕ → ℕ → ℕ → ℕ → Bool → Walk
     behind_speed r i m f u more = entered (record { row = r; index = i; is_alone = false; bytes = n; direction = Some d; scale = Some s; end = Some e; said = sd; later = m; from = f; uphill = u }) (if more then Some SpeedStep else Some SpeedEnd)
 
-    abbrev at_speed : ℕ → ℕ → ℕ → Walk
+    abbrev pub at_speed : ℕ → ℕ → ℕ → Walk
     at_speed m f u = record { row = Some SpeedStep; index = 0; is_alone = false; bytes = n; direction = Some d; scale = Some s; end = Some e; said = sd; later = m; from = f; uphill = u }
 
     speeds : (m f g u i : ℕ) (r : Option Row) → f ≡ min g (2 ^ 32 - 1) → (c : List (ℕ × ℕ) → List Bool → Option Fault)

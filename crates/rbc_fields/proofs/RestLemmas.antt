@@ -1,7 +1,6 @@
 -- What is left to read, from field to field.
-use Rattle.std.proofs.Common.{◌≡◌, ℕ, zero, suc, ◌<◌, Bool, List, length, Option, Some, None, arith, subst, ap, ◌∙◌}
+use Rattle.std.proofs.Common.{◌≡◌, ℕ, zero, suc, ◌<◌, length, Option, Some, None, arith, subst, ap, ◌∙◌}
 use Rattle.rbc_fields.specs.declared.fields.Fields.{Fields}
-use Rattle.rbc_fields.specs.declared.fields.Found.{Found}
 use Rattle.rbc_fields.specs.declared.fields.Item.{Item}
 use Rattle.rbc_fields.specs.declared.walk.Walk.{Walk}
 use Rattle.rbc_fields.specs.Readings.{Reading, stopped, with_item, left_to_read, reading_from}

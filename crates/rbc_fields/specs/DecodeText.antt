@@ -1,5 +1,5 @@
 -- The program `rbc decode`: what a line has, and the replies to the lines of an input.
-use Rattle.std.specs.Prelude.{◌≡◌, ℕ, ◌%◌, ◌<◌, ◌||◌, ◌&&◌, ◌++◌, Bool, true, false, not, List, [], ◌∷◌, length, Option, Some, None, is_some, Result, Ok, Err, nat_lt, ◌==◌, if◌then◌else◌, codes, bytes_eq, IsTrue}
+use Rattle.std.specs.Prelude.{◌≡◌, ℕ, ◌%◌, ◌||◌, ◌&&◌, ◌++◌, Bool, true, false, not, List, [], ◌∷◌, length, Option, Some, is_some, Result, Ok, Err, nat_lt, ◌==◌, if◌then◌else◌, codes, bytes_eq, IsTrue}
 use Rattle.std.specs.Char.{is_ascii_hexdigit}
 use Rattle.std.specs.List.{list_all, flat_map}
 use Rattle.hex.specs.declared.error.FromHexError.{FromHexError}

@@ -1,5 +1,5 @@
 -- What is read of the bits of a message, or of a packet alone: its fields in order, up to the last one or the first at fault, and what is found there.
-use Rattle.std.specs.Prelude.{◌≡◌, ℕ, suc, zero, ◌+◌, ◌^◌, ◌≤◌, Bool, true, false, List, [], ◌∷◌, length, take, drop, Option, Some, None, is_some, Result, Ok, Err, nat_lt, ◌==◌, if◌then◌else◌}
+use Rattle.std.specs.Prelude.{◌≡◌, ℕ, suc, zero, ◌+◌, ◌^◌, ◌≤◌, Bool, true, false, List, [], ◌∷◌, length, take, drop, Option, Some, None, Result, Ok, Err, nat_lt, ◌==◌, if◌then◌else◌}
 use Rattle.rbc_model.specs.declared.messages.FieldName.{FieldName}
 use Rattle.rbc_model.specs.declared.messages.Fault.{Fault}
 use Rattle.rbc_model.specs.declared.messages.Fault.TheVariants.{Short, Length, Padding}
@@ -48,8 +48,8 @@ field_read (Some (row, name)) walk bits bit later =
     if nat_lt (length bits) (width_of name)
     then stopped (Some (record { fault = Short; place = Missing name; bit = bit; value = length bits }))
     else with_next (record { walk = walk; row = row; name = name; value = number_of (take (width_of name) bits) }) bit
-        (behind walk row name (number_of (take (width_of name) bits)))
-        (λ next. later next (drop (width_of name) bits) (bit + width_of name))
+    (behind walk row name (number_of (take (width_of name) bits)))
+    (λ next. later next (drop (width_of name) bits) (bit + width_of name))
 
 -- at most so many fields from this one on, which begins at this bit
 unfoldable pub reading : ℕ → Walk → List Bool → ℕ → Reading

@@ -1,6 +1,6 @@
 -- What is printed of a message, or of a packet alone: each field with its name, its width and its value, and then what the fields say in words, or what is
 -- found where they end.
-use Rattle.std.specs.Prelude.{ℕ, zero, ◌*◌, Bool, true, List, [], ◌∷◌, ◌++◌, Option, Some, None, is_some, ◌==◌, if◌then◌else◌, codes, decimal}
+use Rattle.std.specs.Prelude.{ℕ, ◌*◌, List, [], ◌∷◌, ◌++◌, Option, Some, None, ◌==◌, if◌then◌else◌, codes, decimal}
 use Rattle.std.specs.Fmt.{signed_decimal}
 use Rattle.std.specs.List.{flat_map}
 use Rattle.rbc_model.specs.declared.limits.TheConstants.{SPEED_STEP}

@@ -1,9 +1,9 @@
 -- The walk from field to field over the bits of a message, or of a packet alone: which field comes next, which values it may have, and what it tells of
 -- those to come.
-use Rattle.std.specs.Prelude.{ℕ, suc, ◌+◌, ◌-◌, ◌*◌, ◌/◌, ◌^◌, min, Bool, true, false, not, ◌&&◌, ◌||◌, List, length, Option, Some, None, option_map, Result, Ok, Err, nat_abs, nat_le, nat_lt, ◌==◌, if◌then◌else◌}
+use Rattle.std.specs.Prelude.{ℕ, ◌+◌, ◌-◌, ◌^◌, min, Bool, true, false, ◌&&◌, List, length, Option, Some, None, option_map, Result, Ok, Err, nat_abs, nat_le, nat_lt, ◌==◌, if◌then◌else◌}
 use Rattle.std.specs.List.{slice_get}
 use Rattle.std.specs.Option.{option_and_then}
-use Rattle.rbc_model.specs.declared.limits.TheConstants.{FARTHEST_END, FIRST_END_IN_TENS, FARTHEST_END_IN_TENS, TEN_METRES, GRADIENT_PACKET}
+use Rattle.rbc_model.specs.declared.limits.TheConstants.{GRADIENT_PACKET}
 use Rattle.rbc_model.specs.declared.limits.TheConstants.{MESSAGE_NUMBER, LAST_GROUP, NO_TIME_OUT, AUTHORITY_BITS, STEEPEST, GRADIENT_END_MARK, MOST_SPEED_STEPS, SPEED_END_MARK}
 use Rattle.rbc_model.specs.declared.messages.FieldName.{FieldName}
 use Rattle.rbc_model.specs.declared.messages.FieldName.TheVariants.{NID_MESSAGE, L_MESSAGE, T_TRAIN, NID_C, NID_BG, NID_PACKET, Q_DIR, L_PACKET, Q_SCALE, T_LOA, N_ITER, L_ENDSECTION, D_GRADIENT, Q_GDIR, G_A, D_STATIC, V_STATIC}

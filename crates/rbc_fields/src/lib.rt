@@ -2,7 +2,7 @@
 //! words, and the place of the first one that is at fault.
 #![tactic(auto)]
 
-ghost use Rattle.rbc_fields.specs.Laws.{FaultsAgree};
+ghost use Rattle.rbc_fields.specs.Laws.{FaultsAgree, FieldsAreThose};
 
 mod decoding;
 mod fields;
@@ -16,9 +16,10 @@ pub use fields::{Found, Place};
 pub use row::Row;
 pub use walk::Walk;
 
-/// The fields of a message end with no fault just where [`rbc_packet::read_message`] reads it, and else with the fault
-/// that it answers.
-pub fn faults_agree()
-    ensures { FaultsAgree }
-{
-}
+/// The walk over the fields of a message and [`rbc_packet::read_message`] come to the same: no fault is found just where
+/// it is read, and else the fault that reading answers; and the fields of a message that is read are those of its
+/// authority's message.
+pub fn messages_are_read_alike()
+    ensures faults { FaultsAgree }
+    ensures fields { FieldsAreThose }
+{}

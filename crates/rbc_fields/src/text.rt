@@ -118,7 +118,11 @@ fn print_direction<W: Sink>(direction: u32, writer: &mut W) -> Result<(), WriteF
     ensures { Prints (W.written writer.old) (W.written writer.new) (W.failed writer.new)
         (direction_line direction) result }
 {
-    print_line(b"direction", &[Word::Text(direction_text(direction))], writer)
+    print_line(
+        b"direction",
+        &[Word::Text(direction_text(direction))],
+        writer,
+    )
 }
 
 /// Writes where the authority or the packet ends, in metres from the group.

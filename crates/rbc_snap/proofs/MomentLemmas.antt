@@ -60,6 +60,6 @@ pub compared : (v w : ℕ) (xs ys zs : List HistoryOnTrack) → v ≡ length (la
 compared v w xs ys zs is_v is_w m n p q =
     by_bool (nat_lt v w) ((length (latest xs).entries < length (latest ys).entries) × IsLater (latest xs) (latest ys)) (IsLater (latest ys) (latest xs))
     (λ less.
-        let low : v < w = grind (arith, nat_tests) in
-        (omega (arith, low, is_v, is_w), later_of_two xs ys zs m n p q (omega (arith, low, is_v, is_w))))
+    let low : v < w = grind (arith, nat_tests) in
+    (omega (arith, low, is_v, is_w), later_of_two xs ys zs m n p q (omega (arith, low, is_v, is_w))))
     (λ not_less. let few : w ≤ v = grind (arith, nat_tests) in later_of_two ys xs zs n m q p (omega (arith, few, is_v, is_w)))
