@@ -70,8 +70,9 @@ pub fn read<'a>(alloc: Global, words: &'a [String]) -> Result<Task<'a>, Error> {
     let check = Command::new(alloc, "check").about(
         "Tells of each certificate on standard input whether its prices show that no profile loses less",
     );
-    let decode = Command::new(alloc, "decode")
-        .about("Prints each message 3 and packet on standard input field by field, and in words");
+    let decode = Command::new(alloc, "decode").about(
+        "Prints each message 3 and packet on standard input field by field, and in words",
+    );
     let run = Command::new(alloc, "run")
         .about(
             "Runs a centre on the track of a file: answers reports, locks and requests on standard input",
