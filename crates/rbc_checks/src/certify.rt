@@ -15,7 +15,7 @@ use crate::lines::ToldProfile;
 use crate::table::{Told, price_at, steps_of, table_of};
 use rbc_model::scales::unit_of;
 use rbc_model::{OrMemory, Reason};
-use rbc_price::{Prices, check, column_count};
+use rbc_price::{Priced, Prices, check, column_count};
 use rbc_steps::{Grade, Level, Profile, Runs, Speed};
 use rbc_words::StepsRequest;
 use std::alloc::Global;
@@ -102,7 +102,7 @@ fn parts_of<V: Told>(
 /// # Errors
 ///
 /// As of [`certify_speeds`].
-fn certify<V: Level>(
+fn certify<V: Priced>(
     alloc: Global,
     parts: &Parts<V>,
     loss: u64,
@@ -114,7 +114,7 @@ fn certify<V: Level>(
     let Some(prices) = table_of(alloc, rows)? else {
         return Err(OrMemory::Refused(Reason::Shape));
     };
-    match check_told(parts, &prices, loss) {
+    match check_told(alloc, parts, &prices, loss) {
         Ok(()) => Ok(()),
         Err(reason) => Err(OrMemory::Refused(reason)),
     }
@@ -125,7 +125,12 @@ fn certify<V: Level>(
 /// # Errors
 ///
 /// The first reason; `NotAttained` also where the loss told is not the last price, before `Steps`.
-fn check_told<V: Level>(parts: &Parts<V>, prices: &Prices, loss: u64) -> Result<(), Reason>
+fn check_told<V: Priced>(
+    alloc: Global,
+    parts: &Parts<V>,
+    prices: &Prices,
+    loss: u64,
+) -> Result<(), Reason>
     ensures { result ≡ with_loss
         (loss == last_price V.levels parts.now.limit parts.now.track (prices_of prices.now.items))
         (price_check V.levels parts.now.limit parts.now.track parts.now.profile (prices_of prices.now.items)) }
@@ -137,7 +142,7 @@ fn check_told<V: Level>(parts: &Parts<V>, prices: &Prices, loss: u64) -> Result<
     let columns = column_count(&parts.track);
     let is_last = loss == price_at(prices, parts.limit.min(columns), columns);
     with_loss(
-        check(&parts.track, parts.limit, &parts.profile, prices),
+        check(alloc, &parts.track, parts.limit, &parts.profile, prices),
         is_last,
     )
 }

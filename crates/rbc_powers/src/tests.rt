@@ -177,7 +177,7 @@ fn reduced<V: Kind>(
     let track = track_of(rt, runs, end);
     assert!(rt; is_whole(&track));
     let reduced = reduce(rt.alloc(), &track, limit).expect(rt, "memory");
-    assert!(rt; check(&track, limit, &reduced.profile, &reduced.prices) == Ok(()));
+    assert!(rt; check(rt.alloc(), &track, limit, &reduced.profile, &reduced.prices) == Ok(()));
     reduced
 }
 
@@ -257,7 +257,7 @@ fn memory_or_the_answer(rt: HostRuntime) {
     if let Ok(track) = Runs::new(rows, 300) {
         assert!(rt; is_whole(&track));
         if let Ok(reduced) = reduce(rt.alloc(), &track, 2) {
-            assert!(rt; check(&track, 2, &reduced.profile, &reduced.prices) == Ok(()));
+            assert!(rt; check(rt.alloc(), &track, 2, &reduced.profile, &reduced.prices) == Ok(()));
         }
     }
 }

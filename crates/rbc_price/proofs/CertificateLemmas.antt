@@ -1,12 +1,12 @@
 -- There is no reason against a profile just where the table is a certificate, and then the profile is best.
-use Rattle.std.proofs.Common.{◌≡◌, refl, ap, sym, ◌∙◌, arith, subst, ℕ, zero, suc, ◌+◌, ◌<◌, ◌≤◌, ◌&&◌, ◌↔◌, Bool, true, false, List, length, nat_le, ◌==◌, Option, Some, None, Result, Ok, Err, IsTrue}
+use Rattle.std.proofs.Common.{◌≡◌, refl, ap, sym, ◌∙◌, arith, subst, ℕ, zero, suc, ◌+◌, ◌<◌, ◌≤◌, ◌↔◌, Bool, true, false, List, length, nat_le, ◌==◌, Option, Some, None, Result, Ok, Err, IsTrue}
 use Rattle.std.specs.List.{list_all}
 use Rattle.std.specs.Result.{OnOk}
 use Rattle.std.proofs.lemmas.Bool.{le-leb, leb-true, eqb-true, eq-eqb}
 use Rattle.rbc_model.specs.declared.limits.TheConstants.{MOST_STEPS}
 use Rattle.rbc_model.specs.declared.prices.Reason.{Reason}
 use Rattle.rbc_model.specs.declared.prices.Reason.TheVariants.{Shape, Above, Inequality, NotAttained, Steps}
-use Rattle.rbc_model.specs.Results.{is_from_to, demand, ◌>>◌}
+use Rattle.rbc_model.specs.Results.{demand, ◌>>◌}
 use Rattle.rbc_model.specs.Levels.{Levels, IsLawful}
 use Rattle.rbc_model.specs.Profiles.{StepFunction, value_at, is_within, IsStepList, IsProfile, IsTrackFunction, Fits, IsBestProfile}
 use Rattle.rbc_model.specs.PriceTables.{table_at, step_cost, break_at, IsSoundTable}

@@ -1,5 +1,5 @@
 -- The columns of a table, and the least values of their stretches.
-use Rattle.std.proofs.Common.{◌≡◌, refl, ap, sym, ◌∙◌, arith, subst, ℕ, zero, suc, ◌+◌, ◌-◌, ◌%◌, ◌<◌, ◌≤◌, Bool, true, false, length, nat_le, get_or, Some, if◌then◌else◌}
+use Rattle.std.proofs.Common.{◌≡◌, refl, ap, sym, ◌∙◌, arith, ℕ, zero, suc, ◌+◌, ◌-◌, ◌%◌, ◌<◌, ◌≤◌, Bool, true, false, nat_le, Some, if◌then◌else◌}
 use Rattle.rbc_model.specs.declared.limits.TheConstants.{FARTHEST_END, TEN_METRES}
 use Rattle.rbc_model.specs.Levels.{Levels, IsInRange, IsAtMost, IsLawful}
 use Rattle.rbc_model.specs.Profiles.{StepFunction, IsTrackFunction, value_at}
@@ -12,7 +12,6 @@ use Rattle.rbc_table_laws.proofs.TableLawLemmas.{breaks_walked}
 use Rattle.rbc_table_laws.proofs.StretchLemmas.{breaks_to_end, least_is, least_range}
 use Rattle.rbc_table_laws.proofs.LeastLemmas.{least_between, in_range_at, other_lower}
 use Rattle.rbc_table_laws.proofs.BreakLemmas.{covered_of}
-use Rattle.rbc_stretches.specs.declared.stretch.Stretch.{Stretch}
 use Rattle.rbc_price.specs.declared.columns.Column.{Column}
 use Rattle.rbc_price.specs.Columns.{IsColumn, stretches_of, break_metre}
 use Rattle.rbc_price.specs.Costs.{stretch_value, is_stretch_at_most, IsCostAt}
@@ -27,14 +26,14 @@ some_unit end = some_of (nat_le end FARTHEST_END)
 
 module _ {V : Type 0} (levels : Levels V) (lawful : IsLawful levels) (track : StepFunction V) (function : IsTrackFunction levels track.end track.steps)
     (whole : track.end % unit_of track.end ≡ 0) where
-  are : AreBreaksFor (unit_of track.end) track (breaks_for (unit_of track.end) track)
-  are = (breaks_walked levels lawful (unit_of track.end) (some_unit track.end) track whole function (breaks_in track) (in_track levels track.end track.steps function)).0
+  pub are_breaks : AreBreaksFor (unit_of track.end) track (breaks_for (unit_of track.end) track)
+  are_breaks = (breaks_walked levels lawful (unit_of track.end) (some_unit track.end) track whole function (breaks_in track) (in_track levels track.end track.steps function)).0
 
   pub rises : (i : ℕ) → i < stretches_of track → break_metre track i < break_metre track (i + 1)
-  rises i h = are.rise i (omega arith)
+  rises i h = are_breaks.rise i (omega arith)
 
   pub to_end : (i : ℕ) → i ≤ stretches_of track → break_metre track i ≤ track.end
-  to_end i h = let some = are.some in breaks_to_end (unit_of track.end) track (breaks_for (unit_of track.end) track) are i (omega arith)
+  to_end i h = let some = are_breaks.some in breaks_to_end (unit_of track.end) track (breaks_for (unit_of track.end) track) are_breaks i (omega arith)
 
   -- there are no more breaks than metres
   pub few : (i : ℕ) → i ≤ stretches_of track → i ≤ break_metre track i

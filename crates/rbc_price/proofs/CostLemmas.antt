@@ -1,5 +1,5 @@
 -- What one step costs between two metres, stretch by stretch.
-use Rattle.std.proofs.Common.{◌≡◌, arith, ℕ, ◌+◌, ◌*◌, ◌<◌, ◌≤◌}
+use Rattle.std.proofs.Common.{◌≡◌, arith, ℕ, ◌+◌, ◌*◌, ◌≤◌}
 use Rattle.rbc_model.specs.Levels.{Levels, IsInRange, IsAtMost, IsLawful}
 use Rattle.rbc_model.specs.Profiles.{StepFunction, IsTrackFunction, value_at}
 use Rattle.rbc_model.specs.PriceTables.{cost}

@@ -7,3 +7,4 @@ pub mod PlaceLemmas
 pub mod SearchLemmas
 pub mod ShapeLemmas
 pub mod TableLemmas
+pub mod SoundLemmas

@@ -1,5 +1,5 @@
 -- The shape of a table: what it says, test by test.
-use Rattle.std.proofs.Common.{◌≡◌, refl, sym, ◌∙◌, arith, ℕ, ◌%◌, ◌≤◌, List, length, Bool, true, false, ◌&&◌, ◌==◌, nat_le, min}
+use Rattle.std.proofs.Common.{◌≡◌, refl, sym, ℕ, ◌%◌, ◌≤◌, List, length, Bool, true, false, ◌&&◌, ◌==◌, nat_le, min}
 use Rattle.std.specs.List.{list_all}
 use Rattle.std.proofs.lemmas.Bool.{eqb-true, eq-eqb, le-leb, leb-true}
 use Rattle.rbc_model.specs.declared.limits.TheConstants.{MOST_STEPS}

@@ -4,7 +4,7 @@ ghost use Rattle.rbc_model.specs.Profiles.{IsStepList};
 ghost use Rattle.rbc_model.specs.PriceChecks.{first_above, unless_some};
 ghost use Rattle.rbc_price.specs.Metres.{AreWithin, IsFirstAbove};
 
-use crate::costs::is_at_most;
+use rbc_costs::is_at_most;
 use rbc_model::Reason;
 use rbc_steps::{Level, Profile, Runs};
 

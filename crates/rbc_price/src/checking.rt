@@ -10,8 +10,10 @@ use crate::above::stays_below;
 use crate::columns::column_count;
 use crate::inequalities::has_no_high_price;
 use crate::shape::{has_shape, price_at};
+use rbc_costs::Priced;
 use rbc_model::Reason;
-use rbc_steps::{Level, Profile, Runs};
+use rbc_steps::{Profile, Runs};
+use std::alloc::Global;
 
 /// A table of prices: a row for each number of steps from 1, and in it a price for each break of the track but the
 /// first: what so many steps lose at least up to there. The breaks are where runs start and where the track ends; where it
@@ -19,7 +21,8 @@ use rbc_steps::{Level, Profile, Runs};
 pub type Prices = Vec<Vec<u64>>;
 
 /// The first reason against the profile, test by test.
-fn judge<V: Level>(
+fn judge<V: Priced>(
+    alloc: Global,
     track: &Runs<V>,
     limit: usize,
     profile: &Profile<V>,
@@ -34,7 +37,7 @@ fn judge<V: Level>(
     }
     let columns = column_count(track);
     stays_below(track, profile)?;
-    has_no_high_price(track, rows)?;
+    has_no_high_price(alloc, track, rows)?;
     if profile.loss(track) != price_at(rows, rows.len(), columns) {
         return Err(Reason::NotAttained);
     }
@@ -44,7 +47,8 @@ fn judge<V: Level>(
     Ok(())
 }
 
-/// Whether the prices show that the profile is a best one for the track, of at most `limit` steps. It takes no memory.
+/// Whether the prices show that the profile is a best one for the track, of at most `limit` steps. It asks
+/// for memory to be fast, and answers the same where there is none.
 ///
 /// Where it answers Ok no profile of at most `limit` steps that is above the track at no metre loses less than this
 /// one, wherever it is cut: at any metre up to an end of 32,000 m, and at multiples of ten metres beyond.
@@ -58,7 +62,8 @@ fn judge<V: Level>(
 /// - `Inequality`: this price is too high, the first such one by row, then by break, then by the break before.
 /// - `NotAttained`: the profile does not lose what the last price of the last row says.
 /// - `Steps`: the profile has more than `limit` steps.
-pub fn check<V: Level>(
+pub fn check<V: Priced>(
+    alloc: Global,
     track: &Runs<V>,
     limit: usize,
     profile: &Profile<V>,
@@ -70,5 +75,5 @@ pub fn check<V: Level>(
     ensures best { OnOk result
         (IsBestProfile V.levels (unit_of track.now.end) limit track.now.end (value_at track.now.steps) profile.now.steps) }
 {
-    judge(track, limit, profile, prices.as_slice())
+    judge(alloc, track, limit, profile, prices.as_slice())
 }

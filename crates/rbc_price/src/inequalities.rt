@@ -13,12 +13,14 @@ ghost use Rattle.rbc_price.specs.Places.{IsDearer, IsFirst, IsFirstRow};
 ghost use Rattle.rbc_price.specs.Costs.{IsCostAt, IsLowestStretch};
 
 use crate::columns::{Column, column_before, column_behind, first_column, metre_of};
-use crate::costs::is_at_most;
 use crate::places::{Place, earlier};
 use crate::shape::price_at;
+use crate::sound::is_sound;
+use rbc_costs::{Priced, is_at_most};
 use rbc_model::Reason;
 use rbc_steps::{Level, Runs};
 use rbc_stretches::{least_on, price_on};
+use std::alloc::Global;
 
 /// Whether the price in this row up to the break `to` is above that of the row before, up to the break `from`, with
 /// so much for one step more. The first step starts at break 0.
@@ -127,13 +129,21 @@ fn first_of_all<V: Level>(track: &Runs<V>, rows: &[Vec<u64>]) -> Option<Place>
     first
 }
 
-/// A refusal at the first price that is too high.
-pub(crate) fn has_no_high_price<V: Level>(track: &Runs<V>, rows: &[Vec<u64>]) -> Result<(), Reason>
+/// A refusal at the first price that is too high. Most tables have none: so it is asked first, column by column, whether
+/// there is one, and looked for only then, or where there is no memory to ask.
+pub(crate) fn has_no_high_price<V: Priced>(
+    alloc: Global,
+    track: &Runs<V>,
+    rows: &[Vec<u64>],
+) -> Result<(), Reason>
     requires whole { track.now.end % unit_of track.now.end ≡ 0 }
     requires wide { AreWide (stretches_of track.now) rows.now }
     ensures { (limit : ℕ) → length rows.now ≡ steps_of_use V.levels limit track.now (prices_of rows.now)
         → result ≡ unless_some (first_too_high V.levels limit track.now (prices_of rows.now)) }
 {
+    if let Ok(true) = is_sound(alloc, track, rows) {
+        return Ok(());
+    }
     match first_of_all(track, rows) {
         Some(place) => Err(Reason::Inequality(
             place.row + 1,

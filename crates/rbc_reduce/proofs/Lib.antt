@@ -1,6 +1,3 @@
-pub mod PriceLemmas
-pub mod NextBreakLemmas
-pub mod CostLemmas
 pub mod RowLemmas
 pub mod GreatestTableLemmas
 pub mod ReadBackLemmas

@@ -1,37 +1,22 @@
 -- Tables of prices, as they are filled column by column.
-use Rattle.std.specs.Prelude.{◌≡◌, ℕ, zero, suc, ◌+◌, ◌<◌, ◌≤◌, List, [], ◌∷◌, ◌++◌, length, map, slice_get, slice_index}
+use Rattle.std.specs.Prelude.{◌≡◌, ℕ, suc, ◌<◌, ◌≤◌, List, [], ◌∷◌, ◌++◌, length, slice_get, slice_index}
 use Rattle.std.specs.Option.{option_map_or}
 use Rattle.std.specs.Global.{Vec}
 use Rattle.rbc_model.specs.PriceTables.{table_at}
 pub use Rattle.rbc_table_laws.specs.PriceRows.{prices_of}
+pub use Rattle.rbc_costs.specs.Sums.{IsCheapest, price_up_to, row_in}
 
 -- the price in row j and column i, both from 1
 abbrev pub price_in : List (Vec ℕ) → ℕ → ℕ → ℕ
 price_in rows j i = table_at (prices_of rows) j i
 
--- the row of an index, whose totals are these numbers
-abbrev pub row_in : {N : Type 0} → (N → ℕ) → List (Vec N) → ℕ → List ℕ
-row_in number rows index = option_map_or (λ row. map number row.items) (slice_get rows index) []
-
--- and where they are numbers themselves
+-- the row of an index
 abbrev pub row_at : List (Vec ℕ) → ℕ → List ℕ
 row_at rows index = option_map_or (λ row. row.items) (slice_get rows index) []
-
--- the price up to a break, in a row that begins with the first break behind 0
-abbrev pub price_up_to : List ℕ → ℕ → ℕ
-price_up_to row zero = 0
-price_up_to row (suc i) = slice_index row i
 
 -- none is above what can be lost
 abbrev pub AreSmall : (ℕ → ℕ) → Type 0
 AreSmall price = (i : ℕ) → price i ≤ 100000000000
-
--- The price is the least with one step more, from one of the breaks before `to`.
-pub record IsCheapest (before costs : ℕ → ℕ) (to price : ℕ) : Type 0 where
-  pub lowest : (i : ℕ) → i < to → price ≤ before i + costs i
-  pub from : ℕ
-  pub inside : from < to
-  pub reached : price ≡ before from + costs from
 
 -- Each of so many rows has one price more: in the first row it is what one step costs, and in each later one the
 -- cheapest with one step more than those of the row before.

@@ -5,27 +5,13 @@ ghost use Rattle.rbc_model.specs.Scales.{unit_of};
 ghost use Rattle.rbc_table_laws.specs.PriceRows.{prices_of, AreWide};
 ghost use Rattle.rbc_table_laws.specs.Stretches.{cost_of_step};
 ghost use Rattle.rbc_reduce.specs.Rows.{AreFilled, AreSmall, price_in, row_at, row_in};
-ghost use Rattle.rbc_reduce.specs.Stretches.{AreStretches};
+ghost use Rattle.rbc_costs.specs.Stretches.{AreStretches};
 
-use crate::costs::costs_on;
-use crate::priced::Priced;
 use crate::table::{add_column, empty_rows};
-use crate::total::Total;
+use rbc_costs::{Priced, Stretch, Total, totals_on};
 use rbc_model::Memory;
 use rbc_steps::{Level, Runs};
-use rbc_stretches::Stretch;
 use std::alloc::Global;
-
-/// Writes costs as totals.
-fn write_totals<N: Total>(costs: &[u64], totals: &mut [N])
-    requires room { length costs.now ≤ length totals.old }
-    requires small { (i : ℕ) → i < length costs.now → slice_index costs.now i ≤ N.most }
-    ensures { (i : ℕ) → i < length costs.now → slice_index (map N.number totals.new) i ≡ slice_index costs.now i }
-{
-    for i in 0..costs.len() {
-        totals[i] = N::of(costs[i]);
-    }
-}
 
 /// The numbers of totals.
 fn numbers_of<N: Total>(alloc: Global, totals: &[N]) -> Result<Vec<u64>, Memory>
@@ -67,8 +53,13 @@ fn filled<V: Level, N: Total>(
     let mut totals = vec![in alloc; N::of(0); breaks]?;
     let mut rows = empty_rows(alloc, count, breaks)?;
     for last in 0..breaks {
-        costs_on(track, stretches, last + 1, costs.as_mut_slice());
-        write_totals(&costs[..last + 1], totals.as_mut_slice());
+        totals_on(
+            track,
+            stretches,
+            last + 1,
+            costs.as_mut_slice(),
+            totals.as_mut_slice(),
+        );
         add_column(&mut rows, &totals[..last + 1])?;
     }
     Ok(rows)

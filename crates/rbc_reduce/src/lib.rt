@@ -7,15 +7,11 @@
 //! up to what the message can give, and its end.
 #![tactic(auto)]
 
-mod costs;
 mod fill;
-mod priced;
 mod reduction;
-mod stretches;
 mod table;
-mod total;
 mod traceback;
 
-pub use priced::Priced;
+pub use rbc_costs::Priced;
 pub use rbc_model::Memory;
 pub use reduction::{Reduced, reduce};

@@ -7,9 +7,8 @@ ghost use Rattle.rbc_model.specs.declared.limits.TheConstants.{MOST_STEPS};
 ghost use Rattle.rbc_table_laws.specs.PriceRows.{prices_of};
 
 use crate::fill::fill;
-use crate::priced::Priced;
-use crate::stretches::stretches_of;
 use crate::traceback::steps_of;
+use rbc_costs::{Priced, stretches_of};
 use rbc_model::Memory;
 use rbc_steps::{Level, Profile, Runs};
 use std::alloc::Global;

@@ -5,12 +5,11 @@ ghost use Rattle.rbc_model.specs.Scales.{unit_of};
 ghost use Rattle.rbc_table_laws.specs.Tracebacks.{IsReadOff};
 ghost use Rattle.rbc_table_laws.specs.PriceRows.{prices_of, AreAsWideAs};
 ghost use Rattle.rbc_reduce.specs.Rows.{AreSmall, price_in};
-ghost use Rattle.rbc_reduce.specs.Stretches.{AreStretches};
+ghost use Rattle.rbc_costs.specs.Stretches.{AreStretches};
 
-use crate::costs::{costs_to, least_of};
+use rbc_costs::{Stretch, costs_to, least_of};
 use rbc_model::Memory;
 use rbc_steps::{Level, Runs};
-use rbc_stretches::Stretch;
 use std::alloc::Global;
 
 /// The price in the row of so many steps and in this column; nothing is lost by no steps, or up to break 0.

@@ -2,8 +2,8 @@ use Rattle.std.proofs.Common.{arith, ◌*◌, ◌<◌, ◌≤◌, ℕ, Result, O
 use Rattle.std.specs.Result.{IfOk}
 use Rattle.rbc_model.specs.Scales.{unit_of}
 use Rattle.rbc_table_laws.specs.Stretches.{breaks_for, cost_of_step}
-use Rattle.rbc_reduce.specs.Prices.{ArePricesAtMost}
-use Rattle.rbc_reduce.proofs.CostLemmas.{costs_bounded}
+use Rattle.rbc_costs.specs.Prices.{ArePricesAtMost}
+use Rattle.rbc_costs.proofs.CostLemmas.{costs_bounded}
 use Rattle.rbc_reduce.proofs.GreatestTableLemmas.{filled_is_greatest, wide_rows, small_in}
 use Rattle.rbc_reduce.proofs.fill.fill.Given.{Over}
 use Rattle.rbc_reduce.proofs.fill.fill.Goals as goal

@@ -2,7 +2,7 @@ use Rattle.std.proofs.Common.{arith, ◌≡◌, ℕ, suc, ◌-◌, ◌≤◌, �
 use Rattle.std.specs.Result.{OnOk}
 use Rattle.std.proofs.lemmas.List.{length-map}
 use Rattle.rbc_reduce.specs.Rows.{IsCheapest, price_up_to, row_in}
-use Rattle.rbc_reduce.proofs.RowLemmas.{read_at, row_is}
+use Rattle.rbc_costs.proofs.TotalLemmas.{read_at, row_is}
 use Rattle.rbc_reduce.proofs.table.add_column.Given.{Over}
 use Rattle.rbc_reduce.proofs.table.add_column.Goals as goal
 use Rattle.rbc_reduce.proofs.table.add_column.Goals.{After-as_slice}

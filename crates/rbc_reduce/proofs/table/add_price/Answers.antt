@@ -1,5 +1,6 @@
 use Rattle.std.proofs.Common.{◌++◌, ◌∷◌, [], ap, ◌∙◌, map}
-use Rattle.rbc_reduce.proofs.RowLemmas.{row_is, row_set, row_kept, map_more}
+use Rattle.rbc_costs.proofs.TotalLemmas.{row_is, map_more}
+use Rattle.rbc_reduce.proofs.RowLemmas.{row_set, row_kept}
 use Rattle.rbc_reduce.proofs.table.add_price.Goals as goal
 
 pub returns-clause-added : goal.returns-clause-added

@@ -7,7 +7,7 @@ use Rattle.rbc_table_laws.specs.Tracebacks.{IsOnWay, IsTracedTo}
 use Rattle.rbc_table_laws.specs.Stretches.{breaks_for, cost_of_step}
 use Rattle.rbc_table_laws.specs.PriceRows.{prices_of}
 use Rattle.rbc_reduce.specs.Rows.{price_in}
-use Rattle.rbc_reduce.proofs.NextBreakLemmas.{near}
+use Rattle.rbc_costs.proofs.NextBreakLemmas.{near}
 use Rattle.rbc_reduce.proofs.ReadBackLemmas.{some_unit, some_row, begun, read_off, some_column, some_break, one_back}
 use Rattle.rbc_reduce.proofs.traceback.steps_of.Given.{Over}
 use Rattle.rbc_reduce.proofs.traceback.steps_of.Goals as goal

@@ -1,0 +1,4 @@
+pub mod PriceLemmas
+pub mod NextBreakLemmas
+pub mod CostLemmas
+pub mod TotalLemmas

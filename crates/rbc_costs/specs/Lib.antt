@@ -1,0 +1,3 @@
+pub mod Prices
+pub mod Stretches
+pub mod Sums

@@ -1,0 +1,183 @@
+//! What one step costs from a break up to another.
+ghost use Rattle.std.specs.Prelude.{◌≡◌, ℕ, ◌+◌, ◌-◌, ◌*◌, ◌<◌, ◌≤◌, map, length, slice_index};
+ghost use Rattle.rbc_model.specs.Scales.{unit_of};
+ghost use Rattle.rbc_table_laws.specs.Breaks.{IsLowest};
+ghost use Rattle.rbc_table_laws.specs.Stretches.{breaks_for, cost_of_step};
+ghost use Rattle.rbc_stretches.specs.OnTracks.{IsOnTrack};
+ghost use Rattle.rbc_costs.specs.Stretches.{AreStretches, IsLostByFloor};
+
+use crate::total::{Total, write_totals};
+use rbc_steps::{Level, Runs};
+use rbc_stretches::{Stretch, price_on};
+
+/// Whether the one value is no higher than the other.
+pub fn is_at_most<V: Level>(a: V, b: V) -> bool
+    ensures { result ≡ V.levels.at_most a b }
+{
+    a.known();
+    b.known();
+    a <= b
+}
+
+/// The least value from one break up to another.
+pub fn least_of<V: Level>(track: &Runs<V>, stretches: &[(Stretch, V)], from: usize, to: usize) -> V
+    requires stretches { AreStretches V.levels (unit_of track.now.end) track.now stretches.now }
+    requires rises { from < to }
+    requires inside { to ≤ length stretches.now }
+    ensures { IsLowest V.levels track.now (slice_index (breaks_for (unit_of track.now.end) track.now) from)
+        (slice_index (breaks_for (unit_of track.now.end) track.now) to) result }
+{
+    let _runs = track.runs();
+    let mut least = stretches[to - 1].1;
+    for i in (from..to - 1).rev() {
+        let here = stretches[i].1;
+        if !is_at_most(least, here) {
+            least = here;
+        }
+    }
+    least
+}
+
+/// The least value where one stretch more stands in front, and what its floor loses on the stretch `last`; `least` and
+/// `lost` are both from the stretch behind on.
+fn lowered<V: Level>(
+    track: &Runs<V>,
+    last: Stretch,
+    least: V,
+    lost: u64,
+    front: (Stretch, V),
+) -> (V, u64)
+    requires last { IsOnTrack track.now last }
+    requires before { front.0.to ≤ last.from }
+    requires front { IsLowest V.levels track.now front.0.from front.0.to front.1 }
+    requires least { IsLowest V.levels track.now front.0.to last.to least }
+    requires lost { IsLostByFloor V.levels track.now last.from last.to least lost }
+    ensures least { IsLowest V.levels track.now front.0.from last.to result.0 }
+    ensures lost { IsLostByFloor V.levels track.now last.from last.to result.0 result.1 }
+{
+    let _runs = track.runs();
+    if is_at_most(least, front.1) {
+        return (least, lost);
+    }
+    (front.1, price_on(track, last, front.1.floor()))
+}
+
+/// The least value where one stretch more stands in front, and what its floor loses up to `end`; `least` and `lost` are
+/// both from the stretch behind on.
+fn further<V: Level>(
+    track: &Runs<V>,
+    end: u32,
+    least: V,
+    lost: u64,
+    front: (Stretch, V),
+) -> (V, u64)
+    requires on_track { IsOnTrack track.now front.0 }
+    requires inside { end ≤ track.now.end }
+    requires front { IsLowest V.levels track.now front.0.from front.0.to front.1 }
+    requires least { IsLowest V.levels track.now front.0.to end least }
+    requires lost { IsLostByFloor V.levels track.now front.0.to end least lost }
+    ensures least { IsLowest V.levels track.now front.0.from end result.0 }
+    ensures lost { IsLostByFloor V.levels track.now front.0.from end result.0 result.1 }
+{
+    let _runs = track.runs();
+    if is_at_most(least, front.1) {
+        return (least, lost + price_on(track, front.0, least.floor()));
+    }
+    let whole = Stretch {
+        from: front.0.from,
+        to: end,
+        first: front.0.first,
+    };
+    (front.1, price_on(track, whole, front.1.floor()))
+}
+
+/// Writes what one step costs from each break before `to` up to there, whatever `costs` has: what it costs from the break
+/// behind and what is lost on the stretch between, or anew where the least value falls.
+pub fn costs_to<V: Level>(track: &Runs<V>, stretches: &[(Stretch, V)], to: usize, costs: &mut [u64])
+    requires stretches { AreStretches V.levels (unit_of track.now.end) track.now stretches.now }
+    requires some { 0 < to }
+    requires inside { to ≤ length stretches.now }
+    requires room { to ≤ length costs.old }
+    ensures costs { (i : ℕ) → i < to
+        → slice_index costs.new i ≡ cost_of_step V.levels (unit_of track.now.end) track.now i to }
+    ensures bound { (i : ℕ) → i < to
+        → slice_index costs.new i ≤ slice_index (breaks_for (unit_of track.now.end) track.now) to * 1000000 }
+{
+    let _runs = track.runs();
+    let last = stretches[to - 1].0;
+    let mut least = stretches[to - 1].1;
+    let mut lost = price_on(track, last, least.floor());
+    costs[to - 1] = lost;
+    for i in (0..to - 1).rev() {
+        let lowest = further(track, last.to, least, lost, stretches[i]);
+        least = lowest.0;
+        lost = lowest.1;
+        costs[i] = lost;
+    }
+}
+
+/// Goes on to the next break: where `costs` has what one step costs up to the break before `to`, writes what one costs
+/// up to `to`. As far back as no stretch is lower than the last one the step has that one's floor; before, the least
+/// value stays as it was, and the step costs what it cost and what its floor loses on the last stretch.
+fn costs_on<V: Level>(track: &Runs<V>, stretches: &[(Stretch, V)], to: usize, costs: &mut [u64])
+    requires stretches { AreStretches V.levels (unit_of track.now.end) track.now stretches.now }
+    requires some { 0 < to }
+    requires inside { to ≤ length stretches.now }
+    requires room { to ≤ length costs.old }
+    requires costs { (i : ℕ) → i < to - 1
+        → slice_index costs.old i ≡ cost_of_step V.levels (unit_of track.now.end) track.now i (to - 1) }
+    requires bound { (i : ℕ) → i < to - 1
+        → slice_index costs.old i ≤ slice_index (breaks_for (unit_of track.now.end) track.now) (to - 1) * 1000000 }
+    ensures costs { (i : ℕ) → i < to
+        → slice_index costs.new i ≡ cost_of_step V.levels (unit_of track.now.end) track.now i to }
+    ensures bound { (i : ℕ) → i < to
+        → slice_index costs.new i ≤ slice_index (breaks_for (unit_of track.now.end) track.now) to * 1000000 }
+{
+    let _runs = track.runs();
+    let last = stretches[to - 1].0;
+    let new = stretches[to - 1].1;
+    let mut price = price_on(track, last, new.floor());
+    let mut least = new;
+    let mut lost = price;
+    costs[to - 1] = price;
+    for i in (0..to - 1).rev() {
+        let lowest = lowered(track, last, least, lost, stretches[i]);
+        least = lowest.0;
+        lost = lowest.1;
+        if is_at_most(new, least) {
+            price += price_on(track, stretches[i].0, new.floor());
+            costs[i] = price;
+        } else {
+            costs[i] += lost;
+        }
+    }
+}
+
+/// The same, and writes these costs as totals.
+pub fn totals_on<V: Level, N: Total>(
+    track: &Runs<V>,
+    stretches: &[(Stretch, V)],
+    to: usize,
+    costs: &mut [u64],
+    totals: &mut [N],
+)
+    requires stretches { AreStretches V.levels (unit_of track.now.end) track.now stretches.now }
+    requires some { 0 < to }
+    requires inside { to ≤ length stretches.now }
+    requires room { to ≤ length costs.old }
+    requires room_of_totals { to ≤ length totals.old }
+    requires costs { (i : ℕ) → i < to - 1
+        → slice_index costs.old i ≡ cost_of_step V.levels (unit_of track.now.end) track.now i (to - 1) }
+    requires bound { (i : ℕ) → i < to - 1
+        → slice_index costs.old i ≤ slice_index (breaks_for (unit_of track.now.end) track.now) (to - 1) * 1000000 }
+    requires small { (i : ℕ) → i < to → cost_of_step V.levels (unit_of track.now.end) track.now i to ≤ N.most }
+    ensures costs { (i : ℕ) → i < to
+        → slice_index costs.new i ≡ cost_of_step V.levels (unit_of track.now.end) track.now i to }
+    ensures bound { (i : ℕ) → i < to
+        → slice_index costs.new i ≤ slice_index (breaks_for (unit_of track.now.end) track.now) to * 1000000 }
+    ensures totals { (i : ℕ) → i < to
+        → slice_index (map N.number totals.new) i ≡ cost_of_step V.levels (unit_of track.now.end) track.now i to }
+{
+    costs_on(track, stretches, to, costs);
+    write_totals(&costs[..to], totals);
+}

@@ -1,0 +1,20 @@
+//! What one step costs from each break of a track up to another.
+//!
+//! The breaks are the starts of the track's runs, rounded down and up to what a message can give, and its end. Costs are
+//! found break by break: those up to the next one from those up to the one before. They are kept in numbers of 32 bits
+//! where the prices of a kind of level allow it, so that a processor adds and compares several at once.
+#![tactic(auto)]
+
+mod costs;
+mod priced;
+mod stretches;
+mod sums;
+mod total;
+
+pub use costs::{costs_to, is_at_most, least_of, totals_on};
+pub use priced::Priced;
+pub use rbc_model::Memory;
+pub use rbc_stretches::Stretch;
+pub use stretches::stretches_of;
+pub use sums::cheapest;
+pub use total::Total;

@@ -1,5 +1,0 @@
-use Rattle.rbc_reduce.proofs.PriceLemmas.{gradients_are_low}
-use Rattle.rbc_reduce.proofs.priced.GradePriced.is_low.Goals as goal
-
-pub returns : goal.returns
-returns c = λ yes. gradients_are_low
