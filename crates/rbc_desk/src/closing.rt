@@ -1,22 +1,14 @@
 //! Whether the receipts of all seats are the history.
 
-ghost use Rattle.std.specs.Prelude.{◌≡◌, ◌↔◌, IsTrue, ◌+◌, ◌≤◌, ◌<◌, [], All, List, length, vec_len};
+ghost use Rattle.std.specs.Prelude.{◌≡◌, ◌+◌, ◌≤◌, ◌<◌, [], All, List, length, vec_len};
 ghost use Rattle.rbc_model.specs.Histories.{Receipt};
-ghost use Rattle.rbc_snap.specs.Entries.{entry_of};
 ghost use Rattle.rbc_snap.specs.Later.{IsLater};
 ghost use Rattle.rbc_desk.specs.Closing.{all_receipts, AreMarked, FindsAll, Finds};
 
 use crate::{DeskName, Seat};
-use rbc_snap::{Entry, Press, Receipt, Record};
+use rbc_snap::{Press, Receipt, Record};
 use std::sync::Wait;
 use std::sync::ledger::Share;
-
-/// Whether both entries say the same.
-fn is_same_entry(one: &Entry, other: &Entry) -> bool
-    ensures { IsTrue result ↔ (entry_of one.now ≡ entry_of other.now) }
-{
-    *one == *other
-}
 
 /// Whether the receipt is at its place, for which no other was found yet. If so, it is marked as found.
 fn find(log: &Record, start: u64, marks: &mut Vec<bool>, receipt: &Receipt) -> bool
@@ -29,7 +21,7 @@ fn find(log: &Record, start: u64, marks: &mut Vec<bool>, receipt: &Receipt) -> b
     let Some(entry) = log.entry(place) else {
         return false;
     };
-    if place < start || !is_same_entry(entry, receipt.entry()) {
+    if place < start || !receipt.is_for(entry) {
         return false;
     }
     let index = (place - start) as usize;

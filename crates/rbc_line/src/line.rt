@@ -58,6 +58,25 @@ impl Line {
         })
     }
 
+    /// The line of these legs of the track, of which each is linked to the next and none has the section of another.
+    ///
+    /// # Errors
+    ///
+    /// [`Memory`] where there is none for the legs.
+    pub fn along(alloc: Global, track: &Arc<Track>, legs: &[Leg]) -> Result<Line, Memory>
+        requires { IsLine (arc_value track.now) legs.now }
+        ensures { IfOk result (λ line. line ≡ record { track = arc_value track.now; legs = legs.now }) }
+    {
+        let _sections = track.section_count();
+        let length = legs::length_of(track, legs);
+        let legs = Vec::from_slice(alloc, legs)?;
+        Ok(Line {
+            track: track.clone()?,
+            legs,
+            length,
+        })
+    }
+
     /// The track that the line is of.
     pub fn track(&self) -> &Arc<Track>
         ensures track { arc_value result.now ≡ self.now.track }

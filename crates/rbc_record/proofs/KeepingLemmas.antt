@@ -6,15 +6,14 @@ use Rattle.std.proofs.lemmas.List.{map-append}
 use Rattle.std.specs.Result.{result_unwrap_or}
 use Rattle.std.proofs.lemmas.List.Sums.{fold_push}
 use Rattle.rbc_model.specs.declared.reports.Told.{Told}
+use Rattle.rbc_model.specs.Lines.{Line}
 use Rattle.rbc_model.specs.Tracks.{Track}
 use Rattle.rbc_model.specs.SoundTracks.{IsInForm, IsSound}
 use Rattle.rbc_model.specs.Scenes.{Scene, empty_scene}
 use Rattle.rbc_model.specs.Views.{View, view}
 use Rattle.rbc_model.specs.declared.memory.OrMemory.{OrMemory}
-use Rattle.rbc_model.specs.declared.memory.OrMemory.TheVariants.{Refused}
-use Rattle.rbc_model.specs.declared.refusals.Refusal.{Refusal}
 use Rattle.rbc_model.specs.declared.refusals.ViewFault.{ViewFault}
-use Rattle.rbc_model.specs.Answers.{AnswersOrMemory, RefusesOrMemory}
+use Rattle.rbc_model.specs.Answers.{AnswersOrMemory}
 use Rattle.rbc_model.specs.Events.{after_grant, after_told, step}
 use Rattle.rbc_model.specs.Histories.{Entry, Heard, Granted, Grants, MayFollow, IsLegal, IsBestHistory, event_of, scene_after, replay}
 use Rattle.rbc_model.proofs.LegalLemmas.{IsLegal-empty, IsLegal-append}
@@ -22,7 +21,7 @@ use Rattle.rbc_grant_laws.specs.Candidates.{IsCandidateOf}
 use Rattle.rbc_grant_laws.proofs.CandidateLemmas.{MayFollow-candidate, is_ok-candidate, view-train}
 use Rattle.rbc_grant.specs.SameViews.{is_same_view-decides}
 use Rattle.rbc_grant.specs.ScenesOnTracks.{SceneOnTrack}
-use Rattle.rbc_grant.specs.Steps.{told_at_once}
+use Rattle.rbc_grant.specs.Steps.{LeadTo, told_at_once}
 use Rattle.rbc_model.specs.declared.limits.TheConstants.{MOST_ENTRIES}
 use Rattle.rbc_scene_laws.proofs.KeptLemmas.{IsBestHistory-of_legal}
 use Rattle.rbc_record.specs.declared.entry.Entry.{Entry as EntryHeld}
@@ -33,6 +32,7 @@ use Rattle.rbc_record.specs.declared.faults.ApplyFault.TheVariants.{Full as Full
 use Rattle.rbc_record.specs.Entering.{is_just, is_shown, refused_at_once}
 use Rattle.rbc_record.specs.Records.{HistoryOnTrack, IsKept, history_on, is_full, scene_now}
 use Rattle.rbc_record.proofs.HistoryLemmas.{IsLegal-take}
+use Rattle.rbc_record.proofs.LeadingLemmas.{leads}
 
 -- ---- the empty history
 
@@ -140,20 +140,21 @@ module _ (before after : SceneOnTrack) (items more : List EntryHeld) (now : Hist
         (kept_granted before after (map entry_of items) kept room same v.train v grant (shown_before before (map entry_of items) now is kept v shown) candidate
         (sym (λ i. after_grant before.track before.scene (its_train i) (its_end i)) ∙ steps))
 
--- the scene does not refuse what a candidate would grant, where its view is shown
-accepted_not_refused : (answer : Result Scene Refusal) (refusal : Refusal) → is_ok answer ≡ true → answer ≡ Err refusal → ⊥
-accepted_not_refused (Ok scene) refusal h e = cc
-accepted_not_refused (Err other) refusal h e = cc
+-- the scene accepts what a candidate would grant, where its view is shown, and the view's legs lead to its end
+module _ (before : SceneOnTrack) (entries : List Entry) (now : HistoryOnTrack) (is : history_on before.track entries ≡ now) (kept : IsKept before entries)
+    (v : View) (grant : Grants) (candidate : IsCandidateOf v grant) (shown : is_shown now v ≡ true) (train end : ℕ) (its_train : train ≡ grant.train) (its_end : end ≡ grant.authority.end) where
+  pub accepted : is_ok (after_grant before.track before.scene train end) ≡ true
+  accepted =
+      let k = kept in
+      ap (λ answer. is_ok answer) (λ i. after_grant before.track before.scene (its_train i) (its_end i))
+      ∙ is_ok-candidate before.track before.scene v.train v grant k.form (shown_before before entries now is kept v shown) candidate
 
-pub never_refused : (before : SceneOnTrack) (entries : List Entry) (now : HistoryOnTrack) → history_on before.track entries ≡ now → IsKept before entries
-    → (v : View) (grant : Grants) → IsCandidateOf v grant → is_shown now v ≡ true → (train end : ℕ) → train ≡ grant.train → end ≡ grant.authority.end
-    → (fault : OrMemory Refusal) (refusal : Refusal) → fault ≡ Refused refusal → RefusesOrMemory fault (after_grant before.track before.scene train end) → ⊥
-never_refused before entries now is kept v grant candidate shown train end its_train its_end fault refusal e refused =
-    let k = kept in
-    accepted_not_refused (after_grant before.track before.scene grant.train grant.authority.end) refusal
-    (is_ok-candidate before.track before.scene v.train v grant k.form (shown_before before entries now is kept v shown) candidate)
-    (sym (λ i. after_grant before.track before.scene (its_train i) (its_end i))
-    ∙ subst (λ f. RefusesOrMemory f (after_grant before.track before.scene train end)) e refused)
+  pub leading : (legs : Line) → legs ≡ v.line → LeadTo before.track before.scene train end legs
+  leading legs its_legs =
+      subst (λ (l : Line). LeadTo before.track before.scene train end l) (sym its_legs)
+      (subst (λ n. LeadTo before.track before.scene train n v.line) (sym its_end)
+      (subst (λ n. LeadTo before.track before.scene n grant.authority.end v.line) (sym (its_train ∙ candidate.train))
+      (leads before.track before.scene v.train v grant candidate (shown_before before entries now is kept v shown))))
 
 -- ---- what each record shows
 

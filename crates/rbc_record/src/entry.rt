@@ -1,8 +1,6 @@
 //! What a record has: entry by entry, what was told or granted.
 
-ghost use Rattle.std.specs.Prelude.{◌≡◌};
-
-use crate::Grant;
+use crate::Filed;
 use rbc_model::Told;
 
 /// An entry of a record.
@@ -11,17 +9,5 @@ pub enum Entry {
     /// A train or the interlocking told this.
     Heard(Told),
     /// A train was granted this.
-    Granted(Grant),
-}
-
-impl Entry {
-    /// The same entry once more. It takes no memory.
-    pub fn copy(&self) -> Entry
-        ensures { result ≡ self.now }
-    {
-        match self {
-            Entry::Heard(told) => Entry::Heard(*told),
-            Entry::Granted(grant) => Entry::Granted(grant.copy()),
-        }
-    }
+    Granted(Filed),
 }

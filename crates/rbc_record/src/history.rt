@@ -20,7 +20,7 @@ ghost use Rattle.rbc_record.specs.Headline.{EachEndIsFarthest, EachProfileIsBest
 ghost use Rattle.rbc_record.specs.Present.{has_train};
 ghost use Rattle.rbc_record.specs.Records.{scene_now, is_full};
 
-use crate::{ApplyFault, CommitFault, Entry, Grant, Receipt};
+use crate::{ApplyFault, CommitFault, Entry, Filed, Receipt};
 use rbc_grant::{Candidate, Scene, View};
 use rbc_model::limits::MOST_ENTRIES;
 use rbc_model::{Memory, OrMemory, Refusal, Told, ViewFault};
@@ -68,7 +68,7 @@ fn append(entries: &mut Vec<Entry>, entry: Entry) -> Receipt
     ensures items { entries.new.items ≡ entries.old.items ++ entry ∷ [] }
     ensures receipt { result ≡ record { place = length entries.old.items; entry = entry_of entry } }
 {
-    let receipt = Receipt::new(entries.len() as u64, entry.copy());
+    let receipt = Receipt::new(entries.len() as u64, &entry);
     entries.push_reserved(entry);
     receipt
 }
@@ -215,7 +215,7 @@ impl Record {
     /// # Errors
     ///
     /// `Refused` with `Full`, before all else: the record has 100,000 entries. `Memory`, where the allocator refuses room
-    /// for the entry or for the search of the train's way.
+    /// for the entry or for the train's line.
     pub fn grant(
         &mut self,
         alloc: Global,
@@ -244,15 +244,12 @@ impl Record {
         ensures best { IsBestHistory self.new.track self.new.entries }
     {
         self.entries.reserve(1)?;
-        match self
-            .scene
-            .grant(alloc, candidate.train(), candidate.authority().end())
-        {
-            Ok(()) => Ok(append(&mut self.entries, Entry::Granted(Grant::of(candidate)))),
-            Err(OrMemory::Memory) => Err(OrMemory::Memory),
-            // What is best for the view that the train is shown is safe.
-            Err(OrMemory::Refused(_)) => unreachable!(),
-        }
+        let filed = Filed::of(alloc, candidate)?;
+        let end = candidate.authority().end();
+        let legs = candidate.view().legs();
+        // What is best for the view that the train is shown is accepted, and the view's legs lead to its end.
+        self.scene.grant_along(alloc, candidate.train(), end, legs)?;
+        Ok(append(&mut self.entries, Entry::Granted(filed)))
     }
 
     /// Whether the train of the view is shown just this view.

@@ -1,30 +1,35 @@
 -- Grants: the line that a grant continues, and the scene after it.
 use Rattle.std.proofs.Common.{◌≡◌, ℕ, ◌+◌, ◌-◌, ◌<◌, ◌≤◌, max, Bool, true, false, cond, ◌&&◌, List, [], ◌∷◌, ◌++◌, length, take, drop, Option, Some, None, Result, Ok, Err, Bor, refl, sym, ap, ◌∙◌, subst, arith, inl, inr}
-use Rattle.std.specs.Prelude.{is_some, ◌==◌, find, map, option_map, ℤ, pos, IfOk}
+use Rattle.std.specs.Prelude.{is_ok, is_some, ◌==◌, find, map, option_map, ℤ, pos, IfOk, nat_lt}
 use Rattle.std.specs.Option.{option_copied, option_map_or}
 use Rattle.std.specs.List.{AllByRecursion}
 use Rattle.std.proofs.lemmas.Bool.{eqb-true}
 use Rattle.std.proofs.lemmas.List.{take_at, take-append-drop}
 use Rattle.std.proofs.lemmas.List.Elements.{recursion_from_All}
+use Rattle.rbc_model.specs.declared.limits.TheConstants.{FARTHEST_END_IN_TENS}
+use Rattle.rbc_model.specs.declared.places.Format.{Format}
+use Rattle.rbc_model.specs.declared.places.Format.TheVariants.{Near, Far}
 use Rattle.rbc_model.specs.declared.refusals.Obstacle.{Obstacle}
 use Rattle.rbc_model.specs.declared.refusals.Refusal.{Refusal}
 use Rattle.rbc_model.specs.declared.refusals.Refusal.TheVariants.{NotSafe, UnknownTrain}
 use Rattle.rbc_model.specs.Events.{after_grant, line_to, with_authority, with_train}
 use Rattle.rbc_model.specs.Histories.{AuthoritiesAreApart}
-use Rattle.rbc_model.specs.Lines.{Line, legs_begun_before, line_length}
+use Rattle.rbc_model.specs.Lines.{IsLine, Line, legs_begun_before, line_length}
 use Rattle.rbc_model.specs.Locks.{Locks}
 use Rattle.rbc_model.specs.Obstacles.{way}
+use Rattle.rbc_model.specs.Scales.{farthest, is_expressible}
 use Rattle.rbc_model.specs.Scenes.{Scene, train_numbered}
 use Rattle.rbc_model.specs.Tracks.{Track, metres_of}
 use Rattle.rbc_model.specs.Trains.{Train}
 use Rattle.rbc_model.specs.Views.{is_expressible_end, is_safe, reach, start_of, stop}
 use Rattle.rbc_model.proofs.EndLemmas.{IsSafe-is_safe}
+use Rattle.rbc_model.proofs.ScaleLemmas.{expressible_near_enough}
 use Rattle.rbc_model.proofs.ScanLemmas.{le_or_lt}
 use Rattle.rbc_scene_laws.specs.Good.{IsGoodLocks, IsGoodScene, IsGoodTrain}
-use Rattle.rbc_scene_laws.proofs.BasicLemmas.{and_left, the_some}
+use Rattle.rbc_scene_laws.proofs.BasicLemmas.{and_left, and_right, the_some}
 use Rattle.rbc_scene_laws.proofs.GrantingLemmas.{good_after_grant}
 use Rattle.rbc_scene_laws.proofs.LengtheningLemmas.{ahead_fully}
-use Rattle.rbc_scene_laws.proofs.OnLineLemmas.{OnLine-IsLine}
+use Rattle.rbc_scene_laws.proofs.OnLineLemmas.{IsLine-OnLine, OnLine, OnLine-IsLine, OnLine-left}
 use Rattle.rbc_scene_laws.proofs.SpotLemmas.{if_in, if_past, line_length-cons}
 use Rattle.rbc_scene_laws.proofs.TrainListLemmas.{find-passes}
 use Rattle.rbc_reach_laws.proofs.ShownLemmas.{legs_shown}
@@ -33,9 +38,10 @@ use Rattle.rbc_way.specs.TrainsOnTracks.{TrainOnTrack}
 use Rattle.rbc_way.specs.Books.{Book, HoldsOfTrain, book_with, scene_of, train_in}
 use Rattle.rbc_way.specs.Entries.{on_track}
 use Rattle.rbc_way.specs.Reaches.{BeginsWay}
+use Rattle.rbc_scene.specs.declared.granting.Granted.{Granted}
 use Rattle.rbc_scene.specs.Grants.{granted_train}
 use Rattle.rbc_scene.specs.ScenesOnTracks.{SceneOnTrack, IsKept, scene_on}
-use Rattle.rbc_scene.specs.Steps.{reach_of}
+use Rattle.rbc_scene.specs.Steps.{LeadTo, reach_of}
 
 -- ---- the line that is continued
 
@@ -109,6 +115,18 @@ module _ (track : Track) where
         let a = ahead_fully track scene.locks locks (length track.sections) train.line (OnLine-IsLine track train.line good.line) in
         far_by (way track scene train) train.line a.more longer to a.is begins past on
 
+  -- legs that the way begins with are a line
+  pub begins_line : (scene : Scene) (train : Train) (legs : Line) → IsGoodLocks track scene.locks → IsGoodTrain track train → BeginsWay track scene train legs → 0 < length legs → IsLine track legs
+  begins_line scene train legs locks good begins some =
+      let a = ahead_fully track scene.locks locks (length track.sections) train.line (OnLine-IsLine track train.line good.line) in
+      let rest = drop (length legs) (way track scene train) in
+      let parts : way track scene train ≡ legs ++ rest = sym (take-append-drop (length legs) (way track scene train)) ∙ ap (λ (l : Line). l ++ rest) (sym begins) in
+      IsLine-OnLine track legs (OnLine-left track legs rest some (subst (OnLine track) parts a.on))
+
+  some_legs : (legs : Line) (to : ℕ) → 0 < to → to ≤ line_length track legs → 0 < length legs
+  some_legs [] to h on = absurd (omega arith)
+  some_legs (leg ∷ legs) to h on = omega arith
+
 -- ---- whether it is granted
 
 module _ (track : Track) (scene : Scene) (train : Train) (distance : ℕ) where
@@ -158,6 +176,26 @@ module _ (track : Track) (scene : Scene) (number distance : ℕ) where
       ap granting there
       ∙ lifted scene (is_safe track scene train (train.origin + distance) && is_expressible_end track train (train.origin + distance))
       (with_authority train (line_to track scene train (train.origin + distance)) (start_of train) (train.origin + distance)) x h
+
+  known_if : (o : Option Train) → is_ok (granting o) ≡ true → is_some o ≡ true
+  known_if None h = cc
+  known_if (Some train) h = refl
+
+  -- a grant that is accepted is one to a train that is there
+  pub is_known : is_ok (after_grant track scene number distance) ≡ true → is_some (train_numbered scene number) ≡ true
+  is_known h = known_if (train_numbered scene number) h
+
+  passes : (b : Bool) (s : Scene) → is_ok (cond b (Ok s) (Err NotSafe)) ≡ true → b ≡ true
+  passes true s h = refl
+  passes false s h = cc
+
+  -- up to a safe end that a message can give
+  pub is_accepted : (train : Train) → train_numbered scene number ≡ Some train → is_ok (after_grant track scene number distance) ≡ true
+      → (is_safe track scene train (train.origin + distance) && is_expressible_end track train (train.origin + distance)) ≡ true
+  is_accepted train there h =
+      passes (is_safe track scene train (train.origin + distance) && is_expressible_end track train (train.origin + distance))
+      (with_train scene (with_authority train (line_to track scene train (train.origin + distance)) (start_of train) (train.origin + distance)))
+      (ap (λ o. is_ok (granting o)) (sym there) ∙ h)
 
 -- the train that is put in is one of the scene's
 put_in : (P : Train → Type 0) (n : ℕ) (t : Train) (xs : List Train) (known : Train) → find (λ (x : Train). x.report.train == n) xs ≡ Some known → n ≡ t.report.train
@@ -256,6 +294,75 @@ module _ (locks : Locks) (book : Book) (now : SceneOnTrack) (is : scene_on locks
       ap (λ (s : SceneOnTrack). reach_of s.track s.scene number) (sym is)
       ∙ ap (λ (t : Option Train). option_map_or (λ (train : Train). let r : Result (Obstacle × ℤ) Refusal = Ok (stop book.track (scene_on locks book).scene train, pos (reach book.track (scene_on locks book).scene train)) in r) t (Err (UnknownTrain number))) f.there
       ∙ sym (λ j. Ok (stops j, (e ∙ ap pos reaches) j))
+
+-- ---- along legs that are known
+
+-- the legs are a line, and the end lies on it
+pub record IsAlong (track : Track) (train : Train) (distance : ℕ) (legs : Line) : Type 0 where
+  pub line : IsLine track legs
+  pub near : distance ≤ FARTHEST_END_IN_TENS
+  pub some : 0 < train.origin + distance
+  pub on_line : train.origin + distance ≤ line_length track legs
+
+farthest_most : (format : Format) → farthest format ≤ FARTHEST_END_IN_TENS
+farthest_most Near = omega arith
+farthest_most Far = omega arith
+
+pub is_along : (track : Track) (scene : Scene) (number distance : ℕ) (legs : Line) (train : Train) → train_numbered scene number ≡ Some train → IsGoodLocks track scene.locks → IsGoodTrain track train
+    → is_ok (after_grant track scene number distance) ≡ true → LeadTo track scene number distance legs → IsAlong track train distance legs
+is_along track scene number distance legs train there locks good accepted lead =
+    let to = train.origin + distance in
+    let test = is_accepted track scene number distance train there accepted in
+    let some = some_metres track scene train to test in
+    let told = and_right (is_safe track scene train to) (is_expressible_end track train to) test in
+    let near = expressible_near_enough track.format (to - train.origin) (and_right (nat_lt train.origin to) (is_expressible track.format (to - train.origin)) told) in
+    let along = lead train there in
+    record {
+      line = begins_line track scene train legs locks good along.0 (some_legs track legs to some along.1);
+      near = omega (arith, farthest_most track.format);
+      some = some;
+      on_line = along.1;
+    }
+
+-- what is granted along them is the definition's
+pub says_along : {E : Type 0} (track : Track) (scene : Scene) (number distance : ℕ) (train : Train) → train_numbered scene number ≡ Some train → is_ok (after_grant track scene number distance) ≡ true
+    → (r : Result Granted E) → IfOk r (λ g. g.line.legs ≡ line_to track scene train (train.origin + distance)) → IfOk r (λ g. g.from ≡ start_of train) → IfOk r (λ g. g.to ≡ train.origin + distance)
+    → IfOk r (λ g. (known : Train) → train_numbered scene number ≡ Some known → granted_train track scene known distance ≡ Ok (with_authority known g.line.legs g.from g.to))
+says_along track scene number distance train there accepted (Ok g) legs from to = λ known same.
+    subst (λ (k : Train). granted_train track scene k distance ≡ Ok (with_authority k g.line.legs g.from g.to)) (the_some train known (sym there ∙ same))
+    (safe track scene train distance (is_safe track scene train (train.origin + distance) && is_expressible_end track train (train.origin + distance)) g.line.legs g.from g.to refl
+    (is_accepted track scene number distance train there accepted) legs from to)
+says_along track scene number distance train there accepted (Err e) legs from to = tt
+
+module _ (locks : Locks) (book : Book) (now : SceneOnTrack) (is : scene_on locks book ≡ now) (kept : IsKept (scene_on locks book)) (number distance : ℕ) (legs : Line) (known : TrainOnTrack)
+    (f : IsFound book number known) (accepted : is_ok (after_grant now.track now.scene number distance) ≡ true) (lead : LeadTo now.track now.scene number distance legs) where
+  abbrev scene : Scene
+  scene = (scene_on locks book).scene
+
+  accepted_here : is_ok (after_grant book.track scene number distance) ≡ true
+  accepted_here = subst (λ (s : SceneOnTrack). is_ok (after_grant s.track s.scene number distance) ≡ true) (sym is) accepted
+
+  lead_here : LeadTo book.track scene number distance legs
+  lead_here = subst (λ (s : SceneOnTrack). LeadTo s.track s.scene number distance legs) (sym is) lead
+
+  good_locks : IsGoodLocks book.track locks
+  good_locks = let k = kept in k.good.locks
+
+  pub along_book : IsGoodTrain known.track known.train → IsAlong known.track known.train distance legs
+  along_book good =
+      subst (λ (t : Track). IsAlong t known.train distance legs) (sym f.track)
+      (is_along book.track scene number distance legs known.train f.there good_locks (subst (λ (t : Track). IsGoodTrain t known.train) f.track good) accepted_here lead_here)
+
+  pub granted_along_book : {E : Type 0} (r : Result Granted E)
+      → ((s : Scene) → IsGoodLocks known.track s.locks → BeginsWay known.track s known.train legs → IfOk r (λ g. g.line.legs ≡ line_to known.track s known.train (known.train.origin + distance)))
+      → IfOk r (λ g. g.from ≡ start_of known.train) → IfOk r (λ g. g.to ≡ known.train.origin + distance)
+      → IfOk r (λ g. (train : Train) → train_numbered now.scene number ≡ Some train → granted_train now.track now.scene train distance ≡ Ok (with_authority train g.line.legs g.from g.to))
+  granted_along_book r continued from to =
+      subst (λ (s : SceneOnTrack). IfOk r (λ g. (train : Train) → train_numbered s.scene number ≡ Some train → granted_train s.track s.scene train distance ≡ Ok (with_authority train g.line.legs g.from g.to))) is
+      (says_along book.track scene number distance known.train f.there accepted_here r
+      (subst (λ (t : Track). IfOk r (λ g. g.line.legs ≡ line_to t scene known.train (known.train.origin + distance))) f.track
+      (continued scene (subst (λ (t : Track). IsGoodLocks t locks) (sym f.track) good_locks) (subst (λ (t : Track). BeginsWay t scene known.train legs) (sym f.track) (lead_here known.train f.there).0)))
+      from to)
 
 -- ---- a line that is copied
 

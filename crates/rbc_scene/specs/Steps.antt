@@ -1,5 +1,5 @@
 -- What a call on a scene answers, and what it leaves.
-use Rattle.std.specs.Prelude.{◌≡◌, ◌<◌, ℕ, ◌+◌, nat_lt, nat_le, not, ◌&&◌, ◌||◌, Bool, if◌then◌else◌, length, is_some, is_none, Option, Some, None, Result, Ok, Err, ℤ, pos}
+use Rattle.std.specs.Prelude.{◌≡◌, ◌<◌, ◌≤◌, ℕ, ◌+◌, nat_lt, nat_le, not, ◌&&◌, ◌||◌, Bool, if◌then◌else◌, length, is_some, is_none, Option, Some, None, Result, Ok, Err, ℤ, pos}
 use Rattle.std.specs.Option.{option_map_or}
 use Rattle.std.specs.Result.{result_err}
 use Rattle.rbc_model.specs.declared.limits.TheConstants.{MOST_TRAINS}
@@ -13,12 +13,14 @@ use Rattle.rbc_model.specs.declared.reports.Told.{Told}
 use Rattle.rbc_model.specs.declared.reports.Told.TheVariants.{Report as ToldReport, Lock as ToldLock}
 use Rattle.rbc_model.specs.Answers.{RefusesOrMemory}
 use Rattle.rbc_model.specs.Events.{after_told}
+use Rattle.rbc_model.specs.Lines.{Line, line_length}
 use Rattle.rbc_model.specs.Scales.{farthest}
 use Rattle.rbc_model.specs.Tracks.{Track, group_named}
 use Rattle.rbc_model.specs.Reports.{Report}
 use Rattle.rbc_model.specs.Trains.{Train}
 use Rattle.rbc_model.specs.Scenes.{Scene, train_numbered}
 use Rattle.rbc_model.specs.Views.{reach, stop}
+use Rattle.rbc_way.specs.Reaches.{BeginsWay}
 use Rattle.rbc_scene.specs.ScenesOnTracks.{SceneOnTrack}
 
 -- The call changed the old scene into the new one that the definition names, or it was refused as the definition says and the scene is the old one.
@@ -90,3 +92,8 @@ refused_at_once track scene (Grant train distance) = granted_at_once track scene
 abbrev pub reach_of : Track → Scene → ℕ → Result (Obstacle × ℤ) Refusal
 reach_of track scene number =
     option_map_or (λ train. let found : Result (Obstacle × ℤ) Refusal = Ok (stop track scene train, pos (reach track scene train)) in found) (train_numbered scene number) (Err (UnknownTrain number))
+
+-- the way of the train of this number begins with the legs, and they have each metre before a place so many metres from its group
+abbrev pub LeadTo : Track → Scene → ℕ → ℕ → Line → Type 0
+LeadTo track scene number distance legs =
+    (train : Train) → train_numbered scene number ≡ Some train → BeginsWay track scene train legs × (train.origin + distance ≤ line_length track legs)

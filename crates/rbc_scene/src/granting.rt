@@ -1,19 +1,21 @@
 //! What a grant gives a train: an authority up to a safe end, on a line that has its metres.
 
-ghost use Rattle.std.specs.Prelude.{◌≡◌, ◌≤◌, ◌<◌, true, Err, IfOk};
+ghost use Rattle.std.specs.Prelude.{◌≡◌, ◌+◌, ◌≤◌, ◌<◌, take, true, Err, IfOk};
+ghost use Rattle.rbc_model.specs.declared.limits.TheConstants.{FARTHEST_END_IN_TENS};
 ghost use Rattle.rbc_model.specs.declared.memory.OrMemory.TheVariants.{Refused};
 ghost use Rattle.rbc_model.specs.declared.refusals.Refusal.TheVariants.{NotSafe};
 ghost use Rattle.rbc_model.specs.Answers.{AnswersAs};
 ghost use Rattle.rbc_model.specs.Events.{line_to, with_authority};
-ghost use Rattle.rbc_model.specs.Lines.{line_length};
+ghost use Rattle.rbc_model.specs.Lines.{IsLine, legs_begun_before, line_length};
 ghost use Rattle.rbc_model.specs.Scenes.{Scene};
+ghost use Rattle.rbc_model.specs.Views.{start_of};
 ghost use Rattle.rbc_scene.specs.Grants.{granted_train};
 ghost use Rattle.rbc_scene.specs.Steps.{is_out_of_range};
 ghost use Rattle.rbc_scene_laws.specs.Good.{IsGoodLocks};
 ghost use Rattle.rbc_way.specs.Reaches.{BeginsWay, scene_of};
 
-use rbc_model::{Memory, OrMemory, Refusal};
-use rbc_way::{Book, Line, Locks, Reach, Train, reach};
+use rbc_model::{Leg, Memory, OrMemory, Refusal};
+use rbc_way::{Book, Line, Locks, Train, reach};
 use std::alloc::Global;
 
 /// An authority from one place to another, and the train's line, continued to have its metres.
@@ -24,25 +26,63 @@ pub(crate) struct Granted {
     pub(crate) to: u32,
 }
 
-/// The train's line, continued to have the metre before a place that its way reaches.
-fn line_to(alloc: Global, train: &Train, found: Reach, to: u32) -> Result<Line, Memory>
-    requires track { found.track ≡ train.now.track }
+/// The line, cut behind the leg that has the metre before a place.
+fn cut_to(line: Line, to: u32) -> Line
     requires some { 0 < to }
-    requires on_line { to ≤ line_length found.track found.line }
+    ensures track { result.track ≡ line.track }
+    ensures legs { result.legs ≡ take (legs_begun_before line.track to line.legs) line.legs }
+{
+    let mut line = line;
+    let kept = line.legs_begun_before(to);
+    let count = line.legs().len();
+    line.cut_back(count - kept);
+    line
+}
+
+/// The train's line, continued along legs that its way begins with, to have the metre before a place that they reach.
+fn line_along(alloc: Global, train: &Train, legs: &[Leg], to: u32) -> Result<Line, Memory>
+    requires line { IsLine train.now.track legs.now }
+    requires some { 0 < to }
+    requires on_line { to ≤ line_length train.now.track legs.now }
     ensures track { IfOk result (λ line. line.track ≡ train.now.track) }
     ensures legs { (scene : Scene) → IsGoodLocks train.now.track scene.locks
-        → BeginsWay train.now.track scene train.now.train found.line
+        → BeginsWay train.now.track scene train.now.train legs.now
         → IfOk result (λ line. line.legs ≡ line_to train.now.track scene train.now.train to) }
 {
     let known = train.line();
     if to <= known.length() {
         return known.copy(alloc);
     }
-    let mut line = found.into_line();
-    let kept = line.legs_begun_before(to);
-    let count = line.legs().len();
-    line.cut_back(count - kept);
-    Ok(line)
+    let line = Line::along(alloc, known.track(), legs)?;
+    Ok(cut_to(line, to))
+}
+
+/// The authority up to a safe end so many metres beyond the train's group, on its line, which is continued along legs
+/// that its way begins with.
+pub(crate) fn granted_along(
+    alloc: Global,
+    train: &Train,
+    distance: u32,
+    legs: &[Leg],
+) -> Result<Granted, Memory>
+    requires line { IsLine train.now.track legs.now }
+    requires near { distance ≤ FARTHEST_END_IN_TENS }
+    requires some { 0 < train.now.train.origin + distance }
+    requires on_line { train.now.train.origin + distance ≤ line_length train.now.track legs.now }
+    ensures track { IfOk result (λ granted. granted.line.track ≡ train.now.track) }
+    ensures legs { (scene : Scene) → IsGoodLocks train.now.track scene.locks
+        → BeginsWay train.now.track scene train.now.train legs.now → IfOk result (λ granted. granted.line.legs
+        ≡ line_to train.now.track scene train.now.train (train.now.train.origin + distance)) }
+    ensures from { IfOk result (λ granted. granted.from ≡ start_of train.now.train) }
+    ensures to { IfOk result (λ granted. granted.to ≡ train.now.train.origin + distance) }
+{
+    let line = train.line();
+    prove!(train.origin() <= train.front());
+    prove!(train.front() <= line.length());
+    let to = train.origin() + distance;
+    let line = line_along(alloc, train, legs, to)?;
+    let from = train.from().min(train.front());
+    Ok(Granted { line, from, to })
 }
 
 /// The authority that the train is granted up to so many metres beyond its group, if that is a safe end that a
@@ -75,7 +115,7 @@ pub(crate) fn granted_to(
     if !found.may_end_at(train, to) {
         return Err(OrMemory::Refused(Refusal::NotSafe));
     }
-    let line = line_to(alloc, train, found, to)?;
+    let line = line_along(alloc, train, found.line().legs(), to)?;
     let from = train.from().min(train.front());
     Ok(Granted { line, from, to })
 }

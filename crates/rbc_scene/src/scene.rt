@@ -1,6 +1,6 @@
 //! A scene, and what is told in it.
 
-ghost use Rattle.std.specs.Prelude.{◌≡◌, ◌<◌, length, false, true, None, Some, Err, IfErr, IfOk, IfSome};
+ghost use Rattle.std.specs.Prelude.{◌≡◌, ◌<◌, length, false, true, is_ok, None, Some, Err, Ok, IfErr, IfOk, IfSome, IsTrue, OnErr, OnOk};
 ghost use Rattle.std.specs.Arc.{arc_value};
 ghost use Rattle.std.specs.Result.{result_err, result_map_both};
 ghost use Rattle.rbc_model.specs.declared.memory.OrMemory.TheVariants.{Refused, Memory as NoMemory};
@@ -14,12 +14,14 @@ ghost use Rattle.rbc_model.specs.Scenes.{empty_scene, train_numbered};
 ghost use Rattle.rbc_model.specs.Trains.{Train as KnownTrain};
 ghost use Rattle.rbc_scene.specs.Grants.{granted_train};
 ghost use Rattle.rbc_scene_laws.specs.Good.{IsGoodScene};
-ghost use Rattle.rbc_scene.specs.Steps.{IsEventOfTrack, IsOfTrack, IsReportTold, MayNeedMemory, StepsOrMemory, StepsTo};
+ghost use Rattle.rbc_scene.specs.Steps.{IsEventOfTrack, IsOfTrack, IsReportTold, LeadTo, MayNeedMemory, StepsOrMemory, StepsTo};
 ghost use Rattle.rbc_scene.specs.Steps.{end_cut, end_given_back, granted_at_once, is_crowded, is_out_of_range, reach_of, refused_at_once, told_at_once};
 
-use crate::granting::{Granted, granted_to};
+use crate::granting::{Granted, granted_along, granted_to};
 use rbc_model::limits::MOST_TRAINS;
-use rbc_model::{Event, Memory, Obstacle, OrMemory, Refusal, Report, RouteId, SectionId, Told};
+use rbc_model::{
+    Event, Leg, Memory, Obstacle, OrMemory, Refusal, Report, RouteId, SectionId, Told,
+};
 use rbc_track::Track;
 use rbc_way::{Book, Locks, Train, reach, reported};
 use std::alloc::Global;
@@ -311,6 +313,51 @@ impl Scene {
             Some(known) => granted_to(alloc, &self.locks, &self.book, known, distance),
             None => Err(OrMemory::Refused(Refusal::UnknownTrain(train))),
         }
+    }
+
+    /// A train is granted an authority that is known to be accepted, along legs that its way is known to begin with, up to a
+    /// place so many metres beyond its group that they reach. No obstacle is searched. Where memory is refused nothing
+    /// changes.
+    ///
+    /// # Errors
+    ///
+    /// `Memory`, where the allocator refuses room for the train's line.
+    pub fn grant_along(
+        &mut self,
+        alloc: Global,
+        train: u32,
+        distance: u32,
+        legs: &[Leg],
+    ) -> Result<(), Memory>
+        requires accepted { IsTrue (is_ok (after_grant self.old.track self.old.scene train distance)) }
+        requires along { LeadTo self.old.track self.old.scene train distance legs.now }
+        ensures granted { OnOk result ((after_grant self.old.track self.old.scene train distance ≡ Ok self.new.scene)
+            × (self.new.track ≡ self.old.track)) }
+        ensures refused { OnErr result (self.new ≡ self.old) }
+    {
+        let Granted { line, from, to } = self.granted_along(alloc, train, distance, legs)?;
+        self.book.set_held(train, line, from, to);
+        Ok(())
+    }
+
+    /// The authority that is known to be accepted, on the train's line along these legs.
+    fn granted_along(
+        &self,
+        alloc: Global,
+        train: u32,
+        distance: u32,
+        legs: &[Leg],
+    ) -> Result<Granted, Memory>
+        requires accepted { IsTrue (is_ok (after_grant self.now.track self.now.scene train distance)) }
+        requires along { LeadTo self.now.track self.now.scene train distance legs.now }
+        ensures track { IfOk result (λ granted. granted.line.track ≡ self.now.track) }
+        ensures granted { IfOk result (λ g. (known : KnownTrain) → train_numbered self.now.scene train ≡ Some known
+            → granted_train self.now.track self.now.scene known distance
+            ≡ Ok (with_authority known g.line.legs g.from g.to)) }
+    {
+        let known = self.book.get(train).unwrap();
+        let _line = known.line();
+        granted_along(alloc, known, distance, legs)
     }
 
     /// Why what is told would be refused, where nothing has to grow to see it. Of a report that is `Crowded` or

@@ -88,14 +88,6 @@ impl Reach {
         &self.line
     }
 
-    /// The same, with which the reach ends.
-    pub fn into_line(self) -> Line
-        ensures track { result.track ≡ self.track }
-        ensures legs { result.legs ≡ self.line }
-    {
-        self.line
-    }
-
     /// The greatest end that the train may be granted, if there is one: the last place up to the reach whose distance from
     /// the train's balise group a message can give, if it lies beyond the front and takes nothing back.
     pub fn greatest_end(&self, train: &Train) -> Option<u32>

@@ -15,7 +15,8 @@ fn is_granted(
 ) {
     let receipt = history.commit(rt.alloc(), candidate).expect(rt, "a grant");
     assert_eq!(rt; receipt.place(), place);
-    assert!(rt; history.entry(place) == Some(receipt.entry()));
+    let entry = history.entry(place).expect(rt, "an entry");
+    assert!(rt; receipt.is_for(entry));
 }
 
 /// The candidate is not granted, for this reason.

@@ -32,8 +32,8 @@ fn enter<R: Threads + Abort + AllocGlobal + Sync>(
             let told = of_track(rt, history.track(), *told);
             history.apply(rt.alloc(), &told).expect(rt, "an entry")
         }
-        Entry::Granted(grant) => {
-            let candidate = offered(rt, history, grant.train());
+        Entry::Granted(filed) => {
+            let candidate = offered(rt, history, filed.grant().train());
             history
                 .commit(rt.alloc(), &candidate)
                 .expect(rt, "an entry")
@@ -51,6 +51,6 @@ pub(super) fn can_be_entered_again<R: Threads + Abort + AllocGlobal + Sync>(
         let entry = history.entry(place).expect(rt, "an entry");
         let receipt = enter(rt, &mut again, entry);
         assert_eq!(rt; receipt.place(), place);
-        assert!(rt; *receipt.entry() == *entry, "at {place}");
+        assert!(rt; receipt.is_for(entry), "at {place}");
     }
 }

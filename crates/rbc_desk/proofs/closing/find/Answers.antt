@@ -12,7 +12,7 @@ returns-clause-finds c =
     let place = c.place-place.result in
     let receipt = c.args.receipt.now in
     let entry : slice_get entries place ≡ Some receipt.entry =
-    sym c.in-Some.ensures ∙ ap Some (c.if-not-is_same_entry.ensures.0 refl ∙ c.entry-else-place-start.ensures) in
+    sym c.in-Some.ensures ∙ ap Some (sym (c.if-not-is_for.ensures.0 refl)) in
     let there : place < length entries = slice_get_within entries place receipt.entry entry in
     let inside : place - c.args.start < length marks.items = omega (arith, marks.ok.0) in
     λ earlier marked.

@@ -1,6 +1,7 @@
 -- The search tells whether the end is safe, and its legs have the metre before it.
 use Rattle.std.proofs.Common.{◌+◌, min, ap, sym, ◌∙◌, subst, ◌&&◌}
 use Rattle.rbc_model.specs.Tracks.{Track}
+use Rattle.rbc_model.specs.Lines.{Line}
 use Rattle.rbc_model.specs.Views.{is_expressible_end, is_safe, reach}
 use Rattle.rbc_scene_laws.specs.Good.{IsGoodLocks}
 use Rattle.rbc_way.specs.Reaches.{BeginsWay, scene_of}
@@ -9,8 +10,8 @@ use Rattle.rbc_scene.proofs.GrantingLemmas.{safe, some_metres}
 use Rattle.rbc_scene.proofs.granting.granted_to.Goals as goal
 use Rattle.rbc_scene.proofs.granting.granted_to.Goals.{Else-not-may_end_at, After-min-from}
 
-pub line_to-requires-clause-some : goal.line_to-requires-clause-some
-line_to-requires-clause-some c =
+pub line_along-requires-clause-some : goal.line_along-requires-clause-some
+line_along-requires-clause-some c =
     let scene = scene_of c.args.locks.now c.args.book.now.trains in
     some_metres c.args.train.now.track scene c.args.train.now.train _
     (sym (c.may_end_at.ensures.granted scene (c.in_ok-found.ensures.place ∙ ap (λ (t : Track). reach t scene c.args.train.now.train) (sym c.requires.track)))
@@ -27,7 +28,8 @@ returns-clause-granted c =
     ∙ (λ j. is_safe (of_track j) scene train (origin j + c.args.distance) && is_expressible_end (of_track j) train (origin j + c.args.distance)))
     c.if-not-may_end_at.false
     (c.in_ok-line.ensures.legs scene (subst (λ (t : Track). IsGoodLocks t c.args.locks.now) (sym of_track) c.requires.locks)
-    (subst (λ (t : Track). BeginsWay t scene train c.in_ok-found.found.line) (sym of_track) c.in_ok-found.ensures.line)
+    (subst (λ (legs : Line). BeginsWay c.args.train.now.track scene train legs) (sym (c.legs.ensures.legs ∙ c.line.ensures.legs))
+    (subst (λ (t : Track). BeginsWay t scene train c.in_ok-found.found.line) (sym of_track) c.in_ok-found.ensures.line))
     ∙ (λ j. line_to (of_track j) scene train (origin j + c.args.distance)))
     (c.min-from.ensures ∙ (λ j. min (c.from.ensures.from j) (c.front-4.ensures.front j)))
     (ap (λ n. n + c.args.distance) origin)
