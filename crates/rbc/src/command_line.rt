@@ -15,11 +15,20 @@ pub enum Task<'a> {
     /// Judge the certificates of the standard input.
     Check,
     /// Print the messages of the standard input field by field.
-    Decode,
+    Decode(Printing),
     /// Run a centre.
     Run(Centre<'a>),
     /// Serve connections.
     Serve(Service<'a>),
+}
+
+/// How messages are printed.
+#[derive(Clone, Copy, Debug, PartialEq, Eq)]
+pub enum Printing {
+    /// In lines of fields and words.
+    Plain,
+    /// As a line of JSON each.
+    Json,
 }
 
 /// How a centre runs.
@@ -70,9 +79,13 @@ pub fn read<'a>(alloc: Global, words: &'a [String]) -> Result<Task<'a>, Error> {
     let check = Command::new(alloc, "check").about(
         "Tells of each certificate on standard input whether its prices show that no profile loses less",
     );
-    let decode = Command::new(alloc, "decode").about(
-        "Prints each message 3 and packet on standard input field by field, and in words",
-    );
+    let json = Arg::new(alloc, "json")
+        .long("json")
+        .help("Prints each as a line of JSON")
+        .action(ArgAction::SetTrue);
+    let decode = Command::new(alloc, "decode")
+        .about("Prints each message 3 and packet on standard input field by field, and in words")
+        .arg(json)?;
     let run = Command::new(alloc, "run")
         .about(
             "Runs a centre on the track of a file: answers reports, locks and requests on standard input",
@@ -100,8 +113,8 @@ pub fn read<'a>(alloc: Global, words: &'a [String]) -> Result<Task<'a>, Error> {
     if let Some(serve) = matches.subcommand_matches("serve") {
         return Ok(Task::Serve(service_in(serve)));
     }
-    if matches.subcommand_matches("decode").is_some() {
-        return Ok(Task::Decode);
+    if let Some(decode) = matches.subcommand_matches("decode") {
+        return Ok(Task::Decode(printing_in(decode)));
     }
     match matches.subcommand_matches("check") {
         Some(_) => Ok(Task::Check),
@@ -189,6 +202,15 @@ fn count_in(matches: &ArgMatches, name: &str) -> usize
     ensures { (1 ≤ result) × (result ≤ 8) }
 {
     matches.get_one::<usize>(name).unwrap_or(1).clamp(1, 8)
+}
+
+/// How a command line asks to print messages.
+fn printing_in(matches: &ArgMatches) -> Printing {
+    if matches.get_flag("json") {
+        Printing::Json
+    } else {
+        Printing::Plain
+    }
 }
 
 /// How a command line asks to serve, which the parser has accepted.

@@ -7,14 +7,14 @@ mod history;
 mod journal;
 mod serve;
 
-use command_line::{Centre, Service, Task};
+use command_line::{Centre, Printing, Service, Task};
 use failure::Failure;
 use history::write_history;
 pub use journal::JournalFault;
 use journal::run_kept;
 pub use rbc_certifier::steps;
 pub use rbc_checks::check;
-pub use rbc_fields::decode;
+pub use rbc_fields::{Form, Json, Plain, decode};
 use rbc_kept::server::{Port, Record, ServeFault};
 use rbc_model::Memory;
 use rbc_track::Track;
@@ -80,21 +80,30 @@ fn run(
                 Err(Failure::NotCertified)
             }
         }
-        Task::Decode => {
-            let all_read = decode(
-                rt,
-                alloc,
-                &mut Stream::reader(rt.reader()),
-                &mut Stream::writer(alloc, io::writer(rt))?,
-            )?;
-            if all_read {
-                Ok(())
-            } else {
-                Err(Failure::NotRead)
-            }
-        }
+        Task::Decode(Printing::Plain) => decode_input(rt, &Plain),
+        Task::Decode(Printing::Json) => decode_input(rt, &Json),
         Task::Run(centre) => run_centre(rt, &centre),
         Task::Serve(service) => serve_centre(rt, &service),
+    }
+}
+
+/// Prints the messages and packets of the standard input in this form.
+fn decode_input<F: Form>(
+    rt: &(impl Input + Print + AllocGlobal + Threads + Sync),
+    form: &F,
+) -> Result<(), Failure> {
+    let alloc = rt.alloc();
+    let all_read = decode(
+        form,
+        rt,
+        alloc,
+        &mut Stream::reader(rt.reader()),
+        &mut Stream::writer(alloc, io::writer(rt))?,
+    )?;
+    if all_read {
+        Ok(())
+    } else {
+        Err(Failure::NotRead)
     }
 }
 

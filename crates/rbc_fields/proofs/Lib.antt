@@ -1,6 +1,8 @@
 pub mod DigitLemmas
 pub mod RestLemmas
 pub mod PrintedLemmas
+pub mod PartsLemmas
+pub mod JsonLemmas
 pub mod DecodedLemmas
 pub mod AgreementLemmas
 pub mod MessageAgreementLemmas

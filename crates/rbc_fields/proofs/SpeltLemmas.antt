@@ -12,13 +12,19 @@ use Rattle.rbc_fields.specs.declared.row.Row.{Row as WalkRow}
 use Rattle.rbc_fields.specs.declared.walk.Walk.{Walk}
 use Rattle.rbc_fields.specs.declared.fields.Place.TheVariants.{Missing}
 use Rattle.rbc_fields.specs.Walks.{field_of, behind, is_allowed, length_fault, told, moved}
-use Rattle.rbc_fields.specs.Readings.{reading, field_read, with_next, stopped}
+use Rattle.rbc_fields.specs.declared.said.Said.{Said}
+use Rattle.rbc_fields.specs.Said.{said_by, with_said, all_said}
+use Rattle.rbc_fields.specs.Readings.{Reading, reading, field_read, with_next, stopped}
 use Rattle.rbc_fields.specs.Laws.{fields_read}
 use Rattle.rbc_fields.proofs.AgreementLemmas.{some_bits}
 
--- from this walk on these are the fields that are read of the bits
-pub record Tells (walk : Walk) (bits : List Bool) (fields : List (FieldName × ℕ)) : Type 0 where
-  pub tells : (most : ℕ) (bit : ℕ) → length bits < most → fields_read (reading most walk bits bit) ≡ fields
+-- the fields that are read, and what they say
+abbrev pub told_of : Reading → List (FieldName × ℕ) × List Said
+told_of reading = (fields_read reading, all_said reading.items)
+
+-- from this walk on these are the fields that are read of the bits, and what they say
+pub record Tells (walk : Walk) (bits : List Bool) (fields : List (FieldName × ℕ)) (said : List Said) : Type 0 where
+  pub tells : (most : ℕ) (bit : ℕ) → length bits < most → told_of (reading most walk bits bit) ≡ (fields, said)
 
 record IsCut (name : FieldName) (value : ℕ) (bits mid : List Bool) : Type 0 where
   enough : nat_lt (length bits) (width_of name) ≡ false
@@ -39,57 +45,67 @@ cut {name} {value} {fields} {bits} {later} begins fits =
     (ap (field name (λ v. true)) parts ∙ field-wrote name (λ v. true) value mid fits refl) in
     record { enough = said.0; value_is = said.1; rest_is = said.2 }
 
-module _ (walk : Walk) (row : WalkRow) (name : FieldName) (value : ℕ) (fields : List (FieldName × ℕ)) (mid : List Bool) where
+module _ (walk : Walk) (row : WalkRow) (name : FieldName) (value : ℕ) (fields : List (FieldName × ℕ)) (said : List Said) (mid : List Bool) where
+  -- what is told with the field
+  abbrev Both : Type 0
+  Both = List (FieldName × ℕ) × List Said
+
+  abbrev told_next : Both
+  told_next = ((name, value) ∷ fields, with_said (said_by name walk row value) said)
+
   behind_ok : is_allowed walk row name value ≡ true → length_fault walk row name value ≡ None → behind walk row name value ≡ Ok (moved (told walk row name value) row)
   behind_ok allowed none = rw (allowed, none) refl
 
-  item_told : (most bit later : ℕ) → is_allowed walk row name value ≡ true → length_fault walk row name value ≡ None → Tells (moved (told walk row name value) row) mid fields → length mid < most
-      → fields_read (with_next (record { walk = walk; row = row; name = name; value = value }) bit (behind walk row name value) (λ next. reading most next mid later)) ≡ (name, value) ∷ fields
+  item_told : (most bit later : ℕ) → is_allowed walk row name value ≡ true → length_fault walk row name value ≡ None → Tells (moved (told walk row name value) row) mid fields said → length mid < most
+      → told_of (with_next (record { walk = walk; row = row; name = name; value = value }) bit (behind walk row name value) (λ next. reading most next mid later)) ≡ told_next
   item_told most bit later allowed none h few =
-      ap (λ (r : Result Walk Fault). fields_read (with_next (record { walk = walk; row = row; name = name; value = value }) bit r (λ next. reading most next mid later))) (behind_ok allowed none)
-      ∙ ap (λ l. (name, value) ∷ l) (h.tells most later few)
+      ap (λ (r : Result Walk Fault). told_of (with_next (record { walk = walk; row = row; name = name; value = value }) bit r (λ next. reading most next mid later))) (behind_ok allowed none)
+      ∙ ap (λ (l : Both). ((name, value) ∷ l.0, with_said (said_by name walk row value) l.1)) (h.tells most later few)
 
   field_told : (most bit : ℕ) (bits : List Bool) (short : Bool) (n : ℕ) (rest : List Bool) → short ≡ false → n ≡ value → rest ≡ mid
-      → is_allowed walk row name value ≡ true → length_fault walk row name value ≡ None → Tells (moved (told walk row name value) row) mid fields → length mid < most
-      → fields_read
+      → is_allowed walk row name value ≡ true → length_fault walk row name value ≡ None → Tells (moved (told walk row name value) row) mid fields said → length mid < most
+      → told_of
       (if short
       then stopped (Some (record { fault = Short; place = Missing name; bit = bit; value = length bits }))
       else with_next (record { walk = walk; row = row; name = name; value = n }) bit (behind walk row name n) (λ next. reading most next rest (bit + width_of name)))
-      ≡ (name, value) ∷ fields
+      ≡ told_next
   field_told most bit bits short n rest long same behind_it allowed none h few =
       rw (long, same, behind_it) (item_told most bit (bit + width_of name) allowed none h few)
 
   from_field : (most bit : ℕ) (bits : List Bool) → length bits < most → field_of walk ≡ Some (row, name) → IsCut name value bits mid
-      → is_allowed walk row name value ≡ true → length_fault walk row name value ≡ None → Tells (moved (told walk row name value) row) mid fields
-      → fields_read (reading most walk bits bit) ≡ (name, value) ∷ fields
+      → is_allowed walk row name value ≡ true → length_fault walk row name value ≡ None → Tells (moved (told walk row name value) row) mid fields said
+      → told_of (reading most walk bits bit) ≡ told_next
   unfolding reading
   from_field zero bit bits few next is allowed none h = absurd (omega arith)
   from_field (suc most) bit bits few next is allowed none h =
       let some = some_bits name in
       let room : width_of name ≤ length bits = grind (arith, is.enough) in
       let shorter : length mid < most = omega (arith, some, room, few, length-drop (width_of name) bits, ap length is.rest_is) in
-      ap (λ (f : Option (WalkRow × FieldName)). fields_read (field_read f walk bits bit (reading most))) next
+      ap (λ (f : Option (WalkRow × FieldName)). told_of (field_read f walk bits bit (reading most))) next
       ∙ field_told most bit bits (nat_lt (length bits) (width_of name)) (number_of (take (width_of name) bits)) (drop (width_of name) bits)
       is.enough is.value_is is.rest_is allowed none h shorter
 
 -- a field, and those behind it
-pub tell : {walk : Walk} {row : WalkRow} (name : FieldName) {value : ℕ} {fields more : List (FieldName × ℕ)} {bits later : List Bool}
+pub tell : {walk : Walk} {row : WalkRow} (name : FieldName) {value : ℕ} {fields more : List (FieldName × ℕ)} {said : List Said} {bits later : List Bool}
     → field_of walk ≡ Some (row, name) → Row ((name, value) ∷ fields) bits later → value < 2 ^ width_of name → is_allowed walk row name value ≡ true → length_fault walk row name value ≡ None
-    → ((mid : List Bool) → Row fields mid later → Tells (moved (told walk row name value) row) mid more)
-    → Tells walk bits ((name, value) ∷ more)
-tell {walk} {row} name {value} {fields} {more} {bits} {later} next r fits allowed none h =
+    → ((mid : List Bool) → Row fields mid later → Tells (moved (told walk row name value) row) mid more said)
+    → Tells walk bits ((name, value) ∷ more) (with_said (said_by name walk row value) said)
+tell {walk} {row} name {value} {fields} {more} {said} {bits} {later} next r fits allowed none h =
     let mid = spelled fields ++ later in
     let is = cut r fits in
-    record { tells = λ most bit few. from_field walk row name value more mid most bit bits few next is allowed none (h mid (record { is = refl })) }
+    record { tells = λ most bit few. from_field walk row name value more said mid most bit bits few next is allowed none (h mid (record { is = refl })) }
 
 -- no field is left
-last_told : (walk : Walk) → field_of walk ≡ None → (most bit : ℕ) (bits : List Bool) → length bits < most → fields_read (reading most walk bits bit) ≡ []
+last_told : (walk : Walk) → field_of walk ≡ None → (most bit : ℕ) (bits : List Bool) → length bits < most → told_of (reading most walk bits bit) ≡ ([], [])
 unfolding reading
 last_told walk over zero bit bits few = absurd (omega arith)
-last_told walk over (suc most) bit bits few = ap (λ (f : Option (WalkRow × FieldName)). fields_read (field_read f walk bits bit (reading most))) over
+last_told walk over (suc most) bit bits few = ap (λ (f : Option (WalkRow × FieldName)). told_of (field_read f walk bits bit (reading most))) over
 
-pub told_all : (walk : Walk) (bits : List Bool) → field_of walk ≡ None → Tells walk bits []
+pub told_all : (walk : Walk) (bits : List Bool) → field_of walk ≡ None → Tells walk bits [] []
 told_all walk bits over = record { tells = λ most bit few. last_told walk over most bit bits few }
 
-pub as_fields : {walk : Walk} {bits : List Bool} {fields more : List (FieldName × ℕ)} → fields ≡ more → Tells walk bits fields → Tells walk bits more
-as_fields {walk} {bits} same h = subst (λ l. Tells walk bits l) same h
+pub as_fields : {walk : Walk} {bits : List Bool} {fields more : List (FieldName × ℕ)} {said : List Said} → fields ≡ more → Tells walk bits fields said → Tells walk bits more said
+as_fields {walk} {bits} {said = said} same h = subst (λ l. Tells walk bits l said) same h
+
+pub as_said : {walk : Walk} {bits : List Bool} {fields : List (FieldName × ℕ)} {said also : List Said} → said ≡ also → Tells walk bits fields said → Tells walk bits fields also
+as_said {walk} {bits} {fields} same h = subst (λ l. Tells walk bits fields l) same h

@@ -12,6 +12,7 @@ use Rattle.rbc_fields.specs.Walks.{at_row, first_row}
 use Rattle.rbc_fields.specs.declared.walk.Walk.{Walk}
 use Rattle.rbc_fields.specs.declared.row.Row.TheVariants.{Header}
 use Rattle.rbc_fields.specs.Texts.{reading_text}
+use Rattle.rbc_fields.specs.JsonText.{json_text, overlong_json}
 use Rattle.rbc_fields.specs.declared.line.Digits.{Digits}
 use Rattle.rbc_fields.specs.declared.line.Digits.TheVariants.{Message as ReadMessage, Packet as ReadPacket, None as ReadNothing}
 
@@ -52,43 +53,36 @@ bytes_in digits = bytes_decoded (decode_of digits)
 
 -- ---- the reply
 
--- the reply to what is too long
-abbrev pub overlong_text : List ℕ
-overlong_text = line_of (codes "refused" ∷ codes "Overlong" ∷ [])
+-- what is printed of a packet alone or of a message, and of what is too long
+pub record Printing : Type 0 where
+  pub told : Bool → Reading → List ℕ
+  pub overlong : List ℕ
 
--- what digits tell, if they are not too many
-abbrev pub digits_reply : (List ℕ → Reading) → List ℕ → List ℕ
-digits_reply reading digits = if nat_lt LONGEST_LINE (length digits) then overlong_text else reading_text (reading (bytes_in digits))
+-- lines of fields and words
+abbrev pub plain : Printing
+plain = record {
+  told = λ packet reading. reading_text reading;
+  overlong = line_of (codes "refused" ∷ codes "Overlong" ∷ []);
+}
 
-abbrev pub are_refused : (List ℕ → Reading) → List ℕ → Bool
-are_refused reading digits = nat_lt LONGEST_LINE (length digits) || is_some (reading (bytes_in digits)).found
+-- a line of JSON
+abbrev pub json : Printing
+json = record { told = json_text; overlong = overlong_json }
 
-abbrev pub told_reply : Told → List ℕ
-told_reply (Message digits) = digits_reply message_reading digits
-told_reply (Packet digits) = digits_reply packet_reading digits
-told_reply Nothing = []
+abbrev pub reading_kind : Bool → List ℕ → Reading
+reading_kind packet bytes = if packet then packet_reading bytes else message_reading bytes
+
+abbrev pub are_refused : Bool → List ℕ → Bool
+are_refused packet digits = nat_lt LONGEST_LINE (length digits) || is_some (reading_kind packet (bytes_in digits)).found
 
 abbrev pub is_told_refused : Told → Bool
-is_told_refused (Message digits) = are_refused message_reading digits
-is_told_refused (Packet digits) = are_refused packet_reading digits
+is_told_refused (Message digits) = are_refused false digits
+is_told_refused (Packet digits) = are_refused true digits
 is_told_refused Nothing = false
-
--- the reply to a line
-abbrev pub decode_reply : List ℕ → List ℕ
-decode_reply line = if nat_lt LONGEST_CHECK_LINE (length line) then overlong_text else told_reply (told_in line)
 
 -- whether what a line has is refused
 abbrev pub is_refused : List ℕ → Bool
 is_refused line = nat_lt LONGEST_CHECK_LINE (length line) || is_told_refused (told_in line)
-
--- A line is answered by its reply, and it is kept whether one was refused so far.
-abbrev pub AnswersDecode : Bool → List ℕ → List ℕ → Bool → Type 0
-AnswersDecode before line reply after = (reply ≡ decode_reply line) × (after ≡ (before || is_refused line))
-
--- ---- a whole input
-
-abbrev pub decode_text : List ℕ → List ℕ
-decode_text input = flat_map decode_reply (lines_of input)
 
 abbrev pub is_all_read : List ℕ → Bool
 is_all_read input = list_all (λ line. not (is_refused line)) (lines_of input)
@@ -98,11 +92,35 @@ abbrev pub outcome_of : {A E : Type 0} → Result A E → Result (Unit {0}) E
 outcome_of (Ok told) = Ok tt
 outcome_of (Err fault) = Err fault
 
--- Where what was left to read and what was written are known: just the replies to the lines of what was read were written, and it is told whether none of them
--- was refused.
-abbrev pub DecodesAll : Bool → Option (List ℕ) → Option (List ℕ) → Option (List ℕ) → Type 0
-DecodesAll all left old new =
-    (input held text : List ℕ) → left ≡ Some input → old ≡ Some held → new ≡ Some (held ++ text) → (text ≡ decode_text input) × (all ≡ is_all_read input)
+module _ (printing : Printing) where
+  -- what digits tell, if they are not too many
+  abbrev pub digits_reply : Bool → List ℕ → List ℕ
+  digits_reply packet digits =
+      if nat_lt LONGEST_LINE (length digits) then printing.overlong else printing.told packet (reading_kind packet (bytes_in digits))
+
+  abbrev pub told_reply : Told → List ℕ
+  told_reply (Message digits) = digits_reply false digits
+  told_reply (Packet digits) = digits_reply true digits
+  told_reply Nothing = []
+
+  -- the reply to a line
+  abbrev pub decode_reply : List ℕ → List ℕ
+  decode_reply line = if nat_lt LONGEST_CHECK_LINE (length line) then printing.overlong else told_reply (told_in line)
+
+  -- A line is answered by its reply, and it is kept whether one was refused so far.
+  abbrev pub AnswersDecode : Bool → List ℕ → List ℕ → Bool → Type 0
+  AnswersDecode before line reply after = (reply ≡ decode_reply line) × (after ≡ (before || is_refused line))
+
+  -- ---- a whole input
+
+  abbrev pub decode_text : List ℕ → List ℕ
+  decode_text input = flat_map decode_reply (lines_of input)
+
+  -- Where what was left to read and what was written are known: just the replies to the lines of what was read were written, and it is told whether none of
+  -- them was refused.
+  abbrev pub DecodesAll : Bool → Option (List ℕ) → Option (List ℕ) → Option (List ℕ) → Type 0
+  DecodesAll all left old new =
+      (input held text : List ℕ) → left ≡ Some input → old ≡ Some held → new ≡ Some (held ++ text) → (text ≡ decode_text input) × (all ≡ is_all_read input)
 
 -- ---- in the code
 
@@ -110,8 +128,8 @@ DecodesAll all left old new =
 abbrev pub start_of : Bool → List ℕ → Walk
 start_of packet bytes = if packet then at_row (first_row bytes) true (length bytes) else at_row Header false (length bytes)
 
-abbrev pub reading_kind : Bool → List ℕ → Reading
-reading_kind packet bytes = reading_of (start_of packet bytes) bytes
+abbrev pub reading_at : Bool → List ℕ → Reading
+reading_at packet bytes = reading_of (start_of packet bytes) bytes
 
 abbrev pub IsToldInHex : Told → Type 0
 IsToldInHex (Message digits) = IsTrue (is_hex digits)

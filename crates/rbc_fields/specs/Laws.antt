@@ -9,6 +9,7 @@ use Rattle.rbc_model.specs.Reading.{read_message}
 use Rattle.rbc_fields.specs.declared.fields.Found.{Found}
 use Rattle.rbc_fields.specs.declared.fields.Item.{Item}
 use Rattle.rbc_fields.specs.Readings.{Reading, message_reading}
+use Rattle.rbc_fields.specs.Said.{all_said, said_of}
 
 -- the fault that is found, if one is
 abbrev pub fault_found : Reading → Option Fault
@@ -30,3 +31,7 @@ fields_read reading = map (λ (item : Item). (item.name, item.value)) reading.it
 -- The fields of a message that is read are those that its authority's message has.
 abbrev pub FieldsAreThose : Type 0
 FieldsAreThose = (bytes : List ℕ) (a : Authority) → IsBytes bytes → read_message Far bytes ≡ Ok a → fields_read (message_reading bytes) ≡ message_3 a
+
+-- What the fields of a message that is read say is what its authority says.
+abbrev pub WordsAreThose : Type 0
+WordsAreThose = (bytes : List ℕ) (a : Authority) → IsBytes bytes → read_message Far bytes ≡ Ok a → all_said (message_reading bytes).items ≡ said_of a

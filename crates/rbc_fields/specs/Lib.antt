@@ -1,6 +1,10 @@
 pub mod Rows
 pub mod Walks
 pub mod Readings
+pub mod Said
 pub mod Texts
+pub mod JsonText
+pub mod Parts
+pub mod JsonParts
 pub mod DecodeText
 pub mod Laws

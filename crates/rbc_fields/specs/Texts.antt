@@ -1,27 +1,25 @@
 -- What is printed of a message, or of a packet alone: each field with its name, its width and its value, and then what the fields say in words, or what is
 -- found where they end.
-use Rattle.std.specs.Prelude.{ℕ, ◌*◌, List, [], ◌∷◌, ◌++◌, Option, Some, None, ◌==◌, if◌then◌else◌, codes, decimal}
+use Rattle.std.specs.Prelude.{ℕ, Bool, List, [], ◌∷◌, ◌++◌, Option, Some, None, ◌==◌, if◌then◌else◌, codes, decimal}
 use Rattle.std.specs.Fmt.{signed_decimal}
 use Rattle.std.specs.List.{flat_map}
-use Rattle.rbc_model.specs.declared.limits.TheConstants.{SPEED_STEP}
 use Rattle.rbc_model.specs.declared.messages.FieldName.{FieldName}
 use Rattle.rbc_model.specs.declared.messages.FieldName.TheVariants.{NID_MESSAGE, L_MESSAGE, T_TRAIN, M_ACK, NID_C, NID_BG, NID_PACKET, Q_DIR, L_PACKET, Q_SCALE, V_LOA, T_LOA, N_ITER, L_ENDSECTION, Q_SECTIONTIMER, Q_ENDTIMER, Q_DANGERPOINT, Q_OVERLAP, D_GRADIENT, Q_GDIR, G_A, D_STATIC, V_STATIC, Q_FRONT}
 use Rattle.rbc_model.specs.declared.messages.Fault.{Fault}
 use Rattle.rbc_model.specs.declared.messages.Fault.TheVariants.{Short, Number, Length, Field, Padding, Extra}
 use Rattle.rbc_model.specs.Messages.{width_of}
-use Rattle.rbc_model.specs.Reading.{signed_value}
-use Rattle.rbc_model.specs.Scales.{unit_of_scale}
 use Rattle.rbc_model.specs.Words.{line_of}
 use Rattle.rbc_fields.specs.declared.row.Row.{Row}
-use Rattle.rbc_fields.specs.declared.row.Row.TheVariants.{Header, Authority, GradientHead, GradientEnd, SpeedHead, SpeedEnd}
-use Rattle.rbc_fields.specs.declared.walk.Walk.{Walk}
+use Rattle.rbc_fields.specs.declared.row.Row.TheVariants.{Header, Authority, GradientHead, SpeedHead}
 use Rattle.rbc_fields.specs.declared.fields.Found.{Found}
 use Rattle.rbc_fields.specs.declared.fields.Place.{Place}
 use Rattle.rbc_fields.specs.declared.fields.Place.TheVariants.{Field as AtField, Missing, Filling, Behind}
 use Rattle.rbc_fields.specs.declared.fields.Item.{Item}
+use Rattle.rbc_fields.specs.declared.said.Said.{Said}
+use Rattle.rbc_fields.specs.declared.said.Said.TheVariants.{Time, Country, Group, Nominal, End, Grade, Speed}
 use Rattle.rbc_fields.specs.Rows.{packet_number}
-use Rattle.rbc_fields.specs.Walks.{scale_told}
 use Rattle.rbc_fields.specs.Readings.{Reading}
+use Rattle.rbc_fields.specs.Said.{all_said}
 
 -- ---- fields
 
@@ -75,59 +73,22 @@ item_text item = head_text item ++ field_line item.name item.value
 
 -- ---- words
 
--- how many metres a distance counts as one
-abbrev pub unit_told : Walk → ℕ
-unit_told walk = unit_of_scale (scale_told walk.scale)
+abbrev pub direction_text : Bool → List ℕ
+direction_text nominal = if nominal then codes "nominal" else codes "reverse"
 
--- where the element begins that is read, in metres
-abbrev pub start_told : Walk → ℕ
-start_told walk = unit_told walk * walk.from
+-- what is said, in words: the group in two parts (47 is the slash, 10 the line feed)
+abbrev pub said_text : Said → List ℕ
+said_text (Time time) = line_of (codes "time" ∷ decimal time ∷ [])
+said_text (Country country) = codes "group " ++ decimal country
+said_text (Group number) = 47 ∷ (decimal number ++ 10 ∷ [])
+said_text (Nominal nominal) = line_of (codes "direction" ∷ direction_text nominal ∷ [])
+said_text (End metres) = line_of (codes "end" ∷ decimal metres ∷ [])
+said_text (Grade from per_mille) = line_of (codes "grade" ∷ decimal from ∷ signed_decimal per_mille ∷ [])
+said_text (Speed from kmh) = line_of (codes "speed" ∷ decimal from ∷ decimal kmh ∷ [])
 
-abbrev pub direction_text : ℕ → List ℕ
-direction_text direction = if direction == 1 then codes "nominal" else codes "reverse"
-
-abbrev pub direction_line : ℕ → List ℕ
-direction_line direction = line_of (codes "direction" ∷ direction_text direction ∷ [])
-
-abbrev pub end_line : ℕ → List ℕ
-end_line metres = line_of (codes "end" ∷ decimal metres ∷ [])
-
-abbrev pub grade_line : Walk → ℕ → List ℕ
-grade_line walk size = line_of (codes "grade" ∷ decimal (start_told walk) ∷ signed_decimal (signed_value walk.uphill size) ∷ [])
-
-abbrev pub speed_line : Walk → ℕ → List ℕ
-speed_line walk fives = line_of (codes "speed" ∷ decimal (start_told walk) ∷ decimal (SPEED_STEP * fives) ∷ [])
-
--- the direction is told by packet 15, and by a packet alone
-abbrev pub direction_said : Walk → Row → ℕ → List ℕ
-direction_said walk Authority direction = direction_line direction
-direction_said walk _ direction = if walk.is_alone then direction_line direction else []
-
--- the end element of a packet alone tells the end
-abbrev pub end_said : Walk → List ℕ
-end_said walk = if walk.is_alone then end_line (start_told walk) else []
-
-abbrev pub grade_said : Walk → Row → ℕ → List ℕ
-grade_said walk GradientEnd size = end_said walk
-grade_said walk _ size = grade_line walk size
-
-abbrev pub speed_said : Walk → Row → ℕ → List ℕ
-speed_said walk SpeedEnd fives = end_said walk
-speed_said walk _ fives = speed_line walk fives
-
--- what a field says in words: the time, the group in two parts (47 is the slash, 10 the line feed), the direction, the end, gradients and speeds
-abbrev pub said_by : FieldName → Walk → Row → ℕ → List ℕ
-said_by T_TRAIN walk row value = line_of (codes "time" ∷ decimal value ∷ [])
-said_by NID_C walk row value = codes "group " ++ decimal value
-said_by NID_BG walk row value = 47 ∷ (decimal value ++ 10 ∷ [])
-said_by Q_DIR walk row value = direction_said walk row value
-said_by L_ENDSECTION walk row value = end_line (unit_told walk * value)
-said_by G_A walk row value = grade_said walk row value
-said_by V_STATIC walk row value = speed_said walk row value
-said_by _ walk row value = []
-
-abbrev pub said_text : Item → List ℕ
-said_text item = said_by item.name item.walk item.row item.value
+abbrev pub said_line : Option Said → List ℕ
+said_line None = []
+said_line (Some said) = said_text said
 
 -- ---- faults
 
@@ -162,7 +123,7 @@ abbrev pub items_text : List Item → List ℕ
 items_text items = flat_map item_text items
 
 abbrev pub words_text : List Item → List ℕ
-words_text items = flat_map said_text items
+words_text items = flat_map said_text (all_said items)
 
 -- behind the fields: their words, or what is found where they end
 abbrev pub outcome_text : List Item → Option Found → List ℕ

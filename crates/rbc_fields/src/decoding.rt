@@ -7,13 +7,13 @@ ghost use Rattle.rbc_model.specs.declared.sessions.SessionFault.TheVariants.{Rea
 ghost use Rattle.rbc_model.specs.Sessions.{Prints};
 ghost use Rattle.rbc_model.specs.Talks.{IsTalk};
 ghost use Rattle.rbc_fields.specs.Readings.{reading_of};
-ghost use Rattle.rbc_fields.specs.Texts.{items_text, words_text, outcome_text, reading_text};
 ghost use Rattle.rbc_fields.specs.DecodeText.{is_hex, bytes_in, start_of, reading_kind, digits_reply, are_refused, told_reply, is_told_refused, told_view, IsToldInHex};
-ghost use Rattle.rbc_fields.specs.DecodeText.{AnswersDecode, DecodesAll, outcome_of};
+ghost use Rattle.rbc_fields.specs.DecodeText.{AnswersDecode, DecodesAll, Printing, outcome_of};
 
 use crate::fields::{Fields, Found};
+use crate::json_line::print_json;
 use crate::line::{Digits, digits_in};
-use crate::text::{print_found, print_item, print_said};
+use crate::text::print_reading;
 use crate::walk::Walk;
 use rbc_model::limits::{LONGEST_CHECK_LINE, LONGEST_LINE};
 use rbc_streams::{Answers, Sink, Source, WriteFailed, converse, put};
@@ -35,72 +35,80 @@ fn find(start: &Walk, bytes: &[u8]) -> Option<Found>
     fields.found()
 }
 
-/// Writes each field of these bytes, up to the last or to the first at fault.
-#[tactic(auto, unfolding(crate::specs::Readings::reading_of))]
-fn print_fields<W: Sink>(start: &Walk, bytes: &[u8], writer: &mut W) -> Result<(), WriteFailed>
-    requires going { W.failed writer.old ≡ false }
-    requires short { length bytes.now ≤ 4096 }
-    ensures { Prints (W.written writer.old) (W.written writer.new) (W.failed writer.new)
-        (items_text (reading_of start.now bytes.now).items) result }
-{
-    let mut fields = Fields::new(start, bytes);
-    while let Some(item) = fields.next() {
-        print_item(&item, writer)?;
-    }
-    Ok(())
+/// How a message or a packet alone is printed.
+pub trait Form {
+    /// What is printed of one, and of what is too long.
+    ghost printing: { Printing };
+
+    /// Writes what these bytes tell, where this is found.
+    ///
+    /// # Errors
+    ///
+    /// `WriteFailed`, where the writer fails. Then a part of the text stands, from its start.
+    fn print_reading<W: Sink>(
+        is_packet: bool,
+        bytes: &[u8],
+        found: Option<Found>,
+        writer: &mut W,
+    ) -> Result<(), WriteFailed>
+        requires going { W.failed writer.old ≡ false }
+        requires short { length bytes.now ≤ 4096 }
+        requires found { found ≡ (reading_kind is_packet bytes.now).found }
+        ensures { Prints (W.written writer.old) (W.written writer.new) (W.failed writer.new)
+            (printing.told is_packet (reading_kind is_packet bytes.now)) result };
+
+    /// Writes the reply to what is too long.
+    ///
+    /// # Errors
+    ///
+    /// As above.
+    fn print_overlong<W: Sink>(writer: &mut W) -> Result<(), WriteFailed>
+        requires { W.failed writer.old ≡ false }
+        ensures { Prints (W.written writer.old) (W.written writer.new) (W.failed writer.new) printing.overlong result };
 }
 
-/// Writes what the fields of these bytes say in words.
-#[tactic(auto, unfolding(crate::specs::Readings::reading_of))]
-fn print_words<W: Sink>(start: &Walk, bytes: &[u8], writer: &mut W) -> Result<(), WriteFailed>
-    requires going { W.failed writer.old ≡ false }
-    requires short { length bytes.now ≤ 4096 }
-    ensures { Prints (W.written writer.old) (W.written writer.new) (W.failed writer.new)
-        (words_text (reading_of start.now bytes.now).items) result }
-{
-    let mut fields = Fields::new(start, bytes);
-    while let Some(item) = fields.next() {
-        print_said(&item, writer)?;
-    }
-    Ok(())
-}
+/// Lines of fields, and of words.
+pub struct Plain;
 
-/// Writes what stands behind the fields of these bytes: their words, or what was found where they end.
-fn print_outcome<W: Sink>(
-    start: &Walk,
-    bytes: &[u8],
-    found: Option<Found>,
-    writer: &mut W,
-) -> Result<(), WriteFailed>
-    requires going { W.failed writer.old ≡ false }
-    requires short { length bytes.now ≤ 4096 }
-    ensures { Prints (W.written writer.old) (W.written writer.new) (W.failed writer.new)
-        (outcome_text (reading_of start.now bytes.now).items found) result }
-{
-    match found {
-        None => {
-            print_words(start, bytes, writer)?;
-            put(writer, b"done\n")
-        }
-        Some(found) => print_found(&found, writer),
+impl Form for Plain {
+    ghost use Rattle.rbc_fields.specs.DecodeText.{plain};
+
+    ghost printing = { plain };
+
+    fn print_reading<W: Sink>(
+        is_packet: bool,
+        bytes: &[u8],
+        found: Option<Found>,
+        writer: &mut W,
+    ) -> Result<(), WriteFailed> {
+        print_reading(&start_of(is_packet, bytes), bytes, found, writer)
+    }
+
+    fn print_overlong<W: Sink>(writer: &mut W) -> Result<(), WriteFailed> {
+        put(writer, b"refused Overlong\n")
     }
 }
 
-/// Writes what these bytes tell, where this is found.
-fn print_reading<W: Sink>(
-    start: &Walk,
-    bytes: &[u8],
-    found: Option<Found>,
-    writer: &mut W,
-) -> Result<(), WriteFailed>
-    requires going { W.failed writer.old ≡ false }
-    requires short { length bytes.now ≤ 4096 }
-    requires found { found ≡ (reading_of start.now bytes.now).found }
-    ensures { Prints (W.written writer.old) (W.written writer.new) (W.failed writer.new)
-        (reading_text (reading_of start.now bytes.now)) result }
-{
-    print_fields(start, bytes, writer)?;
-    print_outcome(start, bytes, found, writer)
+/// A line of JSON.
+pub struct Json;
+
+impl Form for Json {
+    ghost use Rattle.rbc_fields.specs.DecodeText.{json};
+
+    ghost printing = { json };
+
+    fn print_reading<W: Sink>(
+        is_packet: bool,
+        bytes: &[u8],
+        found: Option<Found>,
+        writer: &mut W,
+    ) -> Result<(), WriteFailed> {
+        print_json(is_packet, &start_of(is_packet, bytes), bytes, found, writer)
+    }
+
+    fn print_overlong<W: Sink>(writer: &mut W) -> Result<(), WriteFailed> {
+        put(writer, b"{\"refused\":{\"fault\":\"Overlong\"}}\n")
+    }
 }
 
 /// Whether a message or packet was refused so far.
@@ -111,22 +119,26 @@ struct Decoder {
 
 impl Decoder {
     /// Writes what a line has told.
-    fn print_told<W: Sink>(&mut self, told: Digits, writer: &mut W) -> Result<(), WriteFailed>
+    fn print_told<F: Form, W: Sink>(
+        &mut self,
+        told: Digits,
+        writer: &mut W,
+    ) -> Result<(), WriteFailed>
         requires going { W.failed writer.old ≡ false }
         requires hex { IsToldInHex (told_view told) }
         ensures reply { Prints (W.written writer.old) (W.written writer.new) (W.failed writer.new)
-            (told_reply (told_view told.entry)) result }
+            (told_reply F.printing (told_view told.entry)) result }
         ensures refused { self.new.refused ≡ (self.old.refused || is_told_refused (told_view told.entry)) }
     {
         match told {
-            Digits::Message(digits) => self.print_digits(false, digits, writer),
-            Digits::Packet(digits) => self.print_digits(true, digits, writer),
+            Digits::Message(digits) => self.print_digits::<F, W>(false, digits, writer),
+            Digits::Packet(digits) => self.print_digits::<F, W>(true, digits, writer),
             Digits::None => Ok(()),
         }
     }
 
     /// Writes what the digits of a message tell, or of a packet alone.
-    fn print_digits<W: Sink>(
+    fn print_digits<F: Form, W: Sink>(
         &mut self,
         is_packet: bool,
         digits: &[u8],
@@ -135,20 +147,19 @@ impl Decoder {
         requires going { W.failed writer.old ≡ false }
         requires hex { IsTrue (is_hex digits.now) }
         ensures reply { Prints (W.written writer.old) (W.written writer.new) (W.failed writer.new)
-            (digits_reply (reading_kind is_packet) digits.now) result }
-        ensures refused { self.new.refused ≡ (self.old.refused || are_refused (reading_kind is_packet) digits.now) }
+            (digits_reply F.printing is_packet digits.now) result }
+        ensures refused { self.new.refused ≡ (self.old.refused || are_refused is_packet digits.now) }
     {
         if digits.len() > LONGEST_LINE {
             self.refused = true;
-            return put(writer, b"refused Overlong\n");
+            return F::print_overlong(writer);
         }
         let mut room = [0; MOST_BYTES];
         let bytes = &mut room[..digits.len() / 2];
         decode_digits(digits, bytes);
-        let start = start_of(is_packet, bytes);
-        let found = find(&start, bytes);
+        let found = find(&start_of(is_packet, bytes), bytes);
         self.refused = self.refused || found.is_some();
-        print_reading(&start, bytes, found, writer)
+        F::print_reading(is_packet, bytes, found, writer)
     }
 }
 
@@ -172,7 +183,7 @@ fn start_of(is_packet: bool, bytes: &[u8]) -> Walk
     }
 }
 
-impl Answers<()> for Decoder {
+impl<F: Form> Answers<F> for Decoder {
     type State = bool;
 
     ghost use Rattle.std.specs.Prelude.{⊤, false, refl};
@@ -183,7 +194,7 @@ impl Answers<()> for Decoder {
 
     ghost state = { λ d. d.refused };
 
-    ghost answers = { AnswersDecode };
+    ghost answers = { AnswersDecode F.printing };
 
     // Decoding never fails.
     ghost ready = { λ _. ⊤ };
@@ -202,30 +213,31 @@ impl Answers<()> for Decoder {
         &mut self,
         _rt: &T,
         _alloc: Global,
-        help: &(),
+        help: &F,
         line: &[u8],
         writer: &mut W,
     ) -> Result<(), WriteFailed> {
         if line.len() > LONGEST_CHECK_LINE {
             return self.refuse(help, writer);
         }
-        self.print_told(digits_in(line), writer)
+        self.print_told::<F, W>(digits_in(line), writer)
     }
 
-    fn refuse<W: Sink>(&mut self, _help: &(), writer: &mut W) -> Result<(), WriteFailed> {
+    fn refuse<W: Sink>(&mut self, _help: &F, writer: &mut W) -> Result<(), WriteFailed> {
         self.refused = true;
-        put(writer, b"refused Overlong\n")
+        F::print_overlong(writer)
     }
 }
 
 /// Prints each message and packet in the text that is read, field by field and in words, or what is wrong with it and
-/// where. Answers whether none was refused.
+/// where, in this form. Answers whether none was refused.
 ///
 /// # Errors
 /// `Memory` before anything is read or written. Then, for each line in order: `Read` where the reader fails, `Write`
 /// where the writer does, `Overlong` behind the reply to a line that is too long; `Lines` where a further byte comes
 /// after the last line that a session treats.
-pub fn decode<R: Source, W: Sink>(
+pub fn decode<F: Form, R: Source, W: Sink>(
+    form: &F,
     rt: &(impl Threads + Sync),
     alloc: Global,
     reader: &mut R,
@@ -246,16 +258,16 @@ pub fn decode<R: Source, W: Sink>(
 
     // What was written answers the lines of what was read, and Ok tells whether none was refused.
     ensures talk { (input : List ℕ) × Consumes (R.left reader.old) (R.left reader.new) input × (refused : Bool)
-        × IsTalk LONGEST_CHECK_LINE AnswersDecode false refused input (W.written writer.old) (W.written writer.new)
+        × IsTalk LONGEST_CHECK_LINE (AnswersDecode F.printing) false refused input (W.written writer.old) (W.written writer.new)
         (outcome_of result) × IfOk result (λ all. all ≡ not refused) }
 
     // At the end of the input what was written, and whether none was refused, is one function of what was read.
-    ensures answers { IfOk result (λ all. DecodesAll all (R.left reader.old) (W.written writer.old) (W.written writer.new)) }
+    ensures answers { IfOk result (λ all. DecodesAll F.printing all (R.left reader.old) (W.written writer.old) (W.written writer.new)) }
 
     // And it was handed on, unless the writer failed.
     ensures handed_on { W.failed writer.new ≡ false → W.held_back writer.old ≡ [] → W.held_back writer.new ≡ [] }
 {
     let mut decoder = Decoder { refused: false };
-    converse(rt, alloc, reader, writer, &mut decoder, &())?;
+    converse(rt, alloc, reader, writer, &mut decoder, form)?;
     Ok(!decoder.refused)
 }

@@ -2,24 +2,29 @@
 //! words, and the place of the first one that is at fault.
 #![tactic(auto)]
 
-ghost use Rattle.rbc_fields.specs.Laws.{FaultsAgree, FieldsAreThose};
+ghost use Rattle.rbc_fields.specs.Laws.{FaultsAgree, FieldsAreThose, WordsAreThose};
 
 mod decoding;
 mod fields;
+mod json_line;
 mod line;
+mod parts;
 mod row;
+mod said;
 mod text;
 mod walk;
 
-pub use decoding::decode;
+pub use decoding::{Form, Json, Plain, decode};
 pub use fields::{Found, Place};
 pub use row::Row;
+pub use said::Said;
 pub use walk::Walk;
 
 /// The walk over the fields of a message and [`rbc_packet::read_message`] come to the same: no fault is found just where
-/// it is read, and else the fault that reading answers; and the fields of a message that is read are those of its
-/// authority's message.
+/// it is read, and else the fault that reading answers; the fields of a message that is read are those of its
+/// authority's message; and what they say is what its authority says.
 pub fn messages_are_read_alike()
     ensures faults { FaultsAgree }
     ensures fields { FieldsAreThose }
+    ensures words { WordsAreThose }
 {}

@@ -1,24 +1,109 @@
 //! What is printed of the fields of a message.
 
-ghost use Rattle.std.specs.Prelude.{◌≡◌, ◌*◌, ◌++◌, false, decimal, codes};
+ghost use Rattle.std.specs.Prelude.{◌≡◌, ◌≤◌, ◌++◌, false, decimal, codes, length};
 ghost use Rattle.rbc_model.specs.Sessions.{Prints};
-ghost use Rattle.rbc_model.specs.Reading.{signed_value};
+ghost use Rattle.rbc_fields.specs.declared.said.Said.TheVariants.{Nominal, Grade};
+ghost use Rattle.rbc_fields.specs.Parts.{parts_text};
+ghost use Rattle.rbc_fields.specs.Readings.{reading_of};
+ghost use Rattle.rbc_fields.specs.Said.{said_in};
 ghost use Rattle.rbc_fields.specs.Texts.{name_text, field_line, packet_line, row_text, head_text, item_text, said_text};
-ghost use Rattle.rbc_fields.specs.Texts.{direction_text, direction_line, end_line, grade_line, speed_line, direction_said};
-ghost use Rattle.rbc_fields.specs.Texts.{end_said, grade_said, speed_said, unit_told, fault_text, place_text, measure_text};
-ghost use Rattle.rbc_fields.specs.Texts.{found_line};
+ghost use Rattle.rbc_fields.specs.Texts.{direction_text, fault_text, place_text, measure_text, found_line, said_line};
+ghost use Rattle.rbc_fields.specs.Texts.{outcome_text, reading_text};
 
 use crate::fields::{Found, Item, Place};
+use crate::parts::{Part, print_parts};
 use crate::row::{Row, packet_number};
+use crate::said::{Said, said_in};
 use crate::walk::Walk;
-use rbc_model::limits::SPEED_STEP;
 use rbc_model::{Fault, FieldName};
 use rbc_packet::width_of;
 use rbc_streams::{Sink, WriteFailed, put};
 use rbc_words::{Word, print_last, print_line, print_number};
 
+/// The fields, a line each.
+struct FieldLines;
+
+impl Part for FieldLines {
+    ghost use Rattle.rbc_fields.specs.Parts.{always};
+    ghost use Rattle.rbc_fields.specs.Texts.{item_text};
+
+    ghost told = { always };
+
+    ghost text = { λ later field. item_text field };
+
+    fn is_told(_item: &Item) -> bool {
+        true
+    }
+
+    fn print<W: Sink>(item: &Item, _later: bool, writer: &mut W) -> Result<(), WriteFailed> {
+        print_item(item, writer)
+    }
+}
+
+/// What the fields say in words.
+struct Words;
+
+impl Part for Words {
+    ghost use Rattle.rbc_fields.specs.Parts.{always};
+    ghost use Rattle.rbc_fields.specs.Said.{said_in};
+    ghost use Rattle.rbc_fields.specs.Texts.{said_line};
+
+    ghost told = { always };
+
+    ghost text = { λ later field. said_line (said_in field) };
+
+    fn is_told(_item: &Item) -> bool {
+        true
+    }
+
+    fn print<W: Sink>(item: &Item, _later: bool, writer: &mut W) -> Result<(), WriteFailed> {
+        match said_in(item) {
+            Some(said) => print_said(&said, writer),
+            None => Ok(()),
+        }
+    }
+}
+
+/// Writes what stands behind the fields of these bytes: their words, or what was found where they end.
+fn print_outcome<W: Sink>(
+    start: &Walk,
+    bytes: &[u8],
+    found: Option<Found>,
+    writer: &mut W,
+) -> Result<(), WriteFailed>
+    requires going { W.failed writer.old ≡ false }
+    requires short { length bytes.now ≤ 4096 }
+    ensures { Prints (W.written writer.old) (W.written writer.new) (W.failed writer.new)
+        (outcome_text (reading_of start.now bytes.now).items found) result }
+{
+    match found {
+        None => {
+            print_parts::<Words, W>(start, bytes, writer)?;
+            put(writer, b"done\n")
+        }
+        Some(found) => print_found(&found, writer),
+    }
+}
+
+/// Writes what these bytes tell, where this is found.
+pub(crate) fn print_reading<W: Sink>(
+    start: &Walk,
+    bytes: &[u8],
+    found: Option<Found>,
+    writer: &mut W,
+) -> Result<(), WriteFailed>
+    requires going { W.failed writer.old ≡ false }
+    requires short { length bytes.now ≤ 4096 }
+    requires found { found ≡ (reading_of start.now bytes.now).found }
+    ensures { Prints (W.written writer.old) (W.written writer.new) (W.failed writer.new)
+        (reading_text (reading_of start.now bytes.now)) result }
+{
+    print_parts::<FieldLines, W>(start, bytes, writer)?;
+    print_outcome(start, bytes, found, writer)
+}
+
 /// Writes a field, behind the line of what begins with it.
-pub(crate) fn print_item<W: Sink>(item: &Item, writer: &mut W) -> Result<(), WriteFailed>
+fn print_item<W: Sink>(item: &Item, writer: &mut W) -> Result<(), WriteFailed>
     requires { W.failed writer.old ≡ false }
     ensures { Prints (W.written writer.old) (W.written writer.new) (W.failed writer.new) (item_text item.now) result }
 {
@@ -68,21 +153,21 @@ fn print_field<W: Sink>(name: FieldName, value: u32, writer: &mut W) -> Result<(
     print_line(b" ", &words, writer)
 }
 
-/// Writes what a field says in words, if it is told so.
-pub(crate) fn print_said<W: Sink>(item: &Item, writer: &mut W) -> Result<(), WriteFailed>
+/// Writes what is said in words.
+fn print_said<W: Sink>(said: &Said, writer: &mut W) -> Result<(), WriteFailed>
     requires { W.failed writer.old ≡ false }
-    ensures { Prints (W.written writer.old) (W.written writer.new) (W.failed writer.new) (said_text item.now) result }
+    ensures { Prints (W.written writer.old) (W.written writer.new) (W.failed writer.new) (said_text said.now) result }
 {
-    let value = item.value;
-    match item.name {
-        FieldName::T_TRAIN => print_line(b"time", &[Word::Number(value)], writer),
-        FieldName::NID_C => print_country(value, writer),
-        FieldName::NID_BG => print_last(b"/", u64::from(value), writer),
-        FieldName::Q_DIR => print_direction_said(&item.walk, item.row, value, writer),
-        FieldName::L_ENDSECTION => print_end(metres(&item.walk, value), writer),
-        FieldName::G_A => print_grade_said(&item.walk, item.row, value, writer),
-        FieldName::V_STATIC => print_speed_said(&item.walk, item.row, value, writer),
-        _ => Ok(()),
+    match *said {
+        Said::Time(time) => print_line(b"time", &[Word::Number(time)], writer),
+        Said::Country(country) => print_country(country, writer),
+        Said::Group(number) => print_last(b"/", u64::from(number), writer),
+        Said::Nominal(nominal) => print_direction(nominal, writer),
+        Said::End(metres) => print_line(b"end", &[Word::Count(metres)], writer),
+        Said::Grade(from, per_mille) => print_grade(from, per_mille, writer),
+        Said::Speed(from, kmh) => {
+            print_line(b"speed", &[Word::Count(from), Word::Count(kmh)], writer)
+        }
     }
 }
 
@@ -95,145 +180,34 @@ fn print_country<W: Sink>(country: u32, writer: &mut W) -> Result<(), WriteFaile
     print_number(u64::from(country), writer)
 }
 
-/// Writes the direction, where packet 15 or a packet alone tells it.
-fn print_direction_said<W: Sink>(
-    walk: &Walk,
-    row: Row,
-    direction: u32,
-    writer: &mut W,
-) -> Result<(), WriteFailed>
+fn print_direction<W: Sink>(nominal: bool, writer: &mut W) -> Result<(), WriteFailed>
     requires { W.failed writer.old ≡ false }
     ensures { Prints (W.written writer.old) (W.written writer.new) (W.failed writer.new)
-        (direction_said walk.now row direction) result }
+        (said_text (Nominal nominal)) result }
 {
-    match row {
-        Row::Authority => print_direction(direction, writer),
-        _ if walk.is_alone => print_direction(direction, writer),
-        _ => Ok(()),
-    }
+    print_line(b"direction", &[Word::Text(direction_text(nominal))], writer)
 }
 
-fn print_direction<W: Sink>(direction: u32, writer: &mut W) -> Result<(), WriteFailed>
+fn print_grade<W: Sink>(from: u64, per_mille: i64, writer: &mut W) -> Result<(), WriteFailed>
     requires { W.failed writer.old ≡ false }
     ensures { Prints (W.written writer.old) (W.written writer.new) (W.failed writer.new)
-        (direction_line direction) result }
+        (said_text (Grade from per_mille)) result }
 {
     print_line(
-        b"direction",
-        &[Word::Text(direction_text(direction))],
+        b"grade",
+        &[Word::Count(from), Word::Distance(per_mille)],
         writer,
     )
 }
 
-/// Writes where the authority or the packet ends, in metres from the group.
-fn print_end<W: Sink>(metres: u64, writer: &mut W) -> Result<(), WriteFailed>
-    requires { W.failed writer.old ≡ false }
-    ensures { Prints (W.written writer.old) (W.written writer.new) (W.failed writer.new) (end_line metres) result }
+pub(crate) fn direction_text(nominal: bool) -> &'static [u8]
+    ensures { result.now ≡ direction_text nominal }
 {
-    print_line(b"end", &[Word::Count(metres)], writer)
-}
-
-/// Writes where a packet alone ends. In a message packet 15 has told it.
-fn print_end_said<W: Sink>(walk: &Walk, writer: &mut W) -> Result<(), WriteFailed>
-    requires { W.failed writer.old ≡ false }
-    ensures { Prints (W.written writer.old) (W.written writer.new) (W.failed writer.new) (end_said walk.now) result }
-{
-    if walk.is_alone {
-        return print_end(metres(walk, walk.from), writer);
-    }
-    Ok(())
-}
-
-/// Writes a gradient, or at the end element where a packet alone ends.
-fn print_grade_said<W: Sink>(
-    walk: &Walk,
-    row: Row,
-    size: u32,
-    writer: &mut W,
-) -> Result<(), WriteFailed>
-    requires { W.failed writer.old ≡ false }
-    ensures { Prints (W.written writer.old) (W.written writer.new) (W.failed writer.new)
-        (grade_said walk.now row size) result }
-{
-    match row {
-        Row::GradientEnd => print_end_said(walk, writer),
-        _ => print_grade(walk, size, writer),
-    }
-}
-
-/// Writes where a gradient begins, in metres from the group, and its per mille.
-fn print_grade<W: Sink>(walk: &Walk, size: u32, writer: &mut W) -> Result<(), WriteFailed>
-    requires { W.failed writer.old ≡ false }
-    ensures { Prints (W.written writer.old) (W.written writer.new) (W.failed writer.new)
-        (grade_line walk.now size) result }
-{
-    let words = [
-        Word::Count(metres(walk, walk.from)),
-        Word::Distance(signed_value(walk.uphill, size)),
-    ];
-    print_line(b"grade", &words, writer)
-}
-
-/// Per mille with their sign.
-fn signed_value(uphill: u32, size: u32) -> i64
-    ensures { result ≡ signed_value uphill size }
-{
-    if uphill == 1 {
-        i64::from(size)
-    } else {
-        -i64::from(size)
-    }
-}
-
-/// Writes a speed, or at the end element where a packet alone ends.
-fn print_speed_said<W: Sink>(
-    walk: &Walk,
-    row: Row,
-    fives: u32,
-    writer: &mut W,
-) -> Result<(), WriteFailed>
-    requires { W.failed writer.old ≡ false }
-    ensures { Prints (W.written writer.old) (W.written writer.new) (W.failed writer.new)
-        (speed_said walk.now row fives) result }
-{
-    match row {
-        Row::SpeedEnd => print_end_said(walk, writer),
-        _ => print_speed(walk, fives, writer),
-    }
-}
-
-/// Writes where a speed begins, in metres from the group, and its km/h.
-fn print_speed<W: Sink>(walk: &Walk, fives: u32, writer: &mut W) -> Result<(), WriteFailed>
-    requires { W.failed writer.old ≡ false }
-    ensures { Prints (W.written writer.old) (W.written writer.new) (W.failed writer.new)
-        (speed_line walk.now fives) result }
-{
-    let words = [
-        Word::Count(metres(walk, walk.from)),
-        Word::Count(u64::from(SPEED_STEP) * u64::from(fives)),
-    ];
-    print_line(b"speed", &words, writer)
-}
-
-/// So many units of the scale that is told, in metres.
-fn metres(walk: &Walk, units: u32) -> u64
-    ensures { result ≡ unit_told walk.now * units }
-{
-    u64::from(walk.unit()) * u64::from(units)
-}
-
-fn direction_text(direction: u32) -> &'static [u8]
-    ensures { result.now ≡ direction_text direction }
-{
-    if direction == 1 {
-        b"nominal"
-    } else {
-        b"reverse"
-    }
+    if nominal { b"nominal" } else { b"reverse" }
 }
 
 /// Writes what was found where the fields ended.
-pub(crate) fn print_found<W: Sink>(found: &Found, writer: &mut W) -> Result<(), WriteFailed>
+fn print_found<W: Sink>(found: &Found, writer: &mut W) -> Result<(), WriteFailed>
     requires { W.failed writer.old ≡ false }
     ensures { Prints (W.written writer.old) (W.written writer.new) (W.failed writer.new) (found_line found.now) result }
 {
@@ -249,7 +223,7 @@ pub(crate) fn print_found<W: Sink>(found: &Found, writer: &mut W) -> Result<(), 
 }
 
 /// What stands at a fault.
-fn place_text(place: Place) -> &'static [u8]
+pub(crate) fn place_text(place: Place) -> &'static [u8]
     ensures { result.now ≡ place_text place }
 {
     match place {
@@ -259,7 +233,7 @@ fn place_text(place: Place) -> &'static [u8]
 }
 
 /// Whether the value there is told, or how many bits are left.
-fn measure_text(place: Place) -> &'static [u8]
+pub(crate) fn measure_text(place: Place) -> &'static [u8]
     ensures { result.now ≡ measure_text place }
 {
     match place {
@@ -268,7 +242,7 @@ fn measure_text(place: Place) -> &'static [u8]
     }
 }
 
-fn fault_text(fault: Fault) -> &'static [u8]
+pub(crate) fn fault_text(fault: Fault) -> &'static [u8]
     ensures { result.now ≡ fault_text fault }
 {
     match fault {
@@ -281,7 +255,7 @@ fn fault_text(fault: Fault) -> &'static [u8]
     }
 }
 
-fn name_text(name: FieldName) -> &'static [u8]
+pub(crate) fn name_text(name: FieldName) -> &'static [u8]
     ensures { result.now ≡ name_text name }
 {
     match name {

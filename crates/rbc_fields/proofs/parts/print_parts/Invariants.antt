@@ -1,21 +1,23 @@
 use Rattle.std.proofs.Common.{◌≡◌, ℕ, false, Bool, List, length, Option, Result}
 use Rattle.rbc_model.specs.Sessions.{Prints}
 use Rattle.rbc_streams.specs.declared.streams.WriteFailed.{WriteFailed}
+use Rattle.rbc_fields.specs.Parts.{parts_text}
 use Rattle.rbc_fields.specs.Readings.{reading_of, IsCounted}
-use Rattle.rbc_fields.specs.Texts.{items_text}
 use Rattle.rbc_fields.proofs.RestLemmas.{Rest}
-use Rattle.rbc_fields.proofs.decoding.print_fields.Given as goal
+use Rattle.rbc_fields.proofs.parts.print_parts.Given as goal
 
 -- to print what is left is to print all
 abbrev pub invariant-loop-item : goal.invariant-loop-item
 invariant-loop-item g l =
     let written = g.W.Sink.written in
+    let told = g.P.Part.told in
+    let text = g.P.Part.text in
     record {
       going : g.W.Sink.failed l.writer ≡ false;
       counted : IsCounted l.fields;
       rest : Rest l.fields (λ reading. (end : Option (List ℕ)) (failed : Bool) (r : Result (Unit {0}) WriteFailed)
-          → Prints (written l.writer) end failed (items_text reading.items) r
-          → Prints (written l.fn.writer) end failed (items_text (reading_of l.fn.start l.fn.bytes).items) r);
+          → Prints (written l.writer) end failed (parts_text told text l.later reading.items) r
+          → Prints (written l.fn.writer) end failed (parts_text told text false (reading_of l.fn.start l.fn.bytes).items) r);
     }
 
 abbrev pub decreases-loop-item : goal.decreases-loop-item

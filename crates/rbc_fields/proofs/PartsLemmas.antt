@@ -1,0 +1,42 @@
+-- What is printed of the fields one after another, as the texts of all say it.
+use Rattle.std.proofs.Common.{◌≡◌, ℕ, ◌||◌, Bool, true, false, List, [], ◌∷◌, ◌++◌, length, drop, drop-cons, get_or, ◌+◌, ◌<◌, ◌≤◌, add-one, Option, Some, None, Result, refl, sym, ap, ◌∙◌, subst}
+use Rattle.std.specs.List.{flat_map}
+use Rattle.std.proofs.lemmas.List.{at_drop_all}
+use Rattle.rbc_model.specs.Sessions.{Prints}
+use Rattle.rbc_fields.specs.declared.fields.Item.{Item}
+use Rattle.rbc_fields.specs.declared.said.Said.{Said}
+use Rattle.rbc_fields.specs.Parts.{parts_text, always}
+use Rattle.rbc_fields.specs.Said.{all_said, with_said, said_in}
+use Rattle.rbc_fields.specs.Texts.{said_line, said_text, words_text}
+
+-- the same text by another name
+pub prints_as : {E : Type 0} {a b : Option (List ℕ)} {failed : Bool} {x y : List ℕ} {r : Result (Unit {0}) E} → x ≡ y → Prints a b failed x r → Prints a b failed y r
+prints_as {E} {a} {b} {failed} {x} {y} {r} same p = subst (λ text. Prints a b failed text r) same p
+
+-- where nothing depends on those before
+pub parts_text-flat : (text : Item → List ℕ) (later : Bool) (items : List Item) → parts_text always (λ before. text) later items ≡ flat_map text items
+parts_text-flat text later [] = refl
+parts_text-flat text later (item ∷ items) = ap (λ l. text item ++ l) (parts_text-flat text (later || true) items)
+
+said_next : (o : Option Said) (said : List Said) → said_line o ++ flat_map said_text said ≡ flat_map said_text (with_said o said)
+said_next None said = refl
+said_next (Some x) said = refl
+
+lines_words : (items : List Item) → flat_map (λ item. said_line (said_in item)) items ≡ words_text items
+lines_words [] = refl
+lines_words (item ∷ items) = ap (λ l. said_line (said_in item) ++ l) (lines_words items) ∙ said_next (said_in item) (all_said items)
+
+-- the words
+pub parts_text-words : (items : List Item) → parts_text always (λ before item. said_line (said_in item)) false items ≡ words_text items
+parts_text-words items = parts_text-flat (λ item. said_line (said_in item)) false items ∙ lines_words items
+
+-- the first of those that are left, and those behind it
+pub flat_map-next : {X : Type 0} (text : X → List ℕ) (xs : List X) (index : ℕ) (x : X) → index < length xs
+    → flat_map text (drop index xs) ≡ text (get_or xs index x) ++ flat_map text (drop (index + 1) xs)
+flat_map-next text xs index x inside =
+    ap (λ l. flat_map text l) (drop-cons xs index x inside)
+    ∙ ap (λ i. text (get_or xs index x) ++ flat_map text (drop i xs)) (sym (add-one index))
+
+-- none is left
+pub flat_map-end : {X : Type 0} (text : X → List ℕ) (xs : List X) (index : ℕ) → length xs ≤ index → flat_map text (drop index xs) ≡ []
+flat_map-end text xs index past = at_drop_all (λ l. flat_map text l) xs index past

@@ -1,0 +1,78 @@
+-- The line of JSON as the code prints it, piece by piece.
+use Rattle.std.specs.Prelude.{ℕ, Bool, true, false, List, [], ◌∷◌, ◌++◌, Option, Some, None, codes, decimal}
+use Rattle.std.specs.Fmt.{signed_decimal}
+use Rattle.std.specs.List.{flat_map}
+use Rattle.rbc_fields.specs.declared.fields.Found.{Found}
+use Rattle.rbc_fields.specs.declared.fields.Item.{Item}
+use Rattle.rbc_fields.specs.declared.json_line.Piece.{Piece}
+use Rattle.rbc_fields.specs.declared.json_line.Piece.TheVariants.{Text, Number, Count, Signed}
+use Rattle.rbc_fields.specs.declared.said.Said.{Said}
+use Rattle.rbc_fields.specs.declared.said.Said.TheVariants.{Time, Country, Group, Nominal, End, Grade, Speed}
+use Rattle.rbc_fields.specs.Said.{all_said, said_in}
+use Rattle.rbc_fields.specs.JsonText.{field_data, grade_data, speed_data, grade_items, speed_items, counted, found_data}
+use Rattle.rbc_fields.specs.Texts.{direction_text}
+use Rattle.serde_json.specs.Data.{Data, string, array, Items}
+use Rattle.serde_json.specs.Written.{compact_text, comma_if}
+use Rattle.json.specs.Print.{quoted}
+
+abbrev pub piece_text : Piece → List ℕ
+piece_text (Text text) = text.now
+piece_text (Number number) = decimal number
+piece_text (Count count) = decimal count
+piece_text (Signed number) = signed_decimal number
+
+abbrev pub pieces_text : List Piece → List ℕ
+pieces_text pieces = flat_map piece_text pieces
+
+-- a field among others
+abbrev pub field_part : Bool → Item → List ℕ
+field_part later field = comma_if later ++ compact_text (field_data field)
+
+-- a member behind others
+abbrev pub member_part : List ℕ → Data → List ℕ
+member_part key value = 44 ∷ (quoted key ++ 58 ∷ compact_text value)
+
+-- what is said but for gradients and speeds
+abbrev pub other_part : Said → List ℕ
+other_part (Time time) = member_part (codes "time") (counted time)
+other_part (Country country) = member_part (codes "country") (counted country)
+other_part (Group n) = member_part (codes "group") (counted n)
+other_part (Nominal nominal) = member_part (codes "direction") (string (direction_text nominal))
+other_part (End metres) = member_part (codes "end") (counted metres)
+other_part (Grade from per_mille) = []
+other_part (Speed from kmh) = []
+
+abbrev pub is_grade : Option Said → Bool
+is_grade (Some (Grade from per_mille)) = true
+is_grade _ = false
+
+abbrev pub grade_part : Bool → Said → List ℕ
+grade_part later (Grade from per_mille) = comma_if later ++ compact_text (grade_data from per_mille)
+grade_part later _ = []
+
+abbrev pub is_speed : Option Said → Bool
+is_speed (Some (Speed from kmh)) = true
+is_speed _ = false
+
+abbrev pub speed_part : Bool → Said → List ℕ
+speed_part later (Speed from kmh) = comma_if later ++ compact_text (speed_data from kmh)
+speed_part later _ = []
+
+-- what is printed of it, if something is said
+abbrev pub if_said : (Said → List ℕ) → Option Said → List ℕ
+if_said text None = []
+if_said text (Some said) = text said
+
+abbrev pub array_part : List ℕ → Items → List ℕ
+array_part key items = member_part key (array items)
+
+abbrev pub others_part : List Item → List ℕ
+others_part items = flat_map (λ field. if_said other_part (said_in field)) items
+
+-- the members of the words
+abbrev pub words_part : List Item → List ℕ
+words_part items = others_part items ++ (array_part (codes "grades") (grade_items (all_said items)) ++ array_part (codes "speeds") (speed_items (all_said items)))
+
+abbrev pub outcome_part : List Item → Option Found → List ℕ
+outcome_part items None = words_part items
+outcome_part items (Some found) = member_part (codes "refused") (found_data found)
