@@ -1,34 +1,44 @@
-//! The answer to a line: what it asks for is computed.
+//! The answer to a line: what it asks for is computed, and printed.
 
-ghost use Rattle.std.specs.Prelude.{◌≡◌, MatchResult};
+ghost use Rattle.std.specs.Prelude.{◌≡◌, false, ℕ, List, MatchResult};
 ghost use Rattle.rbc_model.specs.declared.places.Format.TheVariants.{Far};
+ghost use Rattle.rbc_model.specs.Sessions.{Prints};
 ghost use Rattle.rbc_model.specs.StepsReply.{AnswersLine, AnswersRequest, refusal_reply};
 ghost use Rattle.rbc_words.specs.StepsLines.{request_view, IsRequestInRange};
-ghost use Rattle.rbc_words.specs.Replies.{certified_text, reply_text};
+ghost use Rattle.rbc_words.specs.Replies.{certified_text};
 
 use rbc_model::{OrMemory, StepsRefusal};
 use rbc_packet::{Encoded, write_profile};
 use rbc_reduce::{Priced, Reduced, reduce};
 use rbc_steps::Runs;
-use rbc_words::{Certified, Spelled, StepsLine, StepsReply, StepsRequest, parse_steps};
+use rbc_streams::{Sink, WriteFailed};
+use rbc_words::{
+    Certified, Spelled, StepsLine, StepsRequest, parse_steps, print_certified, print_refusal,
+};
 use std::alloc::Global;
 
-/// The reply to a line.
-pub fn reply_to(alloc: Global, line: &[u8]) -> StepsReply
-    ensures { AnswersLine Far line.now (reply_text result) }
+/// Writes the answer to a line.
+///
+/// # Errors
+///
+/// `WriteFailed`, where the writer fails. Then a part of the answer stands, from its start.
+pub fn answer_line<W: Sink>(alloc: Global, line: &[u8], writer: &mut W) -> Result<(), WriteFailed>
+    requires { W.failed writer.old ≡ false }
+    ensures { (reply : List ℕ) × AnswersLine Far line.now reply
+        × Prints (W.written writer.old) (W.written writer.new) (W.failed writer.new) reply result }
 {
     match parse_steps(alloc, line) {
-        Ok(StepsLine::Blank) => StepsReply::Nothing,
+        Ok(StepsLine::Blank) => Ok(()),
         Ok(StepsLine::Speed(request)) => match certify(alloc, request) {
-            Ok(certified) => StepsReply::Speed(certified),
-            Err(refusal) => StepsReply::Refused(refusal),
+            Ok(certified) => print_certified(&certified, writer),
+            Err(refusal) => print_refusal(refusal, writer),
         },
         Ok(StepsLine::Grade(request)) => match certify(alloc, request) {
-            Ok(certified) => StepsReply::Grade(certified),
-            Err(refusal) => StepsReply::Refused(refusal),
+            Ok(certified) => print_certified(&certified, writer),
+            Err(refusal) => print_refusal(refusal, writer),
         },
-        Err(OrMemory::Refused(fault)) => StepsReply::Refused(StepsRefusal::BadLine(fault)),
-        Err(OrMemory::Memory) => StepsReply::Refused(StepsRefusal::Memory),
+        Err(OrMemory::Refused(fault)) => print_refusal(StepsRefusal::BadLine(fault), writer),
+        Err(OrMemory::Memory) => print_refusal(StepsRefusal::Memory, writer),
     }
 }
 

@@ -7,11 +7,11 @@ ghost use Rattle.rbc_model.specs.StepsReply.{AnswersLine};
 ghost use Rattle.rbc_model.specs.Talks.{IsTalk, EachByItself};
 ghost use Rattle.rbc_certifier.specs.Answered.{AnswersAllSteps};
 
-use crate::answers::reply_to;
+use crate::answers::answer_line;
 use rbc_model::limits::LONGEST_LINE;
 use rbc_model::{LineFault, SessionFault, StepsRefusal};
 use rbc_streams::{Answers, Sink, Source, WriteFailed, converse};
-use rbc_words::{StepsReply, print};
+use rbc_words::print_refusal;
 use std::alloc::Global;
 use std::thread::Threads;
 
@@ -55,12 +55,11 @@ impl Answers<()> for Certifier {
         line: &[u8],
         writer: &mut W,
     ) -> Result<(), WriteFailed> {
-        print(&reply_to(alloc, line), writer)
+        answer_line(alloc, line, writer)
     }
 
     fn refuse<W: Sink>(&mut self, _help: &(), writer: &mut W) -> Result<(), WriteFailed> {
-        let overlong = StepsReply::Refused(StepsRefusal::BadLine(LineFault::Overlong));
-        print(&overlong, writer)
+        print_refusal(StepsRefusal::BadLine(LineFault::Overlong), writer)
     }
 }
 

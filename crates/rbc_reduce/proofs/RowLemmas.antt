@@ -1,8 +1,11 @@
 -- Tables of prices whose first columns are filled.
-use Rattle.std.proofs.Common.{◌≡◌, refl, ap, sym, ◌∙◌, arith, subst, ℕ, zero, suc, ◌+◌, ◌<◌, ◌≤◌, ◌⊎◌, inl, inr, List, [], ◌∷◌, ◌++◌, length, length-append, get_or, map, set, min}
+use Rattle.std.proofs.Common.{◌≡◌, refl, ap, sym, ◌∙◌, arith, subst, ℕ, zero, suc, ◌+◌, ◌<◌, ◌≤◌, ◌⊎◌, inl, inr, List, [], ◌∷◌, ◌++◌, length, length-append, get_or, map, set, min, Option, Some, None}
+use Rattle.std.specs.Prelude.{slice_get}
+use Rattle.std.specs.Option.{option_map_or}
 use Rattle.std.specs.Global.{Vec}
+use Rattle.std.proofs.lemmas.List.{map-id}
 use Rattle.rbc_costs.proofs.TotalLemmas.{last_or_before}
-use Rattle.rbc_reduce.specs.Rows.{AreFilled, IsCheapest, IsColumn, IsColumnMore, price_up_to, row_in}
+use Rattle.rbc_reduce.specs.Rows.{AreFilled, IsCheapest, IsColumn, IsColumnMore, price_up_to, row_at, row_in}
 
 -- ---- one price more in a row
 
@@ -154,3 +157,11 @@ same_filled cost count row row' columns same f = record {
 
 pub some_min : (a b : ℕ) → 1 ≤ a → 1 ≤ b → 1 ≤ min a b
 some_min a b h k = grind arith
+
+-- where totals are numbers, a row is its totals
+numbers_of : (row : Option (Vec ℕ)) → option_map_or (λ r. r.items) row [] ≡ option_map_or (λ r. map (λ n. n) r.items) row []
+numbers_of None = refl
+numbers_of (Some row) = sym (map-id row.items)
+
+pub numbers_in : (rows : List (Vec ℕ)) (j : ℕ) → row_at rows j ≡ row_in (λ n. n) rows j
+numbers_in rows j = numbers_of (slice_get rows j)

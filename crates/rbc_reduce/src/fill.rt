@@ -13,6 +13,10 @@ use rbc_model::Memory;
 use rbc_steps::{Level, Runs};
 use std::alloc::Global;
 
+/// Up to so many stretches a table is filled in totals of 64 bits: narrower ones would save less than it takes to widen
+/// them.
+const NARROW_FROM: usize = 16;
+
 /// The numbers of totals.
 fn numbers_of<N: Total>(alloc: Global, totals: &[N]) -> Result<Vec<u64>, Memory>
     ensures { IfOk result (λ numbers. numbers.items ≡ map N.number totals.now) }
@@ -102,8 +106,8 @@ pub(crate) fn fill<V: Priced>(
     ensures small { IfOk result (λ rows. (j : ℕ) → AreSmall (price_in rows.items j)) }
 {
     let _runs = track.runs();
-    if V::is_low() {
+    if V::is_low() && stretches.len() > NARROW_FROM {
         return fill_in::<V, u32>(alloc, track, stretches, limit);
     }
-    fill_in::<V, u64>(alloc, track, stretches, limit)
+    filled::<V, u64>(alloc, track, stretches, limit.min(stretches.len()))
 }

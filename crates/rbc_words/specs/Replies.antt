@@ -1,13 +1,11 @@
 -- The replies that are printed, as text.
-use Rattle.std.specs.Prelude.{ℕ, List, [], ◌∷◌, ◌++◌, decimal}
+use Rattle.std.specs.Prelude.{ℕ, List, ◌∷◌, ◌++◌, decimal}
 use Rattle.std.specs.List.{flat_map}
-use Rattle.rbc_model.specs.Kinds.{Kind, speed_kind, grade_kind}
+use Rattle.rbc_model.specs.Kinds.{Kind}
 use Rattle.rbc_model.specs.Profiles.{StepFunction}
-use Rattle.rbc_model.specs.StepsReply.{track_line, profile_line, packet_lines, refusal_reply}
+use Rattle.rbc_model.specs.StepsReply.{track_line, profile_line, packet_lines}
 use Rattle.rbc_words.specs.PriceText.{prices_text}
 use Rattle.rbc_words.specs.declared.steps_reply.Certified.{Certified}
-use Rattle.rbc_words.specs.declared.steps_reply.StepsReply.{StepsReply}
-use Rattle.rbc_words.specs.declared.steps_reply.StepsReply.TheVariants.{Nothing, Refused, Speed, Grade}
 
 -- runs or steps, each a start, a colon (58) and a value behind a space (32)
 abbrev pub runs_text : {V : Type 0} → Kind V → List (ℕ × V) → List ℕ
@@ -24,10 +22,3 @@ certified_text kind certified =
     ++ profile_line kind certified.profile.steps certified.loss
     ++ prices_text certified.prices.items
     ++ packet_lines certified.packet.items
-
--- the text of a reply
-abbrev pub reply_text : StepsReply → List ℕ
-reply_text Nothing = []
-reply_text (Refused refusal) = refusal_reply refusal
-reply_text (Speed certified) = certified_text speed_kind certified
-reply_text (Grade certified) = certified_text grade_kind certified

@@ -20,7 +20,7 @@ pub use session_line::{print_request, told_request};
 pub use session_request::{Request, parse};
 pub use spelled::Spelled;
 pub use steps_reply::{
-    Certified, StepsReply, print, print_last, print_profile, print_refusal, print_track,
+    Certified, print_certified, print_last, print_profile, print_refusal, print_track,
 };
 pub use steps_request::{StepsLine, StepsRequest, parse_steps, request_in};
 pub use words::{

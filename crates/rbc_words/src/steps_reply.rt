@@ -1,15 +1,15 @@
-//! The replies of `rbc steps`, printed: nothing, a refusal, or a certificate with its packet.
+//! The replies of `rbc steps`, printed: a refusal, or a certificate with its packet.
 
 ghost use Rattle.std.specs.Prelude.{◌≡◌, false, ℕ, List, [], ◌∷◌, ◌++◌, decimal, codes};
 ghost use Rattle.rbc_model.specs.Sessions.{Prints};
 ghost use Rattle.rbc_model.specs.Words.{line_of};
 ghost use Rattle.rbc_model.specs.StepsReply.{fault_words, refusal_words, refusal_reply};
 ghost use Rattle.rbc_model.specs.StepsReply.{profile_line, packet_lines};
-ghost use Rattle.rbc_words.specs.Replies.{runs_text, track_text, certified_text, reply_text};
+ghost use Rattle.rbc_words.specs.Replies.{runs_text, track_text, certified_text};
 
 use crate::{Spelled, print_hex, print_number, print_table};
 use rbc_model::{LineFault, StepsRefusal};
-use rbc_steps::{Grade, Profile, Runs, Speed};
+use rbc_steps::{Profile, Runs};
 use rbc_streams::{Sink, WriteFailed, put};
 
 /// A track with a profile of it, what the profile loses, the prices that show that none loses less, and the packet
@@ -28,36 +28,6 @@ pub struct Certified<V: Spelled> {
     pub prices: Vec<Vec<u64>>,
     /// The packet.
     pub packet: Vec<u8>,
-}
-
-/// The reply to a line.
-#[derive(Drop)]
-pub enum StepsReply {
-    /// The line has no reply.
-    Nothing,
-    /// The line is refused.
-    Refused(StepsRefusal),
-    /// A profile of speeds.
-    Speed(Certified<Speed>),
-    /// A profile of gradients.
-    Grade(Certified<Grade>),
-}
-
-/// Writes a reply to a line.
-///
-/// # Errors
-///
-/// `WriteFailed`, where the writer fails. Then a part of the text stands, from its start.
-pub fn print<W: Sink>(reply: &StepsReply, writer: &mut W) -> Result<(), WriteFailed>
-    requires { W.failed writer.old ≡ false }
-    ensures { Prints (W.written writer.old) (W.written writer.new) (W.failed writer.new) (reply_text reply.now) result }
-{
-    match reply {
-        StepsReply::Nothing => Ok(()),
-        StepsReply::Refused(refusal) => print_refusal(*refusal, writer),
-        StepsReply::Speed(certified) => print_certified(certified, writer),
-        StepsReply::Grade(certified) => print_certified(certified, writer),
-    }
 }
 
 /// Writes the reply to a line that is refused.
@@ -117,7 +87,12 @@ pub fn print_last<W: Sink>(name: &[u8], number: u64, writer: &mut W) -> Result<(
     put(writer, b"\n")
 }
 
-fn print_certified<V: Spelled, W: Sink>(
+/// Writes a certificate and its packet.
+///
+/// # Errors
+///
+/// `WriteFailed`, where the writer fails. Then a part of the text stands, from its start.
+pub fn print_certified<V: Spelled, W: Sink>(
     certified: &Certified<V>,
     writer: &mut W,
 ) -> Result<(), WriteFailed>

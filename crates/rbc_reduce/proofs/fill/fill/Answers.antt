@@ -1,9 +1,12 @@
-use Rattle.std.proofs.Common.{arith, ◌*◌, ◌<◌, ◌≤◌, ℕ, Result, Ok, Err, length, sym, lit≤}
+use Rattle.std.proofs.Common.{arith, ◌*◌, ◌<◌, ◌≤◌, ◌≡◌, ℕ, List, Result, Ok, Err, length, sym, ◌∙◌, lit≤}
+use Rattle.std.specs.Global.{Vec}
 use Rattle.std.specs.Result.{IfOk}
 use Rattle.rbc_model.specs.Scales.{unit_of}
 use Rattle.rbc_table_laws.specs.Stretches.{breaks_for, cost_of_step}
 use Rattle.rbc_costs.specs.Prices.{ArePricesAtMost}
 use Rattle.rbc_costs.proofs.CostLemmas.{costs_bounded}
+use Rattle.rbc_reduce.specs.Rows.{AreFilled, row_at, row_in}
+use Rattle.rbc_reduce.proofs.RowLemmas.{same_filled, some_min, numbers_in}
 use Rattle.rbc_reduce.proofs.GreatestTableLemmas.{filled_is_greatest, wide_rows, small_in}
 use Rattle.rbc_reduce.proofs.fill.fill.Given.{Over}
 use Rattle.rbc_reduce.proofs.fill.fill.Goals as goal
@@ -30,33 +33,52 @@ pub fill_in-requires-clause-small : goal.fill_in-requires-clause-small
 fill_in-requires-clause-small g c κs within =
     cheap_here g (goal.at.fill_in-requires-clause-small g c).After-is_low 20000 2000000000 (c.is_low.ensures c.if-is_low.true) (lit≤ tt)
 
-pub fill_in-requires-2-clause-small : goal.fill_in-requires-2-clause-small
-fill_in-requires-2-clause-small g c κs within = cheap_of_any g (goal.at.fill_in-requires-2-clause-small g c).After-is_low
+pub filled-requires-clause-small : goal.filled-requires-clause-small
+filled-requires-clause-small g c κs within = cheap_of_any g (goal.at.filled-requires-clause-small g c).After-is_low
 
-pub returns-then-is_low-clause-table : goal.returns-then-is_low-clause-table
-returns-then-is_low-clause-table g c =
+pub returns-then-stretches-gt-NARROW_FROM-clause-table : goal.returns-then-stretches-gt-NARROW_FROM-clause-table
+returns-then-stretches-gt-NARROW_FROM-clause-table g c =
     both_ok c.fill_in.result c.fill_in.ensures.count c.fill_in.ensures.filled (λ rows count filled.
     filled_is_greatest g.V.Level.levels (unit_of c.args.track.now.end) c.args.limit c.args.track.now (breaks_for (unit_of c.args.track.now.end) c.args.track.now) c.requires.stretches.breaks rows.items (length c.args.stretches.now) (sym c.requires.stretches.count) filled count)
 
-pub returns-then-is_low-clause-wide : goal.returns-then-is_low-clause-wide
-returns-then-is_low-clause-wide g c =
+pub returns-then-stretches-gt-NARROW_FROM-clause-wide : goal.returns-then-stretches-gt-NARROW_FROM-clause-wide
+returns-then-stretches-gt-NARROW_FROM-clause-wide g c =
     both_ok c.fill_in.result c.fill_in.ensures.count c.fill_in.ensures.filled (λ rows count filled. wide_rows (length c.args.stretches.now) rows.items filled.wide)
 
-pub returns-then-is_low-clause-small : goal.returns-then-is_low-clause-small
-returns-then-is_low-clause-small g c =
-    let cheap = cheap_of_any g (goal.at.returns-then-is_low-clause-small g c).After-is_low in
+pub returns-then-stretches-gt-NARROW_FROM-clause-small : goal.returns-then-stretches-gt-NARROW_FROM-clause-small
+returns-then-stretches-gt-NARROW_FROM-clause-small g c =
+    let cheap = cheap_of_any g (goal.at.returns-then-stretches-gt-NARROW_FROM-clause-small g c).After-is_low in
     both_ok c.fill_in.result c.fill_in.ensures.count c.fill_in.ensures.filled (λ rows count filled. small_in (cost_of_step g.V.Level.levels (unit_of c.args.track.now.end) c.args.track.now) rows.items (length c.args.stretches.now) filled cheap)
+
+-- the rows of totals of 64 bits are those of numbers
+as_numbers : (g : Over) (c : After-is_low g) (count : ℕ) (rows : List (Vec ℕ))
+    → AreFilled (cost_of_step g.V.Level.levels (unit_of c.args.track.now.end) c.args.track.now) count (row_in (λ n. n) rows) (length c.args.stretches.now) → length rows ≡ count
+    → AreFilled (cost_of_step g.V.Level.levels (unit_of c.args.track.now.end) c.args.track.now) (length rows) (row_at rows) (length c.args.stretches.now)
+as_numbers g c count rows filled is =
+    rw is (same_filled (cost_of_step g.V.Level.levels (unit_of c.args.track.now.end) c.args.track.now) count (row_in (λ n. n) rows) (row_at rows) (length c.args.stretches.now) (numbers_in rows) filled)
+
+pub filled-requires-clause-some : goal.filled-requires-clause-some
+filled-requires-clause-some g c κs within =
+    let all = c.requires.stretches.count in
+    let two = c.requires.stretches.breaks.some in
+    let some = some_min c.args.limit (length c.args.stretches.now) c.requires.limit (omega arith) in
+    omega (arith, some, c.min.ensures)
 
 pub returns-clause-table : goal.returns-clause-table
 returns-clause-table g c =
-    both_ok c.fill_in-2.result c.fill_in-2.ensures.count c.fill_in-2.ensures.filled (λ rows count filled.
-    filled_is_greatest g.V.Level.levels (unit_of c.args.track.now.end) c.args.limit c.args.track.now (breaks_for (unit_of c.args.track.now.end) c.args.track.now) c.requires.stretches.breaks rows.items (length c.args.stretches.now) (sym c.requires.stretches.count) filled count)
+    let at = (goal.at.returns-clause-table g c).After-is_low in
+    both_ok c.filled.result c.filled.ensures.count c.filled.ensures.filled (λ rows count filled.
+    filled_is_greatest g.V.Level.levels (unit_of c.args.track.now.end) c.args.limit c.args.track.now (breaks_for (unit_of c.args.track.now.end) c.args.track.now) c.requires.stretches.breaks rows.items (length c.args.stretches.now) (sym c.requires.stretches.count)
+    (as_numbers g at c.min.result rows.items filled count) (count ∙ c.min.ensures))
 
 pub returns-clause-wide : goal.returns-clause-wide
 returns-clause-wide g c =
-    both_ok c.fill_in-2.result c.fill_in-2.ensures.count c.fill_in-2.ensures.filled (λ rows count filled. wide_rows (length c.args.stretches.now) rows.items filled.wide)
+    let at = (goal.at.returns-clause-wide g c).After-is_low in
+    both_ok c.filled.result c.filled.ensures.count c.filled.ensures.filled (λ rows count filled.
+    wide_rows (length c.args.stretches.now) rows.items (as_numbers g at c.min.result rows.items filled count).wide)
 
 pub returns-clause-small : goal.returns-clause-small
 returns-clause-small g c =
-    let cheap = cheap_of_any g (goal.at.returns-clause-small g c).After-is_low in
-    both_ok c.fill_in-2.result c.fill_in-2.ensures.count c.fill_in-2.ensures.filled (λ rows count filled. small_in (cost_of_step g.V.Level.levels (unit_of c.args.track.now.end) c.args.track.now) rows.items (length c.args.stretches.now) filled cheap)
+    let at = (goal.at.returns-clause-small g c).After-is_low in
+    both_ok c.filled.result c.filled.ensures.count c.filled.ensures.filled (λ rows count filled.
+    small_in (cost_of_step g.V.Level.levels (unit_of c.args.track.now.end) c.args.track.now) rows.items (length c.args.stretches.now) (as_numbers g at c.min.result rows.items filled count) (cheap_of_any g at))

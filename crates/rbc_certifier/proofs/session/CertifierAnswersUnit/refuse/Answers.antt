@@ -8,5 +8,5 @@ pub returns : goal.returns
 returns g c = (
   refusal_reply (BadLine Overlong),
   overlong_refused,
-  record { text = c.print.ensures.text; failed = c.print.ensures.failed },
+  record { text = c.print_refusal.ensures.text; failed = c.print_refusal.ensures.failed },
 )
