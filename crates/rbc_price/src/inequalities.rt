@@ -129,8 +129,11 @@ fn first_of_all<V: Level>(track: &Runs<V>, rows: &[Vec<u64>]) -> Option<Place>
     first
 }
 
-/// A refusal at the first price that is too high. Most tables have none: so it is asked first, column by column, whether
-/// there is one, and looked for only then, or where there is no memory to ask.
+/// Up to so many runs each pair of breaks is looked at by itself, which takes less than to make room for totals.
+const FEW_RUNS: usize = 4;
+
+/// A refusal at the first price that is too high. Most tables have none: so, over many runs, it is asked first, column by
+/// column, whether there is one, and looked for only then, or where there is no memory to ask.
 pub(crate) fn has_no_high_price<V: Priced>(
     alloc: Global,
     track: &Runs<V>,
@@ -141,7 +144,9 @@ pub(crate) fn has_no_high_price<V: Priced>(
     ensures { (limit : ℕ) → length rows.now ≡ steps_of_use V.levels limit track.now (prices_of rows.now)
         → result ≡ unless_some (first_too_high V.levels limit track.now (prices_of rows.now)) }
 {
-    if let Ok(true) = is_sound(alloc, track, rows) {
+    if track.runs().len() > FEW_RUNS
+        && let Ok(true) = is_sound(alloc, track, rows)
+    {
         return Ok(());
     }
     match first_of_all(track, rows) {

@@ -97,7 +97,12 @@ pub fn is_blank(text: &[u8]) -> bool
 pub fn is_text(text: &[u8]) -> bool
     ensures { result ≡ is_text text.now }
 {
-    text.iter().all(|byte| *byte >= 0x20 && *byte <= 0x7e)
+    // There is no way out of the loop before its end: a processor takes several bytes at once.
+    let mut is_text = true;
+    for byte in text {
+        is_text = is_text & (*byte >= 0x20) & (*byte <= 0x7e);
+    }
+    is_text
 }
 
 /// The text of a line, without its line feed, in which a request stands: none, if the line is blank or a comment,
