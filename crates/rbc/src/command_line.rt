@@ -16,6 +16,8 @@ pub enum Task<'a> {
     Check,
     /// Print the messages of the standard input field by field.
     Decode(Printing),
+    /// Draw the certificates of the standard input.
+    Draw,
     /// Run a centre.
     Run(Centre<'a>),
     /// Serve connections.
@@ -86,6 +88,9 @@ pub fn read<'a>(alloc: Global, words: &'a [String]) -> Result<Task<'a>, Error> {
     let decode = Command::new(alloc, "decode")
         .about("Prints each message 3 and packet on standard input field by field, and in words")
         .arg(json)?;
+    let draw = Command::new(alloc, "draw").about(
+        "Draws each certificate on standard input, and tells whether its prices show that no profile loses less, as one page of HTML",
+    );
     let run = Command::new(alloc, "run")
         .about(
             "Runs a centre on the track of a file: answers reports, locks and requests on standard input",
@@ -100,6 +105,7 @@ pub fn read<'a>(alloc: Global, words: &'a [String]) -> Result<Task<'a>, Error> {
         .subcommand(steps)?
         .subcommand(check)?
         .subcommand(decode)?
+        .subcommand(draw)?
         .subcommand(run)?
         .subcommand(serve(alloc)?)?;
     let matches = command.try_get_matches_from(words)?;
@@ -115,6 +121,9 @@ pub fn read<'a>(alloc: Global, words: &'a [String]) -> Result<Task<'a>, Error> {
     }
     if let Some(decode) = matches.subcommand_matches("decode") {
         return Ok(Task::Decode(printing_in(decode)));
+    }
+    if matches.subcommand_matches("draw").is_some() {
+        return Ok(Task::Draw);
     }
     match matches.subcommand_matches("check") {
         Some(_) => Ok(Task::Check),

@@ -13,7 +13,7 @@ use history::write_history;
 pub use journal::JournalFault;
 use journal::run_kept;
 pub use rbc_certifier::steps;
-pub use rbc_checks::check;
+pub use rbc_draw::{check, draw};
 pub use rbc_fields::{Form, Json, Plain, decode};
 use rbc_kept::server::{Port, Record, ServeFault};
 use rbc_model::Memory;
@@ -82,6 +82,19 @@ fn run(
         }
         Task::Decode(Printing::Plain) => decode_input(rt, &Plain),
         Task::Decode(Printing::Json) => decode_input(rt, &Json),
+        Task::Draw => {
+            let all_certified = draw(
+                rt,
+                alloc,
+                &mut Stream::reader(rt.reader()),
+                &mut Stream::writer(alloc, io::writer(rt))?,
+            )?;
+            if all_certified {
+                Ok(())
+            } else {
+                Err(Failure::NotCertified)
+            }
+        }
         Task::Run(centre) => run_centre(rt, &centre),
         Task::Serve(service) => serve_centre(rt, &service),
     }

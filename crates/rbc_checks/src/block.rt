@@ -11,7 +11,7 @@ use std::alloc::Global;
 
 /// The lines of the block that is open.
 #[derive(Drop)]
-pub(crate) enum Block {
+pub enum Block {
     /// No block is open.
     None,
     /// A head.
@@ -22,7 +22,7 @@ pub(crate) enum Block {
 
 impl Block {
     /// Whether a line that is this part of a block goes on with it.
-    pub(crate) fn goes_on(&self, part: Option<Part>) -> bool
+    pub fn goes_on(&self, part: Option<Part>) -> bool
         ensures { result ≡ goes_on (block_lines self.now) part }
     {
         match (self, part) {
@@ -33,7 +33,7 @@ impl Block {
     }
 
     /// The block with one line more, or nothing where memory is refused.
-    pub(crate) fn with_line(self, alloc: Global, line: CheckLine) -> Option<Block>
+    pub fn with_line(self, alloc: Global, line: CheckLine) -> Option<Block>
         ensures { IfSome result (λ block. block_lines block ≡ block_lines self ++ line_view line ∷ []) }
     {
         match self {
@@ -50,7 +50,7 @@ impl Block {
 
 impl CheckLine {
     /// The part of a block that the line is, if it is one.
-    pub(crate) fn part(&self) -> Option<Part>
+    pub fn part(&self) -> Option<Part>
         ensures { result ≡ part_of (line_view self.now) }
     {
         match self {
@@ -64,7 +64,7 @@ impl CheckLine {
 }
 
 /// The part of a block that was read, also where memory was refused for what it says.
-pub(crate) fn part_read(read: &Result<CheckLine, Part>) -> Option<Part>
+pub fn part_read(read: &Result<CheckLine, Part>) -> Option<Part>
     ensures { (said : Said) → IsSaid read.now said → result ≡ part_of said }
 {
     match read {
@@ -74,7 +74,7 @@ pub(crate) fn part_read(read: &Result<CheckLine, Part>) -> Option<Part>
 }
 
 /// Whether a line of this part begins a block.
-pub(crate) fn is_head(part: Option<Part>) -> bool
+pub fn is_head(part: Option<Part>) -> bool
     ensures { result ≡ is_head part }
 {
     matches!(part, Some(Part::Head))

@@ -8,7 +8,9 @@ mod lines;
 mod table;
 mod verdict;
 
+pub use block::{Block, is_head, part_read};
 pub use checking::check;
-pub use lines::{CheckLine, parse_check};
+pub use lines::{CheckLine, ToldProfile, parse_check};
 pub use rbc_model::{Part, Reason};
 pub use rbc_streams::{Answers, SessionFault, converse};
+pub use verdict::{Verdict, judge, print_said};

@@ -16,7 +16,7 @@ use std::alloc::Global;
 
 /// What is said of a block.
 #[derive(Clone, Copy, Debug, PartialEq, Eq)]
-pub(crate) enum Verdict {
+pub enum Verdict {
     /// It certifies a profile of speeds, which loses so much: no other loses less.
     Speed(u64),
     /// It certifies a profile of gradients, which loses so much: no other loses less.
@@ -29,7 +29,7 @@ pub(crate) enum Verdict {
 
 impl Verdict {
     /// Whether the block is not certified.
-    pub(crate) fn is_refusal(self) -> bool
+    pub fn is_refusal(self) -> bool
         ensures { result ≡ is_refusal self }
     {
         match self {
@@ -40,7 +40,7 @@ impl Verdict {
 }
 
 /// What is said of a block; nothing, if none is open.
-pub(crate) fn judge(alloc: Global, block: Block) -> Option<Verdict>
+pub fn judge(alloc: Global, block: Block) -> Option<Verdict>
     ensures { AnswersBlock (block_lines block) (said_text result) (is_bad result) }
 {
     match block {
@@ -85,7 +85,11 @@ fn told_as(checked: Result<(), OrMemory<Reason>>, certified: Verdict) -> Verdict
 }
 
 /// Writes what is said of a block; nothing, if none is open.
-pub(crate) fn print_said<W: Sink>(said: Option<Verdict>, writer: &mut W) -> Result<(), WriteFailed>
+///
+/// # Errors
+///
+/// `WriteFailed`, where the writer fails. Then a part of the text stands, from its start.
+pub fn print_said<W: Sink>(said: Option<Verdict>, writer: &mut W) -> Result<(), WriteFailed>
     requires { W.failed writer.old ≡ false }
     ensures { Prints (W.written writer.old) (W.written writer.new) (W.failed writer.new) (said_text said) result }
 {

@@ -1,0 +1,5 @@
+mod EachLemmas
+mod FigureLemmas
+mod MarkLemmas
+mod PageLemmas
+mod ShowLemmas

@@ -1,0 +1,6 @@
+pub mod Charts
+pub mod Figures
+pub mod Pages
+pub mod Pieces
+pub mod Shapes
+pub mod Texts

@@ -1,0 +1,12 @@
+//! Certificates in a text, drawn: a page with a figure for each.
+#![tactic(auto)]
+
+mod chart;
+mod figure;
+mod page;
+mod pieces;
+mod shapes;
+
+pub use chart::{Chart, Measure, Place, Point};
+pub use page::draw;
+pub use rbc_checks::{SessionFault, check};
