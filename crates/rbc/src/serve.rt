@@ -8,9 +8,8 @@ use crate::command_line::Service;
 use crate::failure::Failure;
 use rbc_kept::server::{Blank, Desk, DeskName, Port, Record};
 use rbc_model::Memory;
-use rbc_streams::{Sink, WriteFailed, put};
 use rbc_track::Track;
-use rbc_words::print_number;
+use rbc_words::{Sink, Word, WriteFailed, print_line};
 use std::alloc::Global;
 use std::io::{Eprint, Read, Write};
 use std::marker::Brand;
@@ -39,9 +38,7 @@ fn print_port<W: Sink>(port: u16, writer: &mut W) -> Result<(), WriteFailed>
     ensures { Prints (W.written writer.old) (W.written writer.new) (W.failed writer.new)
         (listening_line port) result }
 {
-    put(writer, b"listening ")?;
-    print_number(u64::from(port), writer)?;
-    put(writer, b"\n")
+    print_line(b"listening", &[Word::Number(u32::from(port))], writer)
 }
 
 /// Serves connections over a new record of the track.

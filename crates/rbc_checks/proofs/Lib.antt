@@ -3,3 +3,4 @@ mod TableLemmas
 mod VerdictLemmas
 mod CheckingLemmas
 mod PrintedLemmas
+pub use Rattle.rbc_words.proofs.PrintingLemmas

@@ -4,3 +4,5 @@ pub mod Lines
 pub mod Replies
 pub mod Tables
 pub mod Verdicts
+pub use Rattle.rbc_session_laws.specs.CheckAnswers
+pub use Rattle.rbc_words.specs.StepsLines

@@ -3,7 +3,7 @@ use Rattle.std.proofs.Common.{◌≡◌, ℕ, List, [], ◌∷◌, Option, Some,
 use Rattle.std.specs.Prelude.{slice_index, ◌++◌}
 use Rattle.rbc_model.specs.declared.prices.Reason.TheVariants.{Shape, Above, Inequality, NotAttained, Steps}
 use Rattle.rbc_model.specs.CheckText.{CheckLine, AnswersBlock, block_text, memory_text}
-use Rattle.rbc_session_laws.specs.CheckAnswers.{is_not_refused}
+use Rattle.rbc_checks.specs.CheckAnswers.{is_not_refused}
 use Rattle.rbc_checks.specs.Verdicts.{said_text, verdict_line, is_bad}
 use Rattle.rbc_checks.specs.declared.verdict.Verdict.{Verdict}
 use Rattle.rbc_checks.specs.declared.verdict.Verdict.TheVariants.{Speed, Grade, Refused, Memory}

@@ -11,8 +11,8 @@ use Rattle.rbc_model.specs.declared.places.Format.TheVariants.{Far}
 use Rattle.rbc_model.specs.Sessions.{lines_of}
 use Rattle.rbc_model.specs.Talks.{Answered, IsTalk}
 use Rattle.rbc_model.specs.CheckText.{CheckLine, Other, check_line, goes_on, opened, ended}
-use Rattle.rbc_session_laws.specs.CheckAnswers.{is_not_refused, are_certified, are_all_certified}
-use Rattle.rbc_draw.specs.Pages.{Drawing, undrawn, shown_text, blocks_text, line_said, Keeps, AnswersSaid, AnswersDraw}
+use Rattle.rbc_checks.specs.CheckAnswers.{is_not_refused, are_certified, are_all_certified}
+use Rattle.rbc_draw.specs.Pages.{Drawing, undrawn, shown_text, blocks_text, line_said, heading_text, heading_said, Keeps, AnswersSaid, AnswersDraw}
 
 -- ---- a line that is no part of a block
 
@@ -41,33 +41,44 @@ not_both true first rest = refl
 not_both false true rest = refl
 not_both false false rest = refl
 
-if_not : (b : Bool) (x y : CheckLine) → b ≡ false → (if b then x else y) ≡ y
+if_not : {A : Type 0} (b : Bool) (x y : A) → b ≡ false → (if b then x else y) ≡ y
 if_not true x y e = absurd cc
 if_not false x y e = refl
 
-if_so : (b : Bool) (x y : CheckLine) → b ≡ true → (if b then x else y) ≡ x
+if_so : {A : Type 0} (b : Bool) (x y : A) → b ≡ true → (if b then x else y) ≡ x
 if_so true x y e = refl
 if_so false x y e = absurd cc
 
 short_said : (line : List ℕ) → length line ≤ LONGEST_CHECK_LINE → line_said line ≡ check_line Far line
 short_said line short = let e : nat_lt LONGEST_CHECK_LINE (length line) ≡ false = grind arith in if_not (nat_lt LONGEST_CHECK_LINE (length line)) Other (check_line Far line) e
 
+short_heading : (line : List ℕ) → length line ≤ LONGEST_CHECK_LINE → heading_said line ≡ heading_text line
+short_heading line short = let e : nat_lt LONGEST_CHECK_LINE (length line) ≡ false = grind arith in if_not (nat_lt LONGEST_CHECK_LINE (length line)) [] (heading_text line) e
+
 -- the answer to a line
 pub short_answered : (before after : Drawing) (line reply : List ℕ) → length line ≤ LONGEST_CHECK_LINE → before.lost ≡ false
-    → AnswersSaid before (check_line Far line) reply after → AnswersDraw before line reply after
-short_answered before after line reply short whole says = (whole, subst (λ s. AnswersSaid before s reply after) (sym (short_said line short)) says)
+    → AnswersSaid before (check_line Far line) (heading_text line) reply after → AnswersDraw before line reply after
+short_answered before after line reply short whole says = (
+  whole,
+  subst (λ s. AnswersSaid before s (heading_said line) reply after) (sym (short_said line short))
+      (subst (λ h. AnswersSaid before (check_line Far line) h reply after) (sym (short_heading line short)) says),
+)
 
 pub long_answered : (before after : Drawing) (line : List ℕ) → LONGEST_CHECK_LINE < length line → before.lost ≡ false → Keeps before before.block [] after
     → AnswersDraw before line (shown_text before.block) after
 long_answered before after line long whole keeps =
     let e : nat_lt LONGEST_CHECK_LINE (length line) ≡ true = grind arith in
-    let says : AnswersSaid before Other (shown_text before.block) after =
-    (
-      ap shown_text (sym (other_ends before.block)),
+    let says : AnswersSaid before Other [] (shown_text before.block) after = (
+      ap shown_text (sym (other_ends before.block)) ∙ sym (append-nil (shown_text (ended before.block Other))),
       subst (λ now. Keeps before (ended before.block Other) now after) (sym (other_opens before.block))
           (subst (λ shown. Keeps before shown [] after) (sym (other_ends before.block)) keeps),
-    ) in
-    (whole, subst (λ s. AnswersSaid before s (shown_text before.block) after) (sym (if_so (nat_lt LONGEST_CHECK_LINE (length line)) Other (check_line Far line) e)) says)
+    ) in (
+      whole,
+      subst (λ s. AnswersSaid before s (heading_said line) (shown_text before.block) after)
+          (sym (if_so (nat_lt LONGEST_CHECK_LINE (length line)) Other (check_line Far line) e))
+          (subst (λ h. AnswersSaid before Other h (shown_text before.block) after)
+          (sym (if_so (nat_lt LONGEST_CHECK_LINE (length line)) [] (heading_text line) e)) says),
+    )
 
 pub lines_shown : (first last : Drawing) (lines : List (List ℕ)) (text : List ℕ) → AllByRecursion (λ line. length line ≤ LONGEST_CHECK_LINE) lines
     → Answered AnswersDraw first lines text last → last.lost ≡ false
@@ -84,7 +95,9 @@ lines_shown first last (line ∷ lines) text short (reply, rest, next, (going, (
     let said = check_line Far line in
     let same : line_said line ≡ said = short_said line short.0 in
     let more = lines_shown next last lines rest short.1 later whole in
-    let here : reply ≡ shown_text (ended first.block said) = says ∙ ap (λ s. shown_text (ended first.block s)) same in
+    let title : heading_said line ≡ heading_text line = short_heading line short.0 in
+    let here : reply ≡ shown_text (ended first.block said) ++ heading_text line =
+    says ∙ ap₂ (λ s h. shown_text (ended first.block s) ++ h) same title in
     let after : next ≡ record { block = opened first.block said; refused = first.refused || not (is_not_refused (ended first.block said)); lost = false } =
     kept ∙ ap (λ s. record { block = opened first.block s; refused = first.refused || not (is_not_refused (ended first.block s)); lost = false }) same in (
       ap (λ t. t ++ shown_text last.block) cut ∙ append_assoc reply rest (shown_text last.block)

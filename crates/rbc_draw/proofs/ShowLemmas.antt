@@ -9,8 +9,8 @@ use Rattle.rbc_model.specs.declared.sessions.SessionFault.{SessionFault}
 use Rattle.rbc_model.specs.declared.sessions.SessionFault.TheVariants.{Read, Write, Memory}
 use Rattle.rbc_model.specs.Sessions.{WritesText, WritesPart, Prints}
 use Rattle.rbc_model.specs.CheckText.{CheckLine, part_of, goes_on, is_head, opened, ended}
-use Rattle.rbc_session_laws.specs.CheckAnswers.{is_not_refused}
-use Rattle.rbc_words.proofs.PrintingLemmas.{prints_then, prints_nothing}
+use Rattle.rbc_checks.specs.CheckAnswers.{is_not_refused}
+use Rattle.rbc_checks.proofs.PrintingLemmas.{prints_then, prints_nothing}
 use Rattle.rbc_draw.specs.Figures.{Figure, figure_in, figure_text, drawn_text}
 use Rattle.rbc_draw.specs.Pages.{Drawing, shown_text, Keeps}
 
@@ -35,6 +35,21 @@ module _ {E : Type 0} (a b : Option (List ℕ)) (x y text : List ℕ) (whole : t
   goes_behind c failed false fails (Ok done) next prints went none second = prints_then a b c fails x y text next prints.text whole second
   goes_behind c failed true fails (Ok done) next prints went none second = absurd cc
   goes_behind c failed lost fails (Err fault) next prints went none second = absurd cc
+
+-- nothing failed: neither memory was refused, nor did the writer fail
+pub whole_yet : (lost failed : Bool) → (lost || failed) ≡ false → lost ≡ false
+whole_yet true failed none = absurd cc
+whole_yet false failed none = refl
+
+pub going_yet : (lost failed : Bool) → (lost || failed) ≡ false → failed ≡ false
+going_yet true failed none = absurd cc
+going_yet false failed none = none
+
+-- a first text was printed, and then a second is, while memory was not refused
+pub printed_behind : {E : Type 0} (a b c : Option (List ℕ)) (lost fails : Bool) (x y : List ℕ) (next : Result (Unit {0}) E) → Appends a b x → lost ≡ false
+    → Prints b c fails y next → Prints a c (lost || fails) (x ++ y) next
+printed_behind a b c true fails x y next first whole second = absurd cc
+printed_behind a b c false fails x y next first whole second = prints_then a b c fails x y (x ++ y) next first refl second
 
 -- the writer has not failed where nothing did
 pub none_failed : {E : Type 0} (lost failed : Bool) (r : Result (Unit {0}) E) → (lost || failed) ≡ is_err r → is_err r ≡ false → failed ≡ false

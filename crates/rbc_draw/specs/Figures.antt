@@ -126,22 +126,22 @@ shapes_of figure =
 -- a text at a point
 abbrev pub label_text : List ℕ → Point → List ℕ → List ℕ → List ℕ → List ℕ
 label_text look place before number after = joined (
-  codes "<text class='" ∷ look ∷ codes "' x='" ∷ decimal place.x ∷ codes "' y='" ∷ decimal place.y ∷ codes "'>"
-  ∷ before ∷ number ∷ after ∷ codes "</text>\n" ∷ [])
+    codes "<text class='" ∷ look ∷ codes "' x='" ∷ decimal place.x ∷ codes "' y='" ∷ decimal place.y ∷ codes "'>"
+    ∷ before ∷ number ∷ after ∷ codes "</text>\n" ∷ [])
 
 -- a shape as an element of SVG; a stair is a path, which goes across to each corner and then up or down, and so is an area, by two stairs
 abbrev pub shape_text : Shape → List ℕ
 shape_text (Line look from to) = joined (
-  codes "<line class='" ∷ look ∷ codes "' x1='" ∷ decimal from.x ∷ codes "' y1='" ∷ decimal from.y
-  ∷ codes "' x2='" ∷ decimal to.x ∷ codes "' y2='" ∷ decimal to.y ∷ codes "'/>\n" ∷ [])
+    codes "<line class='" ∷ look ∷ codes "' x1='" ∷ decimal from.x ∷ codes "' y1='" ∷ decimal from.y
+    ∷ codes "' x2='" ∷ decimal to.x ∷ codes "' y2='" ∷ decimal to.y ∷ codes "'/>\n" ∷ [])
 shape_text (Area look from first second to) = joined (
-  codes "<path class='" ∷ look ∷ codes "' d='M" ∷ decimal from.x ∷ codes " " ∷ decimal from.y
-  ∷ flat_map corner_text first ∷ codes "H" ∷ decimal to.x ∷ codes "V" ∷ decimal to.y
-  ∷ codes "ZM" ∷ decimal from.x ∷ codes " " ∷ decimal from.y
-  ∷ flat_map corner_text second ∷ codes "H" ∷ decimal to.x ∷ codes "V" ∷ decimal to.y ∷ codes "Z'/>\n" ∷ [])
+    codes "<path class='" ∷ look ∷ codes "' d='M" ∷ decimal from.x ∷ codes " " ∷ decimal from.y
+    ∷ flat_map corner_text first ∷ codes "H" ∷ decimal to.x ∷ codes "V" ∷ decimal to.y
+    ∷ codes "ZM" ∷ decimal from.x ∷ codes " " ∷ decimal from.y
+    ∷ flat_map corner_text second ∷ codes "H" ∷ decimal to.x ∷ codes "V" ∷ decimal to.y ∷ codes "Z'/>\n" ∷ [])
 shape_text (Stair look from turns to) = joined (
-  codes "<path class='" ∷ look ∷ codes "' d='M" ∷ decimal from.x ∷ codes " " ∷ decimal from.y
-  ∷ flat_map corner_text turns ∷ codes "H" ∷ decimal to.x ∷ codes "V" ∷ decimal to.y ∷ codes "'/>\n" ∷ [])
+    codes "<path class='" ∷ look ∷ codes "' d='M" ∷ decimal from.x ∷ codes " " ∷ decimal from.y
+    ∷ flat_map corner_text turns ∷ codes "H" ∷ decimal to.x ∷ codes "V" ∷ decimal to.y ∷ codes "'/>\n" ∷ [])
 shape_text (Label look place value unit) = label_text look place [] (signed_decimal value) unit
 shape_text (Count look place before number after) = label_text look place before (decimal number) after
 
@@ -155,10 +155,10 @@ title_text Grade = codes "Gradients"
 -- a figure's beginning: its title, and in words what it shows
 abbrev pub opening_text : Figure → List ℕ
 opening_text figure = joined (
-  codes "<svg viewBox='0 0 960 290' role='img'>\n<title>" ∷ title_text figure.measure ∷ codes " up to " ∷ decimal figure.end
-  ∷ codes " m</title>\n<desc>Each metre with the value from there on. Track:" ∷ flat_map (place_text figure.measure) figure.track
-  ∷ codes ". Steps:" ∷ flat_map (place_text figure.measure) figure.steps
-  ∷ codes ". Loss: " ∷ decimal figure.loss ∷ loss_text figure.measure ∷ codes ".</desc>\n" ∷ [])
+    codes "<svg viewBox='0 0 960 290' role='img'>\n<title>" ∷ title_text figure.measure ∷ codes " up to " ∷ decimal figure.end
+    ∷ codes " m</title>\n<desc>Each metre with the value from there on. Track:" ∷ flat_map (place_text figure.measure) figure.track
+    ∷ codes ". Steps:" ∷ flat_map (place_text figure.measure) figure.steps
+    ∷ codes ". Loss: " ∷ decimal figure.loss ∷ loss_text figure.measure ∷ codes ".</desc>\n" ∷ [])
 
 -- its end, and the table of prices under a fold
 abbrev pub closing_text : List CheckLine → List ℕ

@@ -1,13 +1,14 @@
 -- The program `rbc draw`: the page that it writes, as one function of the text read.
-use Rattle.std.specs.Prelude.{◌≡◌, ℕ, ◌||◌, ◌⊎◌, Bool, true, false, not, List, [], ◌∷◌, ◌++◌, length, Option, Some, None, nat_lt, if◌then◌else◌, codes}
+use Rattle.std.specs.Prelude.{◌≡◌, ℕ, ◌||◌, ◌&&◌, ◌⊎◌, Bool, true, false, not, List, [], ◌∷◌, ◌++◌, length, Option, Some, None, nat_lt, if◌then◌else◌, codes, bytes_eq}
 use Rattle.rbc_model.specs.declared.limits.TheConstants.{LONGEST_CHECK_LINE}
 use Rattle.rbc_model.specs.declared.places.Format.TheVariants.{Far}
 use Rattle.rbc_model.specs.Sessions.{lines_of}
+use Rattle.rbc_model.specs.Words.{without_return, words_of, is_text}
 use Rattle.rbc_model.specs.CheckText.{CheckLine, Other, check_line, opened, ended, block_text}
-use Rattle.rbc_session_laws.specs.CheckAnswers.{is_not_refused, are_all_certified}
+use Rattle.rbc_checks.specs.CheckAnswers.{is_not_refused, are_all_certified}
 use Rattle.rbc_checks.specs.declared.verdict.Verdict.{Verdict}
 use Rattle.rbc_checks.specs.declared.verdict.Verdict.TheVariants.{Memory}
-use Rattle.rbc_draw.specs.Texts.{joined}
+use Rattle.rbc_draw.specs.Texts.{joined, escaped}
 use Rattle.rbc_draw.specs.Figures.{drawn_text}
 
 -- ---- a block
@@ -25,27 +26,47 @@ mark_text block = marked (block_text block)
 abbrev pub shown_text : List CheckLine → List ℕ
 shown_text block = drawn_text block ++ mark_text block
 
+-- ---- a grant
+
+-- whether words begin as those of a grant
+abbrev pub begins_granted : List (List ℕ) → Bool
+begins_granted [] = false
+begins_granted (first ∷ words) = bytes_eq first (codes "granted")
+
+-- whether a text tells of a grant, whose certificates follow
+abbrev pub is_grant : List ℕ → Bool
+is_grant text = is_text text && begins_granted (words_of text)
+
+-- a grant as the heading of its certificates, escaped
+abbrev pub titled : List ℕ → List ℕ
+titled text = joined (codes "<h2>" ∷ escaped text ∷ codes "</h2>\n" ∷ [])
+
+-- the heading that a line has: a grant has one
+abbrev pub heading_text : List ℕ → List ℕ
+heading_text line = if is_grant (without_return line) then titled (without_return line) else []
+
 -- ---- the page
 
 abbrev pub head_text : List ℕ
 head_text = joined (
-  codes "<!DOCTYPE html>\n<html lang='en'>\n<head>\n<meta charset='utf-8'>\n"
-  ∷ codes "<meta name='viewport' content='width=device-width, initial-scale=1'>\n<title>Certificates</title>\n<style>\n"
-  ∷ codes "body{max-width:60rem;margin:1rem auto;padding:0 1rem;font-family:sans-serif}\n"
-  ∷ codes "svg{width:100%;break-inside:avoid;break-after:avoid;margin-top:2rem}\n"
-  ∷ codes "line,path{fill:none;stroke:#000;stroke-width:1.5}\ntext{font-size:14px}\n@media(max-width:40rem){text{font-size:18px}svg{min-width:36rem}}\n.before{text-anchor:end}\n"
-  ∷ codes ".loss{fill:#f2c14e;fill-rule:evenodd;stroke:none}\n.shade{stroke:#f2c14e;stroke-width:14}\n"
-  ∷ codes ".steps{stroke:#0b4f8a;stroke-width:4}\n.axis{stroke:#777;stroke-width:1}\n.end{stroke-dasharray:6 3}\n"
-  ∷ codes "p{margin:0 0 1rem;font-weight:bold;break-before:avoid}\npre{white-space:pre-wrap}\n"
-  ∷ codes "</style>\n</head>\n<body>\n<h1>Certificates</h1>\n" ∷ [])
+    codes "<!DOCTYPE html>\n<html lang='en'>\n<head>\n<meta charset='utf-8'>\n"
+    ∷ codes "<meta name='viewport' content='width=device-width, initial-scale=1'>\n<title>Certificates</title>\n<style>\n"
+    ∷ codes "body{max-width:60rem;margin:1rem auto;padding:0 1rem;font-family:sans-serif}\n"
+    ∷ codes "svg{width:100%;break-inside:avoid;break-after:avoid;margin-top:2rem}\n"
+    ∷ codes "line,path{fill:none;stroke:#000;stroke-width:1.5}\ntext{font-size:14px}\n@media(max-width:40rem){text{font-size:18px}svg{min-width:36rem}}\n.before{text-anchor:end}\n"
+    ∷ codes ".loss{fill:#f2c14e;fill-rule:evenodd;stroke:none}\n.shade{stroke:#f2c14e;stroke-width:14}\n"
+    ∷ codes ".steps{stroke:#0b4f8a;stroke-width:4}\n.axis{stroke:#777;stroke-width:1}\n.end{stroke-dasharray:6 3}\n"
+    ∷ codes "p{margin:0 0 1rem;font-weight:bold;break-before:avoid}\npre{white-space:pre-wrap}\nh2{margin:2rem 0 0;font-size:1.1rem;break-after:avoid}\n"
+    ∷ codes "</style>\n</head>\n<body>\n<h1>Certificates</h1>\n" ∷ [])
 
 abbrev pub foot_text : List ℕ
 foot_text = codes "</body>\n</html>\n"
 
--- the blocks that lines end, behind the open one, and the one that is open at their end
+-- the blocks that lines end, behind the open one, with the headings that lines have, and the block that is open at their end
 abbrev pub blocks_text : List CheckLine → List (List ℕ) → List ℕ
 blocks_text block [] = shown_text block
-blocks_text block (line ∷ lines) = shown_text (ended block (check_line Far line)) ++ blocks_text (opened block (check_line Far line)) lines
+blocks_text block (line ∷ lines) =
+    (shown_text (ended block (check_line Far line)) ++ heading_text line) ++ blocks_text (opened block (check_line Far line)) lines
 
 -- The page of an input.
 abbrev pub page_text : List ℕ → List ℕ
@@ -82,15 +103,19 @@ is_silent (Some verdict) = false
 abbrev pub line_said : List ℕ → CheckLine
 line_said line = if nat_lt LONGEST_CHECK_LINE (length line) then Other else check_line Far line
 
+-- the heading of a line: one that is too long has none
+abbrev pub heading_said : List ℕ → List ℕ
+heading_said line = if nat_lt LONGEST_CHECK_LINE (length line) then [] else heading_text line
+
 -- Memory was refused, or it is kept that this block is open, and whether the one that was shown is refused.
 abbrev pub Keeps : Drawing → List CheckLine → List CheckLine → Drawing → Type 0
 Keeps before shown behind after =
     (after.lost ≡ true) ⊎ (after ≡ record { block = behind; refused = before.refused || not (is_not_refused shown); lost = false })
 
--- The answer to what a line says: the block that it ends is shown, unless memory is refused.
-abbrev pub AnswersSaid : Drawing → CheckLine → List ℕ → Drawing → Type 0
-AnswersSaid before said reply after = (reply ≡ shown_text (ended before.block said)) × Keeps before (ended before.block said) (opened before.block said) after
+-- The answer to what a line says: the block that it ends is shown, unless memory is refused, and then the heading that the line has.
+abbrev pub AnswersSaid : Drawing → CheckLine → List ℕ → List ℕ → Drawing → Type 0
+AnswersSaid before said heading reply after = (reply ≡ shown_text (ended before.block said) ++ heading) × Keeps before (ended before.block said) (opened before.block said) after
 
 -- The answer to a line. Where memory was refused before, none is given.
 abbrev pub AnswersDraw : Drawing → List ℕ → List ℕ → Drawing → Type 0
-AnswersDraw before line reply after = (before.lost ≡ false) × AnswersSaid before (line_said line) reply after
+AnswersDraw before line reply after = (before.lost ≡ false) × AnswersSaid before (line_said line) (heading_said line) reply after

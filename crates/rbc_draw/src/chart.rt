@@ -135,7 +135,6 @@ impl Chart {
         let range = u64::from(self.high.saturating_sub(self.low).max(1));
         TOP + below * DEPTH / range
     }
-
 }
 
 /// The least height among these places and this one.

@@ -2,7 +2,7 @@
 
 ghost use Rattle.std.specs.Prelude.{◌≡◌, ◌++◌, ℤ, pos, false, map, IfOk, option_map, flat_map};
 ghost use Rattle.rbc_model.specs.Sessions.{Prints};
-ghost use Rattle.rbc_words.specs.StepsLines.{request_view};
+ghost use Rattle.rbc_checks.specs.StepsLines.{request_view};
 ghost use Rattle.rbc_checks.specs.Blocks.{block_lines, lines_view};
 ghost use Rattle.rbc_draw.specs.Figures.{places_of, figure_of, figure_in, title_text, opening_text, closing_text, figure_text, shape_text, shapes_of};
 ghost use Rattle.rbc_draw.specs.Shapes.{figure_view};
@@ -10,11 +10,9 @@ ghost use Rattle.rbc_draw.specs.Shapes.{figure_view};
 use crate::pieces::{Piece, print_pieces};
 use crate::shapes::{loss_text, print_chart, print_legend, print_scale};
 use crate::{Chart, Measure, Place};
-use rbc_checks::{Block, CheckLine, ToldProfile};
+use rbc_checks::{Block, CheckLine, Grade, Level, Speed, StepsRequest, ToldProfile};
 use rbc_model::Memory;
-use rbc_steps::{Grade, Level, Speed};
 use rbc_streams::{Sink, WriteFailed};
-use rbc_words::StepsRequest;
 use std::alloc::Global;
 
 /// What is drawn of a certificate.

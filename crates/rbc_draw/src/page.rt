@@ -8,18 +8,22 @@ ghost use Rattle.rbc_model.specs.declared.places.Format.TheVariants.{Far};
 ghost use Rattle.rbc_model.specs.declared.sessions.SessionFault.TheVariants.{Read, Write};
 ghost use Rattle.rbc_model.specs.CheckText.{CheckLine as Said, check_line, goes_on, ended, opened};
 ghost use Rattle.rbc_model.specs.Sessions.{Prints};
+ghost use Rattle.rbc_model.specs.Words.{words_of};
 ghost use Rattle.rbc_model.specs.Talks.{IsTalk};
 ghost use Rattle.rbc_checks.specs.Blocks.{block_lines};
 ghost use Rattle.rbc_checks.specs.Lines.{IsSaid};
 ghost use Rattle.rbc_checks.specs.Verdicts.{said_text, is_bad};
-ghost use Rattle.rbc_session_laws.specs.CheckAnswers.{is_not_refused};
+ghost use Rattle.rbc_checks.specs.CheckAnswers.{is_not_refused};
 ghost use Rattle.rbc_draw.specs.Figures.{drawn_text, figure_text};
 ghost use Rattle.rbc_draw.specs.Shapes.{figure_view};
-ghost use Rattle.rbc_draw.specs.Pages.{is_memory, is_silent, AnswersDraw, marked, shown_text, head_text, foot_text, undrawn, Keeps, DrawsAll};
+ghost use Rattle.rbc_draw.specs.Pages.{is_memory, is_silent, AnswersDraw, begins_granted, is_grant, titled, heading_text, marked, shown_text, head_text, foot_text, undrawn, Keeps, DrawsAll};
 
 use crate::figure::{Figure, figure_in, print_figure};
 use crate::pieces::{Atom, print_atoms};
-use rbc_checks::{Block, CheckLine, Part, Verdict, is_head, judge, parse_check, part_read, print_said};
+use rbc_checks::{
+    Block, CheckLine, Part, Verdict, is_head, is_text, judge, next_word, parse_check, part_read,
+    print_said, without_return,
+};
 use rbc_model::limits::LONGEST_CHECK_LINE;
 use rbc_streams::{Answers, SessionFault, Sink, Source, WriteFailed, converse, put};
 use std::alloc::Global;
@@ -251,6 +255,45 @@ fn print_mark<W: Sink>(said: Option<Verdict>, writer: &mut W) -> Result<(), Writ
     put(writer, b"</p>\n")
 }
 
+/// Whether words begin as those of a grant.
+fn begins_granted(text: &[u8]) -> bool
+    ensures { result ≡ begins_granted (words_of text.now) }
+{
+    matches!(next_word(text), Some((b"granted", _)))
+}
+
+/// Whether a text tells of a grant.
+fn is_grant(text: &[u8]) -> bool
+    ensures { result ≡ is_grant text.now }
+{
+    is_text(text) && begins_granted(text)
+}
+
+/// Writes a grant as the heading of its certificates.
+fn print_titled<W: Sink>(text: &[u8], writer: &mut W) -> Result<(), WriteFailed>
+    requires { W.failed writer.old ≡ false }
+    ensures { Prints (W.written writer.old) (W.written writer.new) (W.failed writer.new) (titled text.now) result }
+{
+    let heading = [
+        Atom::Text(b"<h2>"),
+        Atom::Escaped(text),
+        Atom::Text(b"</h2>\n"),
+    ];
+    print_atoms(&heading, writer)
+}
+
+/// Writes the heading that a line has, if it has one.
+fn print_heading<W: Sink>(line: &[u8], writer: &mut W) -> Result<(), WriteFailed>
+    requires { W.failed writer.old ≡ false }
+    ensures { Prints (W.written writer.old) (W.written writer.new) (W.failed writer.new) (heading_text line.now) result }
+{
+    let text = without_return(line);
+    if is_grant(text) {
+        return print_titled(text, writer);
+    }
+    Ok(())
+}
+
 impl Answers<()> for Drawer {
     type State = Drawer;
 
@@ -287,7 +330,8 @@ impl Answers<()> for Drawer {
         if line.len() > LONGEST_CHECK_LINE {
             return self.refuse(help, writer);
         }
-        self.take(line, writer)
+        self.take(line, writer)?;
+        print_heading(line, writer)
     }
 
     fn refuse<W: Sink>(&mut self, _help: &(), writer: &mut W) -> Result<(), WriteFailed> {
@@ -303,13 +347,25 @@ fn print_head<W: Sink>(writer: &mut W) -> Result<(), WriteFailed>
 {
     let head = [
         Atom::Text(b"<!DOCTYPE html>\n<html lang='en'>\n<head>\n<meta charset='utf-8'>\n"),
-        Atom::Text(b"<meta name='viewport' content='width=device-width, initial-scale=1'>\n<title>Certificates</title>\n<style>\n"),
-        Atom::Text(b"body{max-width:60rem;margin:1rem auto;padding:0 1rem;font-family:sans-serif}\n"),
+        Atom::Text(
+            b"<meta name='viewport' content='width=device-width, initial-scale=1'>\n<title>Certificates</title>\n<style>\n",
+        ),
+        Atom::Text(
+            b"body{max-width:60rem;margin:1rem auto;padding:0 1rem;font-family:sans-serif}\n",
+        ),
         Atom::Text(b"svg{width:100%;break-inside:avoid;break-after:avoid;margin-top:2rem}\n"),
-        Atom::Text(b"line,path{fill:none;stroke:#000;stroke-width:1.5}\ntext{font-size:14px}\n@media(max-width:40rem){text{font-size:18px}svg{min-width:36rem}}\n.before{text-anchor:end}\n"),
-        Atom::Text(b".loss{fill:#f2c14e;fill-rule:evenodd;stroke:none}\n.shade{stroke:#f2c14e;stroke-width:14}\n"),
-        Atom::Text(b".steps{stroke:#0b4f8a;stroke-width:4}\n.axis{stroke:#777;stroke-width:1}\n.end{stroke-dasharray:6 3}\n"),
-        Atom::Text(b"p{margin:0 0 1rem;font-weight:bold;break-before:avoid}\npre{white-space:pre-wrap}\n"),
+        Atom::Text(
+            b"line,path{fill:none;stroke:#000;stroke-width:1.5}\ntext{font-size:14px}\n@media(max-width:40rem){text{font-size:18px}svg{min-width:36rem}}\n.before{text-anchor:end}\n",
+        ),
+        Atom::Text(
+            b".loss{fill:#f2c14e;fill-rule:evenodd;stroke:none}\n.shade{stroke:#f2c14e;stroke-width:14}\n",
+        ),
+        Atom::Text(
+            b".steps{stroke:#0b4f8a;stroke-width:4}\n.axis{stroke:#777;stroke-width:1}\n.end{stroke-dasharray:6 3}\n",
+        ),
+        Atom::Text(
+            b"p{margin:0 0 1rem;font-weight:bold;break-before:avoid}\npre{white-space:pre-wrap}\nh2{margin:2rem 0 0;font-size:1.1rem;break-after:avoid}\n",
+        ),
         Atom::Text(b"</style>\n</head>\n<body>\n<h1>Certificates</h1>\n"),
     ];
     print_atoms(&head, writer)

@@ -8,9 +8,8 @@ ghost use Rattle.rbc_draw.specs.Charts.{corner_at};
 ghost use Rattle.rbc_draw.specs.Pieces.{atom_text, piece_text};
 
 use crate::{Chart, Measure, Place};
-use rbc_checks::CheckLine;
+use rbc_checks::{CheckLine, print_number, print_signed};
 use rbc_streams::{Sink, WriteFailed, put};
-use rbc_words::{print_number, print_signed};
 
 /// What is printed as text, on the ground of a `C`.
 pub(crate) trait Printed<C> {

@@ -37,7 +37,14 @@ impl Printed<()> for Shape<'_> {
             }
             Shape::Stair(look, chart, places) => print_stair(look, *chart, places, writer),
             Shape::Label(look, place, measure, height, unit) => {
-                print_label(look, *place, b"", Atom::Value(*measure, *height), unit, writer)
+                print_label(
+                    look,
+                    *place,
+                    b"",
+                    Atom::Value(*measure, *height),
+                    unit,
+                    writer,
+                )
             }
             Shape::Count(look, place, before, number, after) => {
                 print_label(look, *place, before, Atom::Number(*number), after, writer)
@@ -251,9 +258,18 @@ pub(crate) fn print_scale<W: Sink>(chart: Chart, writer: &mut W) -> Result<(), W
     let base = chart.down(height) + 4;
     let highest = Point { x: left, y: high };
     let lowest = Point { x: left, y: low };
-    let zero = Point { x: right + 8, y: base };
-    let begin = Point { x: chart.across(0), y: bottom };
-    let end = Point { x: right, y: bottom };
+    let zero = Point {
+        x: right + 8,
+        y: base,
+    };
+    let begin = Point {
+        x: chart.across(0),
+        y: bottom,
+    };
+    let end = Point {
+        x: right,
+        y: bottom,
+    };
     let shapes = [
         Shape::Label(b"before", highest, measure, chart.high, b""),
         Shape::Label(b"before", lowest, measure, chart.low, b""),

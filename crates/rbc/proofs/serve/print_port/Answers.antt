@@ -1,19 +1,4 @@
-use Rattle.std.proofs.Common.{refl}
-use Rattle.rbc_words.proofs.PrintingLemmas.{prints_then, prints_stopped}
 use Rattle.rbc.proofs.serve.print_port.Goals as goal
 
-pub returns-in_err-put : goal.returns-in_err-put
-returns-in_err-put g c =
-    let put = c.in_err-put.ensures in
-    prints_stopped _ _ _ _ _ _ _ put.text put.failed refl c.from_residual.ensures.0
-
-pub returns-in_err-print_number : goal.returns-in_err-print_number
-returns-in_err-print_number g c =
-    let number = c.in_err-print_number.ensures in
-    prints_then _ _ _ _ _ _ _ _ c.in_ok-put.ensures.text refl
-    (rw (← c.from.ensures) (prints_stopped _ _ _ _ _ _ _ number.text number.failed refl c.from_residual-in_err-print_number.ensures.0))
-
 pub returns : goal.returns
-returns g c =
-    prints_then _ _ _ _ _ _ _ _ c.in_ok-put.ensures.text refl
-    (rw (← c.from.ensures) (prints_then _ _ _ _ _ _ _ _ c.in_ok-print_number.ensures.text refl c.put-2.ensures))
+returns g c = rw c.from.ensures at c.print_line.ensures

@@ -1,5 +1,5 @@
 use Rattle.std.proofs.Common.{refl}
-use Rattle.rbc_words.proofs.PrintingLemmas.{prints_then, prints_stopped}
+use Rattle.rbc_checks.proofs.PrintingLemmas.{prints_then, prints_stopped}
 use Rattle.rbc_draw.proofs.figure.print_figure.Goals as goal
 
 pub returns-in_err-print_opening : goal.returns-in_err-print_opening

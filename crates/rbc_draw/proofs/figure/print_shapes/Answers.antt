@@ -1,5 +1,5 @@
 use Rattle.std.proofs.Common.{◌≡◌, ◌∙◌, ap₂, refl}
-use Rattle.rbc_words.proofs.PrintingLemmas.{prints_then, prints_stopped}
+use Rattle.rbc_checks.proofs.PrintingLemmas.{prints_then, prints_stopped}
 use Rattle.rbc_draw.specs.Charts.{chart_of}
 use Rattle.rbc_draw.specs.Figures.{chart_in}
 use Rattle.rbc_draw.specs.Shapes.{figure_view}

@@ -11,7 +11,7 @@ print_foot-requires g c =
 pub returns-then-is_err-clause-write : goal.returns-then-is_err-clause-write
 returns-then-is_err-clause-write g c =
     λ _. failed_one c.show-shown.new.self.lost _ c.show-shown.result c.show-shown.ensures.text.failed (sym c.is_err.ensures.value ∙ c.if-is_err.true)
-        (sym c.has_lost.ensures ∙ c.if-has_lost.false)
+    (sym c.has_lost.ensures ∙ c.if-has_lost.false)
 
 pub returns-clause-text : goal.returns-clause-text
 returns-clause-text g c =

@@ -1,6 +1,6 @@
 use Rattle.std.proofs.Common.{Ok}
 use Rattle.rbc_draw.proofs.EachLemmas.{each-next, each-end}
-use Rattle.rbc_words.proofs.PrintingLemmas.{prints_nothing, prints_then, prints_stopped}
+use Rattle.rbc_checks.proofs.PrintingLemmas.{prints_nothing, prints_then, prints_stopped}
 use Rattle.rbc_draw.proofs.pieces.print_each.Goals as goal
 
 pub returns-in_err-print : goal.returns-in_err-print

@@ -45,8 +45,8 @@ returns-clause-text g c =
     let judged = answered_as lines said c.judge-said.ensures (sym c.is_lost.ensures ∙ c.if-is_lost.false) in
     let whole = ap (λ t. drawn_text lines ++ marked t) (sym judged.0) in
     rw c.count.ensures
-        (goes_behind _ _ _ _ _ whole _ _ c.draw-drawn.new.self.lost _ c.draw-drawn.result _ c.draw-drawn.ensures.text (sym c.is_err.ensures.value ∙ c.if-is_err.false)
-        (sym c.has_lost.ensures ∙ c.if-has_lost.false) c.print_mark.ensures)
+    (goes_behind _ _ _ _ _ whole _ _ c.draw-drawn.new.self.lost _ c.draw-drawn.result _ c.draw-drawn.ensures.text (sym c.is_err.ensures.value ∙ c.if-is_err.false)
+    (sym c.has_lost.ensures ∙ c.if-has_lost.false) c.print_mark.ensures)
 
 pub returns-clause-kept : goal.returns-clause-kept
 returns-clause-kept g c =

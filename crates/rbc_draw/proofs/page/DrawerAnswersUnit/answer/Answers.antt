@@ -1,14 +1,31 @@
-use Rattle.std.proofs.Common.{refl}
+use Rattle.std.proofs.Common.{refl, ◌++◌}
 use Rattle.rbc_model.specs.declared.places.Format.TheVariants.{Far}
 use Rattle.rbc_model.specs.CheckText.{check_line, ended}
-use Rattle.rbc_draw.specs.Pages.{shown_text}
+use Rattle.rbc_checks.proofs.PrintingLemmas.{prints_stopped}
+use Rattle.rbc_draw.specs.Pages.{shown_text, heading_text}
 use Rattle.rbc_draw.proofs.PageLemmas.{short_answered}
+use Rattle.rbc_draw.proofs.ShowLemmas.{whole_yet, going_yet, printed_behind}
 use Rattle.rbc_draw.proofs.page.DrawerAnswersUnit.answer.Goals as goal
+
+pub returns-in_err-take : goal.returns-in_err-take
+returns-in_err-take g c =
+    let shown = shown_text (ended c.args.self.now.block (check_line Far c.args.line.now)) in
+    let reply = shown ++ heading_text c.args.line.now in
+    let taken = c.in_err-take.ensures in (
+      reply,
+      short_answered c.args.self.now c.take.new.self c.args.line.now reply c.if-line-gt-LONGEST_CHECK_LINE.false c.requires.ready (refl, taken.kept),
+      prints_stopped _ _ _ _ _ _ _ taken.text.text taken.text.failed refl c.from_residual.ensures.0,
+    )
+
+pub print_heading-requires : goal.print_heading-requires
+print_heading-requires g c = going_yet c.take.new.self.lost _ c.in_ok-take.ensures.text.failed
 
 pub returns : goal.returns
 returns g c =
-    let reply = shown_text (ended c.args.self.now.block (check_line Far c.args.line.now)) in (
+    let shown = shown_text (ended c.args.self.now.block (check_line Far c.args.line.now)) in
+    let reply = shown ++ heading_text c.args.line.now in
+    let taken = c.in_ok-take.ensures in (
       reply,
-      short_answered c.args.self.now c.take.new.self c.args.line.now reply c.if-line-gt-LONGEST_CHECK_LINE.false c.requires.ready (refl, c.take.ensures.kept),
-      c.take.ensures.text,
+      short_answered c.args.self.now c.take.new.self c.args.line.now reply c.if-line-gt-LONGEST_CHECK_LINE.false c.requires.ready (refl, taken.kept),
+      printed_behind _ _ _ c.take.new.self.lost _ _ _ _ taken.text.text (whole_yet c.take.new.self.lost _ taken.text.failed) c.print_heading.ensures,
     )

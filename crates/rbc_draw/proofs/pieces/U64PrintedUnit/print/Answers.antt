@@ -1,5 +1,5 @@
 use Rattle.std.proofs.Common.{refl}
-use Rattle.rbc_words.proofs.PrintingLemmas.{prints_then, prints_stopped}
+use Rattle.rbc_checks.proofs.PrintingLemmas.{prints_then, prints_stopped}
 use Rattle.rbc_draw.proofs.pieces.U64PrintedUnit.print.Goals as goal
 
 pub returns-in_err-put : goal.returns-in_err-put
