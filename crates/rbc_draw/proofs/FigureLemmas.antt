@@ -4,7 +4,7 @@ use Rattle.std.specs.Prelude.{flat_map}
 use Rattle.std.proofs.lemmas.Grind.{flat_map-append}
 use Rattle.rbc_draw.specs.declared.chart.Place.{Place}
 use Rattle.rbc_draw.specs.declared.chart.Chart.{Chart}
-use Rattle.rbc_draw.specs.Figures.{Figure, Shape, chart_in, chart_shapes, scale_shapes, legend_shapes, shapes_of, shape_text}
+use Rattle.rbc_draw.specs.Figures.{Figure, chart_in, chart_shapes, scale_shapes, legend_shapes, shapes_of, shape_text}
 
 three_parts : {X : Type 0} (text : X → List ℕ) (a b c : List X) → flat_map text (a ++ (b ++ c)) ≡ flat_map text a ++ (flat_map text b ++ flat_map text c)
 three_parts text a b c = flat_map-append text a (b ++ c) ∙ ap (λ rest. flat_map text a ++ rest) (flat_map-append text b c)

@@ -1,5 +1,5 @@
 -- What is said of a block, as its mark.
-use Rattle.std.proofs.Common.{◌≡◌, ℕ, List, [], ◌∷◌, Option, Some, None, inl, inr, Bool, true, false, not, ◌==◌, refl, ap, subst, arith, codes}
+use Rattle.std.proofs.Common.{◌≡◌, ℕ, List, [], ◌∷◌, Option, Some, None, inl, inr, true, false, not, ◌==◌, refl, ap, subst, arith, codes}
 use Rattle.std.specs.Prelude.{slice_index, ◌++◌}
 use Rattle.rbc_model.specs.declared.prices.Reason.TheVariants.{Shape, Above, Inequality, NotAttained, Steps}
 use Rattle.rbc_model.specs.CheckText.{CheckLine, AnswersBlock, block_text, memory_text}

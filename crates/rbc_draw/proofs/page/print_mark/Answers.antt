@@ -1,4 +1,4 @@
-use Rattle.std.proofs.Common.{sym, ◌∙◌, refl, append-nil}
+use Rattle.std.proofs.Common.{sym, ◌∙◌, refl}
 use Rattle.rbc_checks.proofs.PrintingLemmas.{prints_nothing, prints_then, prints_stopped}
 use Rattle.rbc_draw.proofs.MarkLemmas.{marked_none, marked_some}
 use Rattle.rbc_draw.proofs.page.print_mark.Goals as goal

@@ -1,9 +1,8 @@
-use Rattle.std.proofs.Common.{◌≡◌, ◌++◌, false, inl, refl, sym, ap, ◌∙◌}
-use Rattle.rbc_model.specs.CheckText.{block_text}
+use Rattle.std.proofs.Common.{◌++◌, inl, refl, sym, ap, ◌∙◌}
 use Rattle.rbc_checks.specs.Blocks.{block_lines}
-use Rattle.rbc_checks.specs.Verdicts.{said_text, is_bad}
+use Rattle.rbc_checks.specs.Verdicts.{is_bad}
 use Rattle.rbc_draw.specs.Figures.{drawn_text}
-use Rattle.rbc_draw.specs.Pages.{marked, is_memory}
+use Rattle.rbc_draw.specs.Pages.{marked}
 use Rattle.rbc_draw.proofs.MarkLemmas.{answered_as}
 use Rattle.rbc_draw.proofs.ShowLemmas.{given_up, cut_off, goes_behind, none_failed, said_kept}
 use Rattle.rbc_draw.proofs.page.Drawer.show.Goals as goal
