@@ -1,11 +1,15 @@
 -- Where a search for a line feed found one, or none.
-use Rattle.std.proofs.Common.{◌≡◌, ℕ, ◌+◌, ◌-◌, ◌<◌, ◌≤◌, suc, List, ◌∷◌, ◌++◌, length, take, drop, get_or, sym, ap, subst, ◌∙◌, arith, add-one, length-drop, take-append-drop, drop-cons}
+use Rattle.std.proofs.Common.{◌≡◌, ℕ, ◌+◌, ◌-◌, ◌<◌, ◌≤◌, suc, Bool, true, false, nat_le, Option, Some, None, List, [], ◌∷◌, ◌++◌, length, take, drop, get_or, sym, ap, subst, ◌∙◌, arith, add-one, refl, length-drop, take-append-drop, drop-cons}
 use Rattle.std.proofs.Math.Seq.{take-add}
-use Rattle.std.proofs.lemmas.Bool.{eq-eqb, eqb-true}
-use Rattle.std.proofs.lemmas.List.{get_or-take, get_or-drop, length-take-le, take_all, take-take}
+use Rattle.std.proofs.lemmas.Bool.{eq-eqb, eqb-true, leb-true, leb-false}
+use Rattle.std.specs.Bool.{MatchBool}
+use Rattle.std.specs.Prelude.{◌≢◌, IfSome, IfNone}
+use Rattle.std.proofs.lemmas.List.{get_or-take, get_or-drop, length-append, length-take, length-take-le, take_all, take-take}
 use Rattle.std.proofs.lemmas.List.Elements.{All-append, All-take, All-from_get_or}
-use Rattle.memchr.specs.Find.{Nowhere, Passes, is_byte}
-use Rattle.rbc_streams.specs.LineReading.{HasNoLineFeed}
+use Rattle.memchr.specs.Find.{Nowhere, NoneBefore, Passes, is_byte}
+use Rattle.rbc_streams.specs.LineReading.{LineReading, HasNoLineFeed, HasLine, IsOverlong, Steps}
+use Rattle.rbc_streams.specs.declared.line_reader.Advance.{Advance}
+use Rattle.rbc_streams.specs.declared.line_reader.Advance.TheVariants.{Line, Overlong, End}
 use Rattle.rbc_streams.proofs.PieceLemmas.{rest_from}
 
 -- none among the first bytes
@@ -58,3 +62,70 @@ none_in_front bytes count none = All-take (λ byte. byte ≡ 10 → ⊥) count b
 -- none among fewer bytes
 pub none_in_fewer : (bytes : List ℕ) (fewer count : ℕ) → fewer ≤ count → HasNoLineFeed (take count bytes) → HasNoLineFeed (take fewer bytes)
 none_in_fewer bytes fewer count below none = subst HasNoLineFeed (take-take fewer count bytes below) (none_in_front (take count bytes) fewer none)
+
+-- ---- whether a line is there
+
+-- none at all, and none among the first of them
+pub none_anywhere : (bytes : List ℕ) (count : ℕ) → Nowhere (Passes (is_byte 10) bytes) 0 (length bytes) → HasNoLineFeed (take count bytes)
+none_anywhere bytes count nowhere =
+    none_in_front bytes count (subst HasNoLineFeed (take_all (length bytes) bytes (omega arith)) (none_before bytes (length bytes) (omega arith) nowhere))
+
+module _ (bytes : List ℕ) (longest at : ℕ) (found : NoneBefore (Passes (is_byte 10) bytes) 0 (length bytes) at) (passes : Passes (is_byte 10) bytes at) where
+  short : at ≤ longest → HasLine bytes longest
+  short within =
+      let high = found.high in
+      let byte : get_or bytes at 0 ≡ 10 = eqb-true _ _ passes in
+      let next : drop at bytes ≡ 10 ∷ drop (at + 1) bytes =
+      drop-cons bytes at 0 high ∙ ap (λ b. b ∷ drop (suc at) bytes) byte ∙ ap (λ i. 10 ∷ drop i bytes) (sym (add-one at)) in
+      let long = length-take-le at bytes (omega (arith, high)) in (
+        take at bytes,
+        drop (at + 1) bytes,
+        sym (take-append-drop at bytes) ∙ ap (λ l. take at bytes ++ l) next,
+        none_before bytes at (omega (arith, high)) found.before,
+        omega (arith, long, within),
+      )
+
+  long : longest < at → HasNoLineFeed (take (longest + 1) bytes)
+  long beyond =
+      let high = found.high in
+      none_in_fewer bytes (longest + 1) at (omega (arith, beyond)) (none_before bytes at (omega (arith, high)) found.before)
+
+  by_length : (is_short : Bool) → nat_le at longest ≡ is_short → MatchBool is_short (HasLine bytes longest) (HasNoLineFeed (take (longest + 1) bytes))
+  by_length true is = short (leb-true at longest is)
+  by_length false is = long (leb-false at longest is)
+
+-- the first line feed ends a line, or the line is too long
+pub line_found : (bytes : List ℕ) (longest limit at : ℕ) → limit ≡ longest → NoneBefore (Passes (is_byte 10) bytes) 0 (length bytes) at → Passes (is_byte 10) bytes at
+    → MatchBool (nat_le at limit) (HasLine bytes longest) (HasNoLineFeed (take (longest + 1) bytes))
+line_found bytes longest limit at same found passes =
+    subst (λ n. MatchBool (nat_le at n) (HasLine bytes longest) (HasNoLineFeed (take (longest + 1) bytes))) (sym same)
+    (by_length bytes longest at found passes (nat_le at longest) refl)
+
+-- a line that is there ends with a line feed among the first bytes
+feed_at : (line rest : List ℕ) → get_or (line ++ 10 ∷ rest) (length line) 0 ≡ 10
+feed_at [] rest = refl
+feed_at (byte ∷ line) rest = feed_at line rest
+
+pub line_is_fed : (bytes : List ℕ) (longest : ℕ) → HasLine bytes longest → HasNoLineFeed (take (longest + 1) bytes) → ⊥
+line_is_fed bytes longest there none =
+    let line = there.0 in
+    let within = there.4 in
+    let all = ap length there.2 in
+    let count = length-append line (10 ∷ there.1) in
+    let taken = length-take-le-or (longest + 1) bytes (length line) (omega (arith, within)) (omega (arith, all, count)) in
+    none (length line) 0 taken
+    (get_or-take (longest + 1) bytes (length line) 0 (omega (arith, within)) ∙ ap (λ l. get_or l (length line) 0) there.2 ∙ feed_at line there.1)
+  where
+    length-take-le-or : (count : ℕ) (l : List ℕ) (k : ℕ) → k < count → k < length l → k < length (take count l)
+    length-take-le-or count l k low below = let is = length-take count l in omega (arith, is, low, below)
+
+-- the next step goes over it
+pub is_stepped_over : (step : Option Advance) (old new : LineReading) → IfSome step (Steps old.pending new) → IfSome step (λ s. s ≢ End)
+    → IfNone step ((new ≡ old) × HasNoLineFeed old.pending × (length old.pending ≤ old.longest)) → new.longest ≡ old.longest → HasLine old.pending old.longest → step ≡ Some Line
+is_stepped_over None old new some more none same there =
+    absurd (line_is_fed old.pending old.longest there (none_in_front old.pending (old.longest + 1) none.1))
+is_stepped_over (Some Line) old new some more none same there = refl
+is_stepped_over (Some Overlong) old new some more none same there =
+    let over = subst (IsOverlong old.pending) same some.1 in
+    absurd (line_is_fed old.pending old.longest there over.no_end)
+is_stepped_over (Some End) old new some more none same there = absurd (more refl)

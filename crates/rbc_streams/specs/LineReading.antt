@@ -22,6 +22,10 @@ at_start longest = record { line = []; pending = []; longest = longest; ended = 
 abbrev pub HasNoLineFeed : List ℕ → Type 0
 HasNoLineFeed bytes = All (λ byte. byte ≢ 10) bytes
 
+-- the bytes begin with a line of at most so many bytes, and its line feed
+abbrev pub HasLine : List ℕ → ℕ → Type 0
+HasLine bytes longest = (line : List ℕ) × (rest : List ℕ) × (bytes ≡ line ++ 10 ∷ rest) × HasNoLineFeed line × (length line ≤ longest)
+
 -- the input is nothing but this line, without a line feed, and ended there
 pub record IsLastLine (input : List ℕ) (now : LineReading) : Type 0 where
   pub whole : input ≡ now.line

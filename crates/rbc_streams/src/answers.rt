@@ -1,6 +1,6 @@
 //! What answers the lines of a session.
 
-ghost use Rattle.std.specs.Prelude.{◌≡◌, ◌<◌, ◌≤◌, ◌||◌, ℕ, List, Bool, length, false};
+ghost use Rattle.std.specs.Prelude.{◌≡◌, ◌<◌, ◌≤◌, ◌||◌, ℕ, List, Bool, length, false, OnErr};
 ghost use Rattle.std.specs.Thread.{IsSync};
 ghost use Rattle.rbc_model.specs.Sessions.{Prints};
 
@@ -16,8 +16,12 @@ pub trait Answers<C> {
     /// The state now.
     ghost state: { Self → Self.State };
 
-    /// In a state a line is answered by a reply, and the next state follows.
+    /// In a state a line is answered by a text, and the next state follows. The text is the reply to the line, behind
+    /// those that rested before it; or it is empty, and the reply rests too, as a part of the next state.
     ghost answers: { Self.State → List ℕ → List ℕ → Self.State → Type 0 };
+
+    /// How many lines were answered whose replies rest in a state, and are not written yet.
+    ghost rests: { Self.State → ℕ };
 
     /// What holds of a state in which a line can be answered.
     ghost ready: { Self.State → Type 0 };
@@ -39,7 +43,8 @@ pub trait Answers<C> {
         ensures value { result ≡ longest }
         ensures bound { result ≤ 65536 };
 
-    /// Prints the reply to a line, which has no line feed. The session hands it on.
+    /// Prints the reply to a line, which has no line feed. The session hands it on. Where a whole line more has been read
+    /// the reply may rest, up to one of the next calls.
     ///
     /// # Errors
     /// The reply is not written whole: the writer failed, or what answers did. The state is the next one all the same.
@@ -49,22 +54,26 @@ pub trait Answers<C> {
         alloc: Global,
         help: &C,
         line: &[u8],
+        more: bool,
         writer: &mut W,
     ) -> Result<(), WriteFailed>
         requires going { W.failed writer.old ≡ false }
         requires ready { ready (state self.old) }
         requires runtime { IsSync T.row }
-        ensures { (reply : List ℕ) × answers (state self.old) line.now reply (state self.new)
+        ensures none_rests { more ≡ false → rests (state self.new) ≡ 0 }
+        ensures none_rests_at_fault { OnErr result (rests (state self.new) ≡ 0) }
+        ensures reply { (reply : List ℕ) × answers (state self.old) line.now reply (state self.new)
             × Prints (W.written writer.old) (W.written writer.new) (broken (state self.new) || W.failed writer.new) reply result };
 
-    /// Prints the reply to a line that is too long, whatever it says.
+    /// Prints the reply to a line that is too long, whatever it says. None rests then.
     ///
     /// # Errors
     /// As above.
     fn refuse<W: Sink>(&mut self, help: &C, writer: &mut W) -> Result<(), WriteFailed>
         requires going { W.failed writer.old ≡ false }
         requires ready { ready (state self.old) }
-        ensures { (reply : List ℕ)
+        ensures none_rests { rests (state self.new) ≡ 0 }
+        ensures reply { (reply : List ℕ)
             × ((line : List ℕ) → longest < length line → answers (state self.old) line reply (state self.new))
             × Prints (W.written writer.old) (W.written writer.new) (broken (state self.new) || W.failed writer.new) reply result };
 }

@@ -1,8 +1,8 @@
 //! A reader of lines, over a buffer.
 
-ghost use Rattle.std.specs.Prelude.{◌≡◌, ◌≢◌, ◌+◌, ◌<◌, ◌≤◌, ℕ, List, Option, [], ◌++◌, true, false, ◌-◌, length, take, drop, slice_range, vec_len, is_err, Ok, IfOk, OnErr, IfNone, IfSome, MatchBool};
+ghost use Rattle.std.specs.Prelude.{◌≡◌, ◌≢◌, ◌+◌, ◌<◌, ◌≤◌, ℕ, List, Option, [], ◌++◌, true, false, ◌-◌, length, take, drop, slice_range, vec_len, is_err, Ok, Some, IfOk, OnErr, IfNone, IfSome, MatchBool};
 ghost use Rattle.std.specs.Io.KnownBytes.{Consumes, Keeps, IsAtEnd};
-ghost use Rattle.rbc_streams.specs.LineReading.{LineReading, at_start, HasNoLineFeed, Steps, Advances, KnowsEnd, IsInOrder};
+ghost use Rattle.rbc_streams.specs.LineReading.{LineReading, at_start, HasNoLineFeed, HasLine, Steps, Advances, KnowsEnd, IsInOrder};
 
 use crate::streams::{ReadFailed, Source};
 use memchr::memchr;
@@ -104,11 +104,23 @@ impl LineReader {
         Ok(self.fill(reader)? > 0)
     }
 
+    /// Whether the bytes that came have a further line, with its line feed.
+    pub fn has_line(&self) -> bool
+        ensures { MatchBool result (HasLine self.now.pending self.now.longest)
+            (HasNoLineFeed (take (self.now.longest + 1) self.now.pending)) }
+    {
+        match memchr(b'\n', self.pending()) {
+            Some(length) => length <= self.longest,
+            None => false,
+        }
+    }
+
     /// Goes on to the next line, if the bytes that came tell it, and tells what came of that. Reads nothing.
     pub fn step(&mut self) -> Option<Advance>
         ensures some { IfSome result (Steps self.old.pending self.new) }
         ensures not_the_end { IfSome result (λ step. step ≢ Advance.End) }
         ensures none { IfNone result (self.new ≡ self.old) }
+        ensures line { HasLine self.old.pending self.old.longest → result ≡ Some Advance.Line }
         ensures longest { self.new.longest ≡ self.old.longest }
         ensures ended { self.new.ended ≡ self.old.ended }
     {

@@ -4,7 +4,7 @@ ghost use Rattle.std.specs.Prelude.{◌≡◌, ◌↔◌, ◌<◌, ◌++◌, ◌
 ghost use Rattle.std.specs.Io.KnownBytes.{Consumes, Keeps, IsAtEnd};
 ghost use Rattle.rbc_model.specs.Sessions.{Prints};
 ghost use Rattle.rbc_model.specs.Talks.{IsTalk};
-ghost use Rattle.rbc_streams.specs.LineReading.{Goes, KnowsEnd};
+ghost use Rattle.rbc_streams.specs.LineReading.{Goes, HasLine, KnowsEnd};
 
 use crate::{Advance, Answers, LineReader, Sink, Source, WriteFailed};
 use rbc_model::SessionFault;
@@ -13,7 +13,8 @@ use std::alloc::Global;
 use std::thread::Threads;
 
 /// Answers each line of the reader, in order, up to the end of the input or the first fault. Before each read of the
-/// reader all replies so far are handed on.
+/// reader all replies so far are handed on. What answers is told of each line whether a further one has been read, so that
+/// the reply may rest: none rests where the reader is read, nor at the end.
 ///
 /// # Errors
 /// `Memory` before anything is read or written. Then, for each line in order: `Read` where the reader fails, `Write`
@@ -30,6 +31,7 @@ pub fn converse<C, A: Answers<C>, R: Source, W: Sink>(
     requires reader { R.failed reader.old ≡ false }
     requires writer { W.failed writer.old ≡ false }
     requires ready { A.ready (A.state answerer.old) }
+    requires none_rests { A.rests (A.state answerer.old) ≡ 0 }
 
     // A read or write fault is answered just where the reader failed, or the writer or what answers.
     ensures read { (result ≡ Err SessionFault.Read) ↔ IsTrue (R.failed reader.new) }
@@ -42,6 +44,9 @@ pub fn converse<C, A: Answers<C>, R: Source, W: Sink>(
     // Ok is answered at the end of the input.
     ensures end { OnOk result (IsAtEnd (R.left reader.new)) }
 
+    // No reply rests.
+    ensures none_rests { A.rests (A.state answerer.new) ≡ 0 }
+
     // What was written answers the lines of what was read.
     ensures talk { (input : List ℕ) × Consumes (R.left reader.old) (R.left reader.new) input
         × IsTalk A.longest A.answers (A.state answerer.old) (A.state answerer.new) input
@@ -53,7 +58,10 @@ pub fn converse<C, A: Answers<C>, R: Source, W: Sink>(
     let mut lines = LineReader::new(alloc, A::longest_line())?;
     for count in 0..MOST_LINES {
         match next_line(&mut lines, reader, writer, count > 0)? {
-            Advance::Line => answerer.answer(rt, alloc, help, lines.line(), writer)?,
+            Advance::Line => {
+                let more = count + 1 < MOST_LINES && lines.has_line();
+                answerer.answer(rt, alloc, help, lines.line(), more, writer)?;
+            }
             Advance::Overlong => {
                 refuse(writer, answerer, help)?;
                 return Err(SessionFault::Overlong);
@@ -86,6 +94,8 @@ fn next_line<R: Source, W: Sink>(
     ensures ended { lines.old.ended ≡ true → lines.new.ended ≡ true }
     ensures longest { lines.new.longest ≡ lines.old.longest }
     ensures written { Keeps (W.written writer.old) (W.written writer.new) }
+    // A line that has been read is next, and nothing happens but that.
+    ensures there { HasLine lines.old.pending lines.old.longest → (result ≡ Ok Advance.Line) × (reader.new ≡ reader.old) × (writer.new ≡ writer.old) }
     // Where no line was answered yet nothing is handed on, and that can't fail.
     ensures unanswered { answered ≡ false → writer.new ≡ writer.old }
     ensures answered { result ≡ Err SessionFault.Write → answered ≡ true }
@@ -114,6 +124,7 @@ fn refuse<C, A: Answers<C>, W: Sink>(
         × ((line : List ℕ) → A.longest < length line
         → A.answers (A.state answerer.old) line reply (A.state answerer.new))
         × Prints (W.written writer.old) (W.written writer.new) (A.broken (A.state answerer.new) || W.failed writer.new) reply result }
+    ensures none_rests { A.rests (A.state answerer.new) ≡ 0 }
     ensures handed_on { OnOk result (W.held_back writer.new ≡ []) }
 {
     answerer.refuse(help, writer)?;

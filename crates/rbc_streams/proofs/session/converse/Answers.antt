@@ -1,5 +1,5 @@
-use Rattle.std.proofs.Common.{◌≡◌, ◌||◌, Bool, true, false, Err, refl, ap, sym, ◌∙◌, subst, arith, add-one}
-use Rattle.std.specs.Bool.{IsTrue}
+use Rattle.std.proofs.Common.{◌≡◌, ◌||◌, Bool, true, false, Err, refl, ap, sym, ◌∙◌, subst, arith, add-one, inl, inr, ℕ, ◌<◌, ◌⊎◌, nat_lt}
+use Rattle.std.specs.Bool.{IsTrue, MatchBool}
 use Rattle.std.proofs.lemmas.Bool.{ltb-true}
 use Rattle.std.proofs.lemmas.Result.{err_from_is_err_and}
 use Rattle.std.proofs.lemmas.List.Elements.{All-nil}
@@ -7,6 +7,7 @@ use Rattle.rbc_streams.specs.LineReading.{Steps, IsOverlong, HasNoLineFeed}
 use Rattle.rbc_streams.proofs.LineLemmas.{lines_of_overlong}
 use Rattle.rbc_streams.proofs.UnderWayLemmas.{begins, over_before, takes, hands_on, stops_between, fails_reading, fails_handing_on, ends, has_too_many, goes_on, fails_writing, refuses, front_of, some_line}
 use Rattle.rbc_streams.proofs.session.converse.Goals as goal
+use Rattle.rbc_streams.proofs.session.converse.Goals.{then-count-lt-MOST_LINES, else-count-lt-MOST_LINES}
 
 both_false : (a b : Bool) → (a || b) ≡ false → (a ≡ false) × (b ≡ false)
 both_false true b none = absurd (let c : ⊥ = cc in c)
@@ -15,6 +16,16 @@ both_false false b none = (refl, none)
 is_false : (test : Bool) → (IsTrue test → ⊥) → test ≡ false
 is_false true refutes = absurd (refutes refl)
 is_false false refutes = refl
+
+not_less : (a b : ℕ) (more : Bool) → more ≡ nat_lt a b → (a < b → ⊥) → more ≡ false
+not_less a b true is most = absurd (most (ltb-true a b (sym is)))
+not_less a b false is most = refl
+
+-- a reply rests only where a further line is there
+may_rest : (more is_there : Bool) (rests : ℕ) (Few There Else : Type 0) → more ≡ is_there → Few → MatchBool is_there There Else → (more ≡ false → rests ≡ 0)
+    → (rests ≡ 0) ⊎ (Few × There)
+may_rest more true rests Few There Else same few there none = inr (few, there)
+may_rest more false rests Few There Else same few there none = inl (none same)
 
 pub loop-count-init : goal.loop-count-init
 loop-count-init g c =
@@ -26,6 +37,7 @@ loop-count-init g c =
       ready = c.requires.ready;
       intact = g.A.Answers.works (g.A.Answers.state c.args.answerer.now) c.requires.ready;
       longest = c.longest_line.ensures.value;
+      none_rests = inl c.requires.none_rests;
       end = λ over. cc;
       handed_on = λ held none. held;
       under_way = begins g.A.Answers.longest g.A.Answers.answers (g.A.Answers.state c.args.answerer.now) left written;
@@ -94,7 +106,7 @@ returns-in_err-answer-in-Line-clause-talk g c =
     let read = hands_on g.A.Answers.longest g.A.Answers.answers
     (takes g.A.Answers.longest g.A.Answers.answers c.loop-count.invariant.under_way (g.R.Source.left c.next_line.new.reader)
     c.next_line.new.lines.ended did.next.0 did.ended did.next.2 did.next.1) (g.W.Sink.written c.next_line.new.writer) did.written in
-    let reply = rw c.line.ensures at c.in_err-answer-in-Line.ensures in
+    let reply = rw c.line.ensures at c.in_err-answer-in-Line.ensures.reply in
     rw (fault.1, fault.2) (fails_writing g.A.Answers.longest g.A.Answers.answers read (g.A.Answers.state c.answer.new.self)
     (g.W.Sink.written c.answer.new.writer) _ reply.0 _ c.loop-count-test.true (front_of _ c.next_line.new.lines gives) reply.1 reply.2.text)
 
@@ -106,7 +118,7 @@ loop-count-preserved g c =
     let read = hands_on g.A.Answers.longest g.A.Answers.answers
     (takes g.A.Answers.longest g.A.Answers.answers c.loop-count.invariant.under_way (g.R.Source.left c.next_line.new.reader)
     c.next_line.new.lines.ended did.next.0 did.ended did.next.2 did.next.1) (g.W.Sink.written c.next_line.new.writer) did.written in
-    let reply = rw c.line.ensures at c.in_ok-answer-in-Line.ensures in
+    let reply = rw c.line.ensures at c.in_ok-answer-in-Line.ensures.reply in
     let works = both_false (g.A.Answers.broken (g.A.Answers.state c.answer.new.self)) (g.W.Sink.failed c.answer.new.writer) reply.2.failed in
     record {
       reader_works = is_false _ (λ failed. let e = did.read.1 failed in cc);
@@ -114,6 +126,13 @@ loop-count-preserved g c =
       ready = g.A.Answers.goes_on (g.A.Answers.state c.loop-count.answerer) (g.A.Answers.state c.answer.new.self) c.next_line.new.lines.line reply.0 reply.1 works.0;
       intact = works.0;
       longest = size;
+      none_rests = elim c.if-count-lt-MOST_LINES.branch [
+        | then-count-lt-MOST_LINES w ↦
+            may_rest c.if-count-lt-MOST_LINES.more w.has_line-more.result (g.A.Answers.rests (g.A.Answers.state c.answer.new.self)) _ _ _ w.more-is
+            (omega (arith, w.if-count-lt-MOST_LINES.true)) w.has_line-more.ensures c.in_ok-answer-in-Line.ensures.none_rests
+        | else-count-lt-MOST_LINES w ↦
+            inl (c.in_ok-answer-in-Line.ensures.none_rests (not_less _ _ c.if-count-lt-MOST_LINES.more w.more-is (λ less. let most = w.if-count-lt-MOST_LINES.false in omega (arith, less, most))))
+      ];
       end = did.end c.loop-count.invariant.end;
       handed_on = λ held none. absurd (omega (arith, none));
       under_way = rw add-one (goes_on g.A.Answers.longest g.A.Answers.answers read (g.A.Answers.state c.answer.new.self)

@@ -1,5 +1,6 @@
-use Rattle.std.proofs.Common.{◌≡◌, false, []}
-use Rattle.rbc_streams.specs.LineReading.{KnowsEnd}
+use Rattle.std.proofs.Common.{◌≡◌, ◌<◌, ◌⊎◌, false, []}
+use Rattle.rbc_model.specs.declared.limits.TheConstants.{MOST_LINES}
+use Rattle.rbc_streams.specs.LineReading.{HasLine, KnowsEnd}
 use Rattle.rbc_streams.proofs.UnderWayLemmas.{IsUnderWay}
 use Rattle.rbc_streams.proofs.session.converse.Given as goal
 
@@ -9,6 +10,7 @@ invariant-loop-count g l = record {
   writer_works : g.W.Sink.failed l.writer ≡ false;
   ready : g.A.Answers.ready (g.A.Answers.state l.answerer);
   intact : g.A.Answers.broken (g.A.Answers.state l.answerer) ≡ false;
+  none_rests : (g.A.Answers.rests (g.A.Answers.state l.answerer) ≡ 0) ⊎ ((l.count < MOST_LINES) × HasLine l.lines.pending l.lines.longest);
   longest : l.lines.longest ≡ g.A.Answers.longest;
   end : KnowsEnd l.lines (g.R.Source.left l.reader);
   handed_on : g.W.Sink.held_back l.fn.writer ≡ [] → l.count ≡ 0 → g.W.Sink.held_back l.writer ≡ [];
