@@ -43,6 +43,8 @@ impl Answers<()> for Certifier {
 
     ghost goes_on = { λ _ _ _ _ _ _. tt };
 
+    ghost rests = { λ _. 0 };
+
     fn longest_line() -> usize {
         LONGEST_LINE
     }
@@ -53,6 +55,7 @@ impl Answers<()> for Certifier {
         alloc: Global,
         _help: &(),
         line: &[u8],
+        _more: bool,
         writer: &mut W,
     ) -> Result<(), WriteFailed> {
         answer_line(alloc, line, writer)

@@ -126,6 +126,8 @@ impl Answers<()> for Checker {
 
     ghost goes_on = { λ _ _ _ _ _ _. tt };
 
+    ghost rests = { λ _. 0 };
+
     fn longest_line() -> usize {
         LONGEST_CHECK_LINE
     }
@@ -136,6 +138,7 @@ impl Answers<()> for Checker {
         _alloc: Global,
         help: &(),
         line: &[u8],
+        _more: bool,
         writer: &mut W,
     ) -> Result<(), WriteFailed> {
         if line.len() > LONGEST_CHECK_LINE {

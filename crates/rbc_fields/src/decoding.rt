@@ -205,6 +205,8 @@ impl<F: Form> Answers<F> for Decoder {
 
     ghost goes_on = { λ _ _ _ _ _ _. tt };
 
+    ghost rests = { λ _. 0 };
+
     fn longest_line() -> usize {
         LONGEST_CHECK_LINE
     }
@@ -215,6 +217,7 @@ impl<F: Form> Answers<F> for Decoder {
         _alloc: Global,
         help: &F,
         line: &[u8],
+        _more: bool,
         writer: &mut W,
     ) -> Result<(), WriteFailed> {
         if line.len() > LONGEST_CHECK_LINE {

@@ -38,6 +38,8 @@ impl Answers<Centre> for Record {
 
     ghost goes_on = { λ _ _ _ _ _ _. tt };
 
+    ghost rests = { λ _. 0 };
+
     fn longest_line() -> usize
         ensures value { result ≡ LONGEST_LINE }
         ensures bound { result ≤ 65536 }
@@ -51,6 +53,7 @@ impl Answers<Centre> for Record {
         alloc: Global,
         _centre: &Centre,
         line: &[u8],
+        _more: bool,
         writer: &mut W,
     ) -> Result<(), WriteFailed> {
         match demand_in(self.track(), line) {

@@ -133,6 +133,8 @@ impl<'a, L: DeskName, G: Gate, R: Wait> Answers<Counter<'a, L, G, R>> for Seat<L
 
     ghost goes_on = { λ _ _ _ _ _ _. tt };
 
+    ghost rests = { λ _. 0 };
+
     fn longest_line() -> usize
         ensures value { result ≡ LONGEST_LINE }
         ensures bound { result ≤ 65536 }
@@ -146,6 +148,7 @@ impl<'a, L: DeskName, G: Gate, R: Wait> Answers<Counter<'a, L, G, R>> for Seat<L
         alloc: Global,
         counter: &Counter<'a, L, G, R>,
         line: &[u8],
+        _more: bool,
         writer: &mut W,
     ) -> Result<(), WriteFailed> {
         // What the seat was told is on the desk's track.

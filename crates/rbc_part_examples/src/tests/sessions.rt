@@ -33,6 +33,8 @@ impl Answers<()> for Echo {
 
     ghost goes_on = { λ _ _ _ _ _ _. tt };
 
+    ghost rests = { λ _. 0 };
+
     fn longest_line() -> usize {
         4_096
     }
@@ -43,6 +45,7 @@ impl Answers<()> for Echo {
         _alloc: Global,
         _help: &(),
         line: &[u8],
+        _more: bool,
         writer: &mut W,
     ) -> Result<(), WriteFailed> {
         put(writer, line)

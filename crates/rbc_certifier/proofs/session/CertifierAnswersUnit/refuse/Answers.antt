@@ -4,8 +4,8 @@ use Rattle.rbc_model.specs.StepsReply.{refusal_reply}
 use Rattle.rbc_certifier.proofs.OverlongLemmas.{overlong_refused}
 use Rattle.rbc_certifier.proofs.session.CertifierAnswersUnit.refuse.Goals as goal
 
-pub returns : goal.returns
-returns g c = (
+pub returns-clause-reply : goal.returns-clause-reply
+returns-clause-reply g c = (
   refusal_reply (BadLine Overlong),
   overlong_refused,
   record { text = c.print_refusal.ensures.text; failed = c.print_refusal.ensures.failed },

@@ -3,8 +3,8 @@ use Rattle.rbc_model.specs.declared.limits.TheConstants.{LONGEST_CHECK_LINE}
 use Rattle.rbc_fields.specs.DecodeText.{Told, told_view, told_reply, is_told_refused}
 use Rattle.rbc_fields.proofs.decoding.DecoderAnswers.answer.Goals as goal
 
-pub returns : goal.returns
-returns g c =
+pub returns-clause-reply : goal.returns-clause-reply
+returns-clause-reply g c =
     let printing = g.F.Form.printing in
     let short : nat_lt LONGEST_CHECK_LINE (length c.args.line.now) ≡ false = grind (arith, c.if-line-gt-LONGEST_CHECK_LINE.false) in
     let told = c.digits_in.ensures.told in (

@@ -6,8 +6,8 @@ use Rattle.rbc_session_laws.specs.Turns.{AnswersDemand}
 use Rattle.rbc_server.proofs.CentreLemmas.{printed_comes, line_comes, demand_is, refused_comes}
 use Rattle.rbc_server.proofs.centre.RecordAnswersCentre.answer.Goals as goal
 
-pub returns-in-Ok-Event : goal.returns-in-Ok-Event
-returns-in-Ok-Event g c =
+pub returns-in-Ok-Event-clause-reply : goal.returns-in-Ok-Event-clause-reply
+returns-in-Ok-Event-clause-reply g c =
     let before = c.args.self.now in
     let after = c.tell-reply.new.history in
     let track = c.deref-in-Ok-Event.result.now in
@@ -19,16 +19,16 @@ returns-in-Ok-Event g c =
       record { text = c.print-in-Ok-Event.ensures.text; failed = c.print-in-Ok-Event.ensures.failed },
     )
 
-pub returns-in-Ok-Authority : goal.returns-in-Ok-Authority
-returns-in-Ok-Authority g c = (
+pub returns-in-Ok-Authority-clause-reply : goal.returns-in-Ok-Authority-clause-reply
+returns-in-Ok-Authority-clause-reply g c = (
   c.ask.ensures.0,
   line_comes c.args.self.now c.ask.new.history c.args.line.now c.ask.ensures.0 (Ok (Authority c.in-Ok-Authority.train)) c.deref.result.now (c.deref.ensures ∙ c.track.ensures)
       (demand_is c.deref.result.now c.args.line.now c.in-Ok-Authority.field-0 (Authority c.in-Ok-Authority.train) c.in-Ok-Authority.field-0-is c.in-Ok-Authority.ensures.demand) c.ask.ensures.1,
   c.ask.ensures.2,
 )
 
-pub returns-in-Err : goal.returns-in-Err
-returns-in-Err g c = (
+pub returns-in-Err-clause-reply : goal.returns-in-Err-clause-reply
+returns-in-Err-clause-reply g c = (
   refused_reply c.deref-in-Err.result.now (refusal_view c.in-Err.refusal),
   refused_comes c.args.self.now c.args.line.now (refusal_view c.in-Err.refusal) c.deref.result.now c.deref-in-Err.result.now (c.deref.ensures ∙ c.track.ensures)
       (c.deref-in-Err.ensures ∙ c.track-in-Err.ensures) c.in-Err.ensures.demand,

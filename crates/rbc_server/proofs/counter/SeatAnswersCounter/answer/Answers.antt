@@ -7,8 +7,8 @@ use Rattle.rbc_server.proofs.CentreLemmas.{demand_is}
 use Rattle.rbc_server.proofs.SeatLemmas.{seat_line_comes, seat_refused}
 use Rattle.rbc_server.proofs.counter.SeatAnswersCounter.answer.Goals as goal
 
-pub returns-in-Ok-Event : goal.returns-in-Ok-Event
-returns-in-Ok-Event g c =
+pub returns-in-Ok-Event-clause-reply : goal.returns-in-Ok-Event-clause-reply
+returns-in-Ok-Event-clause-reply g c =
     let before = c.args.self.now in
     let after = c.tell-reply.new.seat in
     let track = c.args.counter.now.track.now in
@@ -22,8 +22,8 @@ returns-in-Ok-Event g c =
       record { text = c.print-in-Ok-Event.ensures.text; failed = c.print-in-Ok-Event.ensures.failed },
     )
 
-pub returns-in-Ok-Authority : goal.returns-in-Ok-Authority
-returns-in-Ok-Authority g c =
+pub returns-in-Ok-Authority-clause-reply : goal.returns-in-Ok-Authority-clause-reply
+returns-in-Ok-Authority-clause-reply g c =
     let track = c.args.counter.now.track.now in
     let later = c.version-version.ensures.later in
     let asked = Authority c.in-Ok-Authority.train in (
@@ -33,8 +33,8 @@ returns-in-Ok-Authority g c =
       c.ask.ensures.2,
     )
 
-pub returns-in-Err : goal.returns-in-Err
-returns-in-Err g c =
+pub returns-in-Err-clause-reply : goal.returns-in-Err-clause-reply
+returns-in-Err-clause-reply g c =
     let track = c.args.counter.now.track.now in
     let later = c.version-version.ensures.later in (
       refused_reply track (refusal_view c.in-Err.refusal),
