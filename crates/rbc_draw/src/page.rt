@@ -315,6 +315,8 @@ impl Answers<()> for Drawer {
 
     ghost goes_on = { λ _ _ _ _ _ whole. whole };
 
+    ghost rests = { λ _. 0 };
+
     fn longest_line() -> usize {
         LONGEST_CHECK_LINE
     }
@@ -325,6 +327,7 @@ impl Answers<()> for Drawer {
         _alloc: Global,
         help: &(),
         line: &[u8],
+        _more: bool,
         writer: &mut W,
     ) -> Result<(), WriteFailed> {
         if line.len() > LONGEST_CHECK_LINE {

@@ -7,8 +7,8 @@ use Rattle.rbc_draw.proofs.PageLemmas.{short_answered}
 use Rattle.rbc_draw.proofs.ShowLemmas.{whole_yet, going_yet, printed_behind}
 use Rattle.rbc_draw.proofs.page.DrawerAnswersUnit.answer.Goals as goal
 
-pub returns-in_err-take : goal.returns-in_err-take
-returns-in_err-take g c =
+pub returns-in_err-take-clause-reply : goal.returns-in_err-take-clause-reply
+returns-in_err-take-clause-reply g c =
     let shown = shown_text (ended c.args.self.now.block (check_line Far c.args.line.now)) in
     let reply = shown ++ heading_text c.args.line.now in
     let taken = c.in_err-take.ensures in (
@@ -20,8 +20,8 @@ returns-in_err-take g c =
 pub print_heading-requires : goal.print_heading-requires
 print_heading-requires g c = going_yet c.take.new.self.lost _ c.in_ok-take.ensures.text.failed
 
-pub returns : goal.returns
-returns g c =
+pub returns-clause-reply : goal.returns-clause-reply
+returns-clause-reply g c =
     let shown = shown_text (ended c.args.self.now.block (check_line Far c.args.line.now)) in
     let reply = shown ++ heading_text c.args.line.now in
     let taken = c.in_ok-take.ensures in (
