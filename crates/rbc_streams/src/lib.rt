@@ -14,7 +14,7 @@ pub use answers::Answers;
 pub use line_reader::{Advance, LineReader};
 pub use rbc_model::{Memory, SessionFault};
 pub use retried::Retried;
-pub use session::converse;
+pub use session::{answer_lines, converse};
 pub use stream::Stream;
 pub use streams::{ReadFailed, Sink, Source, WriteFailed, put};
 pub use whole::{WholeFault, read_whole};

@@ -1,10 +1,10 @@
 //! The loop of a session: lines are read, answered and handed on, up to the end of the input or the first fault.
 
-ghost use Rattle.std.specs.Prelude.{◌≡◌, ◌↔◌, ◌<◌, ◌++◌, ◌⊎◌, ◌||◌, ℕ, List, [], length, true, false, IsTrue, OnOk, Ok, Err};
+ghost use Rattle.std.specs.Prelude.{◌≡◌, ◌≢◌, ◌↔◌, ◌<◌, ◌++◌, ◌⊎◌, ◌||◌, ℕ, List, [], length, true, false, IsTrue, OnOk, Ok, Err};
 ghost use Rattle.std.specs.Io.KnownBytes.{Consumes, Keeps, IsAtEnd};
 ghost use Rattle.rbc_model.specs.Sessions.{Prints};
 ghost use Rattle.rbc_model.specs.Talks.{IsTalk};
-ghost use Rattle.rbc_streams.specs.LineReading.{Goes, HasLine, KnowsEnd};
+ghost use Rattle.rbc_streams.specs.LineReading.{at_start, Goes, HasLine, KnowsEnd};
 
 use crate::{Advance, Answers, LineReader, Sink, Source, WriteFailed};
 use rbc_model::SessionFault;
@@ -55,7 +55,50 @@ pub fn converse<C, A: Answers<C>, R: Source, W: Sink>(
     // And it was handed on, unless the writer failed, or what answers.
     ensures handed_on { (A.broken (A.state answerer.new) || W.failed writer.new) ≡ false → W.held_back writer.old ≡ [] → W.held_back writer.new ≡ [] }
 {
-    let mut lines = LineReader::new(alloc, A::longest_line())?;
+    let lines = LineReader::new(alloc, A::longest_line())?;
+    answer_lines(rt, alloc, lines, reader, writer, answerer, help)
+}
+
+/// The same where there is room for the lines: a reader of lines that was not begun. Memory for these is not refused.
+///
+/// # Errors
+/// Those of [`converse`], but for `Memory`.
+pub fn answer_lines<C, A: Answers<C>, R: Source, W: Sink>(
+    rt: &(impl Threads + Sync),
+    alloc: Global,
+    mut lines: LineReader,
+    reader: &mut R,
+    writer: &mut W,
+    answerer: &mut A,
+    help: &C,
+) -> Result<(), SessionFault>
+    requires lines { lines ≡ at_start A.longest }
+    requires reader { R.failed reader.old ≡ false }
+    requires writer { W.failed writer.old ≡ false }
+    requires ready { A.ready (A.state answerer.old) }
+    requires none_rests { A.rests (A.state answerer.old) ≡ 0 }
+
+    // Memory is refused to none that begins.
+    ensures begins { result ≢ Err SessionFault.Memory }
+
+    // A read or write fault is answered just where the reader failed, or the writer or what answers.
+    ensures read { (result ≡ Err SessionFault.Read) ↔ IsTrue (R.failed reader.new) }
+    ensures write { (result ≡ Err SessionFault.Write) ↔ IsTrue (A.broken (A.state answerer.new) || W.failed writer.new) }
+
+    // Ok is answered at the end of the input.
+    ensures end { OnOk result (IsAtEnd (R.left reader.new)) }
+
+    // No reply rests.
+    ensures none_rests { A.rests (A.state answerer.new) ≡ 0 }
+
+    // What was written answers the lines of what was read.
+    ensures talk { (input : List ℕ) × Consumes (R.left reader.old) (R.left reader.new) input
+        × IsTalk A.longest A.answers (A.state answerer.old) (A.state answerer.new) input
+        (W.written writer.old) (W.written writer.new) result }
+
+    // And it was handed on, unless the writer failed, or what answers.
+    ensures handed_on { (A.broken (A.state answerer.new) || W.failed writer.new) ≡ false → W.held_back writer.old ≡ [] → W.held_back writer.new ≡ [] }
+{
     for count in 0..MOST_LINES {
         match next_line(&mut lines, reader, writer, count > 0)? {
             Advance::Line => {
@@ -88,6 +131,7 @@ fn next_line<R: Source, W: Sink>(
     requires writer { W.failed writer.old ≡ false }
     ensures read { (result ≡ Err SessionFault.Read) ↔ IsTrue (R.failed reader.new) }
     ensures write { (result ≡ Err SessionFault.Write) ↔ IsTrue (W.failed writer.new) }
+    ensures memory { result ≢ Err SessionFault.Memory }
     ensures next { (taken : List ℕ) × Consumes (R.left reader.old) (R.left reader.new) taken
         × (lines.old.ended ≡ true → taken ≡ []) × Goes (lines.old.pending ++ taken) lines.new result }
     ensures end { KnowsEnd lines.old (R.left reader.old) → KnowsEnd lines.new (R.left reader.new) }

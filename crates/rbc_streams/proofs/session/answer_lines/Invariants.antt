@@ -2,7 +2,7 @@ use Rattle.std.proofs.Common.{◌≡◌, ◌<◌, ◌⊎◌, false, []}
 use Rattle.rbc_model.specs.declared.limits.TheConstants.{MOST_LINES}
 use Rattle.rbc_streams.specs.LineReading.{HasLine, KnowsEnd}
 use Rattle.rbc_streams.proofs.UnderWayLemmas.{IsUnderWay}
-use Rattle.rbc_streams.proofs.session.converse.Given as goal
+use Rattle.rbc_streams.proofs.session.answer_lines.Given as goal
 
 abbrev pub invariant-loop-count : goal.invariant-loop-count
 invariant-loop-count g l = record {
