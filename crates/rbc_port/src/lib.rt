@@ -1,10 +1,13 @@
 //! A port that clients connect to: how they are accepted, waited for and let go, and what a log tells of them.
 #![tactic(auto)]
 
-mod client;
+mod clients;
+mod connection;
+mod ends;
 mod log;
 mod port;
 
-pub use client::Client;
+pub use clients::{Client, Clients, Ends};
+pub use connection::{Connection, Gone};
 pub use port::{Port, PortFailed, Terms};
 pub use rbc_model::SessionFault;

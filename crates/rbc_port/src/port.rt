@@ -1,9 +1,12 @@
 //! The port, and how clients are accepted.
 
-use crate::client::Client;
+ghost use Rattle.std.specs.Prelude.{None};
+
+use crate::clients::Clients;
+use crate::connection::Connection;
 use crate::log::Log;
 use std::alloc::Global;
-use std::io::{Eprint, Error, ErrorKind};
+use std::io::{Eprint, Error, ErrorKind, Read, Write};
 use std::net::{OpenListener, OpenStream, SocketAddr};
 use std::time::{Clock, Duration};
 use std::{io, thread};
@@ -66,22 +69,24 @@ impl<N> Port<N> {
     }
 }
 
-impl<S: OpenStream + Drop, N: OpenListener<Stream = S>> Port<N> {
-    /// Waits for the next client. An accept that fails for a reason of that one client is tried again, up to 1,000 times;
-    /// one that finds no descriptor left waits a tenth of a second before.
-    ///
-    /// # Errors
-    /// `PortFailed`, where an accept fails for any other reason, or for the 1,001st time.
-    pub fn accept(
+impl<S: Read + Write + OpenStream + Drop, N: OpenListener<Stream = S>> Clients for Port<N> {
+    type Each = Connection<S>;
+
+    ghost coming = { λ _. None };
+
+    // An accept that fails for a reason of that one client is tried again, up to 1,000 times; one that finds no
+    // descriptor left waits a tenth of a second before. The port has failed where an accept fails for any other reason,
+    // or for the 1,001st time.
+    fn accept<T: Clock + Eprint>(
         &mut self,
-        rt: &(impl Clock + Eprint),
+        rt: &T,
         alloc: Global,
-    ) -> Result<Client<S>, PortFailed> {
+    ) -> Result<Connection<S>, PortFailed> {
         for _ in 0..=MOST_RETRIES {
             match self.try_accept() {
                 Ok((stream, address)) => {
                     self.accepted = self.accepted.saturating_add(1);
-                    let client = Client::new(stream, address, self.accepted, self.log);
+                    let client = Connection::new(stream, address, self.accepted, self.log);
                     client.tell_began(rt, alloc);
                     return Ok(client);
                 }
@@ -92,7 +97,9 @@ impl<S: OpenStream + Drop, N: OpenListener<Stream = S>> Port<N> {
         }
         Err(PortFailed)
     }
+}
 
+impl<S: OpenStream + Drop, N: OpenListener<Stream = S>> Port<N> {
     // Waits for a client, and sets how long it is waited for later.
     fn try_accept(&self) -> Result<(S, SocketAddr), Obstacle> {
         let (stream, address) = self
