@@ -1,11 +1,11 @@
 -- What a crash leaves of a history that grows.
-use Rattle.std.proofs.Common.{◌≡◌, ⊎_elim, inl, inr, ℕ, ◌≤◌, List, [], ◌∷◌, ◌++◌, length, take, sym, ◌∙◌, ap, subst, append_assoc, length-append, arith}
+use Rattle.std.proofs.Common.{◌≡◌, ◌⊎◌, ⊎_elim, inl, inr, ℕ, ◌≤◌, List, [], ◌++◌, length, take, refl, sym, ◌∙◌, ap, subst, append_assoc, length-append, arith}
 use Rattle.std.proofs.lemmas.List.{append-nil, take_all, take-append-le}
 use Rattle.rbc_journal.specs.Device.{Only, LeavesOnly}
-use Rattle.rbc_journal.specs.Journal.{recovered, IsBeforeOrAfter}
+use Rattle.rbc_journal.specs.Journal.{recovered}
 use Rattle.rbc_kept.specs.Tells.{Tells}
-use Rattle.rbc_kept.specs.Kept.{StandsFor, IsBetween}
-use Rattle.rbc_kept.proofs.TellingLemmas.{one_more}
+use Rattle.rbc_kept.specs.Kept.{StandsFor, IsFrom}
+use Rattle.rbc_kept.proofs.TellingLemmas.{as_many, front_tells}
 
 -- ---- moments
 
@@ -35,32 +35,39 @@ module _ {Entry : Type 0} (adds : List Entry → List ℕ → Entry → Type 0) 
   front_of : (a b : List Entry) (n : ℕ) → n ≤ length a → take n (a ++ b) ≡ take n a
   front_of a b n le = take-append-le n a b le
 
-  -- the file stands for all of them
-  pub all_between : (file : List ℕ) (entries : List Entry) → StandsFor adds file entries → IsBetween adds entries entries file
-  all_between file entries told = (length entries, omega arith, omega arith, subst (StandsFor adds file) (sym (take_all (length entries) entries (omega arith))) told)
-
   -- later there are more
-  pub more_between : (file : List ℕ) (before mid after more : List Entry) → after ≡ mid ++ more → IsBetween adds before mid file → IsBetween adds before after file
-  more_between file before mid after more is between = (
-    between.0,
-    between.1,
-    omega (arith, between.2, ap length is, length-append mid more),
-    subst (StandsFor adds file) (sym (ap (λ (l : List Entry). take between.0 l) is ∙ front_of mid more between.0 between.2)) between.3,
+  more_from : (file : List ℕ) (least : ℕ) (mid after more : List Entry) → after ≡ mid ++ more → IsFrom adds least mid file → IsFrom adds least after file
+  more_from file least mid after more is from = (
+    from.0,
+    from.1,
+    omega (arith, from.2, ap length is, length-append mid more),
+    subst (StandsFor adds file) (sym (ap (λ (l : List Entry). take from.0 l) is ∙ front_of mid more from.0 from.2)) from.3,
   )
 
-  -- and earlier there were less
-  pub less_between : (file : List ℕ) (before mid after more : List Entry) → mid ≡ before ++ more → IsBetween adds mid after file → IsBetween adds before after file
-  less_between file before mid after more is between = (between.0, omega (arith, between.1, ap length is, length-append before more), between.2, between.3)
+  -- and earlier fewer were on the disk
+  less_from : (file : List ℕ) (least fewer : ℕ) (entries : List Entry) → fewer ≤ least → IsFrom adds least entries file → IsFrom adds fewer entries file
+  less_from file least fewer entries le from = (from.0, omega (arith, le, from.1), from.2, from.3)
 
-  -- a line more or none
-  pub one_between : (file mid c : List ℕ) (staged : List (List ℕ)) (old new : List Entry) (line : List ℕ) → mid ≡ file → staged ≡ line ∷ []
-      → ((entry : Entry) × adds old line entry × (new ≡ old ++ entry ∷ [])) → StandsFor adds file old → IsBeforeOrAfter (recovered mid) staged c → IsBetween adds old new c
-  one_between file mid c staged old new line same one added told left = ⊎_elim
-      (λ was. more_between c old old new (added.0 ∷ []) added.2 (all_between c old (subst (λ (ls : List (List ℕ)). Tells adds [] ls old) (sym (was ∙ ap recovered same)) told)))
-      (λ is. less_between c old new new (added.0 ∷ []) added.2 (all_between c new (subst (StandsFor adds c) (sym added.2)
-      (subst (λ (ls : List (List ℕ)). Tells adds [] ls (old ++ added.0 ∷ [])) (sym (is ∙ ap (λ (f : List ℕ). recovered f ++ staged) same ∙ ap (λ (ls : List (List ℕ)). recovered file ++ ls) one))
-      (one_more adds [] (recovered file) old line added.0 told added.1)))))
-      left
+  -- the lines that are on the disk are there, with all that were put or with none
+  pub staged_from : (file : List ℕ) (lines staged : List (List ℕ)) (entries : List Entry) → Tells adds [] (lines ++ staged) entries
+      → (recovered file ≡ lines) ⊎ (recovered file ≡ lines ++ staged) → IsFrom adds (length lines) entries file
+  staged_from file lines staged entries told (inl none) =
+      let all = as_many adds [] (lines ++ staged) entries told in
+      let count = length-append lines staged in (
+        length lines,
+        omega arith,
+        omega (arith, all, count),
+        subst (λ (ls : List (List ℕ)). Tells adds [] ls (take (length lines) entries)) (sym none) (front_tells adds [] lines staged entries told),
+      )
+  staged_from file lines staged entries told (inr both) =
+      let all = as_many adds [] (lines ++ staged) entries told in
+      let count = length-append lines staged in (
+        length entries,
+        omega (arith, all, count),
+        omega arith,
+        subst (λ (ls : List (List ℕ)). Tells adds [] ls (take (length entries) entries)) (sym both)
+            (subst (λ (es : List Entry). Tells adds [] (lines ++ staged) es) (sym (take_all (length entries) entries (omega arith))) told),
+      )
 
 -- ---- both
 
@@ -68,34 +75,17 @@ module _ {D Entry : Type 0} (adds : List Entry → List ℕ → Entry → Type 0
     (seen : D → List ℕ) (may_leave : D → List ℕ → Type 0) (moment : D → ℕ) (left_since : D → ℕ → List ℕ → Type 0)
     (only_now : (file : D) (c : List ℕ) → left_since file (moment file) c → may_leave file c) where
   -- nothing was asked of the file
-  pub steady : (old new : D) (before after : List Entry) → new ≡ old → Only (seen old) (may_leave old) → StandsFor adds (seen old) before → after ≡ before
-      → LeavesOnly moment left_since old new (IsBetween adds before after)
-  steady old new before after same durable told none =
-      still moment left_since old new (IsBetween adds before after) same
-      (λ c left. subst (λ (l : List Entry). IsBetween adds before l c) (sym none) (all_between adds c before (subst (λ (f : List ℕ). StandsFor adds f before) (sym (durable c (only_now old c left))) told)))
-
-  -- a line was written
-  pub written : (old mid new : D) (staged : List (List ℕ)) (before after : List Entry) (line : List ℕ) → mid ≡ old → staged ≡ line ∷ []
-      → ((entry : Entry) × adds before line entry × (after ≡ before ++ entry ∷ [])) → StandsFor adds (seen old) before
-      → LeavesOnly moment left_since mid new (IsBeforeOrAfter (recovered (seen mid)) staged) → LeavesOnly moment left_since old new (IsBetween adds before after)
-  written old mid new staged before after line same one added told leaves =
-      subst (λ (d : D). LeavesOnly moment left_since d new (IsBetween adds before after)) same
-      (weaker moment left_since mid new (IsBeforeOrAfter (recovered (seen mid)) staged) (IsBetween adds before after)
-      (λ c left. one_between adds (seen old) (seen mid) c staged before after line (ap seen same) one added told left) leaves)
+  pub steady : (device : D) (staged : List (List ℕ)) (entries : List Entry) → Only (seen device) (may_leave device) → Tells adds [] (recovered (seen device) ++ staged) entries
+      → LeavesOnly moment left_since device device (IsFrom adds (length (recovered (seen device))) entries)
+  steady device staged entries durable told =
+      still moment left_since device device (IsFrom adds (length (recovered (seen device))) entries) refl
+      (λ c left. staged_from adds c (recovered (seen device)) staged entries told (inl (ap recovered (durable c (only_now device c left)))))
 
   -- one call more
-  pub further : (old mid new : D) (first before after more some : List Entry) → before ≡ first ++ more → after ≡ before ++ some
-      → LeavesOnly moment left_since old mid (IsBetween adds first before) → LeavesOnly moment left_since mid new (IsBetween adds before after)
-      → LeavesOnly moment left_since old new (IsBetween adds first after)
-  further old mid new first before after more some was is so_far now =
-      then_on moment left_since old mid new (IsBetween adds first after)
-      (weaker moment left_since old mid (IsBetween adds first before) (IsBetween adds first after) (λ c left. more_between adds c first before after some is left) so_far)
-      (weaker moment left_since mid new (IsBetween adds before after) (IsBetween adds first after) (λ c left. less_between adds c first before after more was left) now)
-
-pub grown_further : {Entry : Type 0} (first before after : List Entry) → ((more : List Entry) × (before ≡ first ++ more)) → ((some : List Entry) × (after ≡ before ++ some))
-    → (all : List Entry) × (after ≡ first ++ all)
-grown_further {Entry} first before after more some =
-    (more.0 ++ some.0, some.1 ∙ ap (λ (l : List Entry). l ++ some.0) more.1 ∙ append_assoc first more.0 some.0)
-
-pub grown_none : {Entry : Type 0} (entries : List Entry) → (more : List Entry) × (entries ≡ entries ++ more)
-grown_none entries = ([], sym (append-nil entries))
+  pub further : (old mid new : D) (least later : ℕ) (before after more : List Entry) → least ≤ later → after ≡ before ++ more
+      → LeavesOnly moment left_since old mid (IsFrom adds least before) → LeavesOnly moment left_since mid new (IsFrom adds later after)
+      → LeavesOnly moment left_since old new (IsFrom adds least after)
+  further old mid new least later before after more le is so_far now =
+      then_on moment left_since old mid new (IsFrom adds least after)
+      (weaker moment left_since old mid (IsFrom adds least before) (IsFrom adds least after) (λ c left. more_from adds c least before after more is left) so_far)
+      (weaker moment left_since mid new (IsFrom adds later after) (IsFrom adds least after) (λ c left. less_from adds c later least after le left) now)

@@ -1,146 +1,213 @@
--- A line is treated, and its entry put into the journal.
-use Rattle.std.proofs.Common.{◌≡◌, ℕ, ◌<◌, ◌≤◌, Bool, true, false, ◌||◌, List, [], ◌∷◌, ◌++◌, length, Option, Result, Ok, Err, refl, sym, ap, ◌∙◌, subst, arith}
-use Rattle.std.specs.Prelude.{is_err}
-use Rattle.std.specs.Io.KnownBytes.{Keeps}
-use Rattle.std.proofs.KnownBytes.{Appends-nil, Appends-kept}
+-- A line is treated, its entry staged, and the reply to it said.
+use Rattle.std.proofs.Common.{◌≡◌, ℕ, ◌<◌, ◌≤◌, ◌+◌, Bool, true, false, List, [], ◌∷◌, ◌++◌, length, refl, sym, ap, ◌∙◌, subst, arith, inl, inr, append_assoc, append-nil, length-append, nat_lt, lit<}
+use Rattle.std.specs.Prelude.{◌⊎◌}
+use Rattle.std.specs.Bool.{MatchBool}
+use Rattle.std.proofs.lemmas.Bool.{ltb-true, lt-ltb}
 use Rattle.rbc_journal.specs.Device.{LeavesOnly}
 use Rattle.rbc_journal.specs.Journal.{recovered, IsBeforeOrAfter}
-use Rattle.rbc_journal.specs.Settled.{IsSettled, staged}
-use Rattle.rbc_model.specs.Sessions.{Prints}
+use Rattle.rbc_journal.specs.Settled.{staged}
 use Rattle.rbc_model.specs.Histories.{Entry}
+use Rattle.rbc_model.specs.SoundTracks.{IsInForm}
+use Rattle.rbc_model.specs.Tracks.{Track}
 use Rattle.rbc_server.specs.Changes.{Goes}
-use Rattle.rbc_server.specs.Records.{HistoryOnTrack, with_entry}
+use Rattle.rbc_server.specs.Records.{HistoryOnTrack}
 use Rattle.rbc_kept.specs.Adds.{Adds}
-use Rattle.rbc_kept.specs.Advances.{Advances, Leaves, IsAfter, IsTreated}
-use Rattle.rbc_kept.specs.Kept.{IsReady, StandsFor}
+use Rattle.rbc_kept.specs.Advances.{Advances, LeavesWritten, IsSaid, IsTreated, Rests, Writes}
+use Rattle.rbc_kept.specs.Kept.{IsFrom, IsGoing, IsReady, TellsRecord}
+use Rattle.rbc_kept.specs.Tells.{Tells}
 use Rattle.rbc_kept.specs.declared.kept.Kept.{Kept}
+use Rattle.rbc_kept.specs.declared.kept.TheConstants.{MOST_TOGETHER}
 use Rattle.rbc_kept.proofs.AddingLemmas.{adds_of, same_adds, grown, not_grown}
-use Rattle.rbc_kept.proofs.BetweenLemmas.{steady, written}
-use Rattle.rbc_kept.proofs.TellingLemmas.{told_more}
+use Rattle.rbc_kept.proofs.BetweenLemmas.{staged_from, weaker}
+use Rattle.rbc_kept.proofs.TellingLemmas.{one_more}
 
-pub never_both : (b : Bool) → b ≡ false → b ≡ true → ⊥
-never_both b whole broken = cc
+-- what the file and some lines behind it tell
+abbrev Told : Track → List (List ℕ) → List (List ℕ) → List Entry → Type 0
+Told track lines behind entries = Tells (Adds track) [] (lines ++ behind) entries
 
-module _ {D : Type 0} (seen : D → List ℕ) (may_leave : D → List ℕ → Type 0) (moment : D → ℕ) (left_since : D → ℕ → List ℕ → Type 0) (faults : D → ℕ)
-    (only_now : (file : D) (c : List ℕ) → left_since file (moment file) c → may_leave file c) where
-  -- what holds of the record and its journal holds of them still
-  still_ready : (first now : Kept D) → IsReady seen may_leave first → now.history ≡ first.history → now.has_failed ≡ false → now.journal.device ≡ first.journal.device
-      → IsSettled seen may_leave now.journal → staged now.journal ≡ [] → IsReady seen may_leave now
-  still_ready first now ready same whole device settled none = record {
-    whole = whole;
-    is_kept = record {
-      settled = settled;
-      none_waits = none;
-      told = subst (λ (h : HistoryOnTrack). StandsFor (Adds h.track) (seen now.journal.device) h.entries) (sym same)
-          (subst (λ (d : D). StandsFor (Adds first.history.track) (seen d) first.history.entries) (sym device) ready.is_kept.told);
-    };
-  }
+-- ---- the record is told
 
-  -- a line adds nothing
-  pub stays : (first now : Kept D) (line reply : List ℕ) → IsReady seen may_leave first → now.history ≡ first.history → now.has_failed ≡ false → now.journal.device ≡ first.journal.device
-      → IsSettled seen may_leave now.journal → staged now.journal ≡ [] → Goes first.history line reply now.history → Advances seen may_leave moment left_since faults first line reply now
-  stays first now line reply ready same whole device settled none goes = record {
-    going = ready;
-    answered = λ works. (goes, still_ready first now ready same whole device settled none);
-    unanswered = λ fails. absurd (never_both now.has_failed whole fails);
-    any_moment = steady (Adds first.history.track) seen may_leave moment left_since only_now first.journal.device now.journal.device first.history.entries now.history.entries device
-        ready.is_kept.settled.durable ready.is_kept.told (ap (λ (h : HistoryOnTrack). h.entries) same);
-    later = let same_faults = ap faults device in omega (arith, same_faults);
-  }
+module _ {D : Type 0} (seen : D → List ℕ) where
+  -- the record, the file and the lines that are staged are the same
+  pub told_still : (first now : Kept D) → TellsRecord seen first → now.history ≡ first.history → now.journal.device ≡ first.journal.device
+      → staged now.journal ≡ staged first.journal → TellsRecord seen now
+  told_still first now told same device lines =
+      subst (λ (h : HistoryOnTrack). Told h.track (recovered (seen now.journal.device)) (staged now.journal) h.entries) (sym same)
+      (subst (λ (d : D). Told first.history.track (recovered (seen d)) (staged now.journal) first.history.entries) (sym device)
+      (subst (λ (ls : List (List ℕ)). Told first.history.track (recovered (seen first.journal.device)) ls first.history.entries) (sym lines) told))
 
-  -- and the journal was not even looked at
-  pub unchanged : (now : Kept D) (line reply : List ℕ) → IsReady seen may_leave now → Goes now.history line reply now.history → Advances seen may_leave moment left_since faults now line reply now
-  unchanged now line reply ready goes = stays now now line reply ready refl ready.whole refl ready.is_kept.settled ready.is_kept.none_waits goes
+  grown_told : (first now : Kept D) (line text said : List ℕ) → IsInForm first.history.track → IsTreated first.history now.history line text said → TellsRecord seen first
+      → now.journal.device ≡ first.journal.device → length first.history.entries < length now.history.entries → staged now.journal ≡ staged first.journal ++ text ∷ [] → TellsRecord seen now
+  grown_told first now line text said form treated told device more lines =
+      let g = grown first.history now.history line said treated.goes more in
+      let track = first.history.track in
+      let entries = first.history.entries in
+      let file = recovered (seen first.journal.device) in
+      let adds = same_adds track entries line text g.0 treated.says (adds_of track entries line said g.0 form g.1) in
+      let one : Told track file (staged first.journal ++ text ∷ []) (entries ++ g.0 ∷ []) =
+          subst (λ (ls : List (List ℕ)). Tells (Adds track) [] ls (entries ++ g.0 ∷ [])) (append_assoc file (staged first.journal) (text ∷ []))
+          (one_more (Adds track) [] (file ++ staged first.journal) entries text g.0 told adds) in
+      subst (λ (h : HistoryOnTrack). Told h.track (recovered (seen now.journal.device)) (staged now.journal) h.entries) (sym g.2)
+      (subst (λ (d : D). Told track (recovered (seen d)) (staged now.journal) (entries ++ g.0 ∷ [])) (sym device)
+      (subst (λ (ls : List (List ℕ)). Told track file ls (entries ++ g.0 ∷ [])) (sym lines) one))
 
-  -- what a line adds, where it adds an entry: it has put a text that says the same
-  record Added (first now : Kept D) (text : List ℕ) : Type 0 where
-    entry : Entry
-    adds : Adds first.history.track first.history.entries text entry
-    is : now.history ≡ with_entry first.history entry
+  by_version : (first now : Kept D) (line text said : List ℕ) (version : ℕ) (is_added : Bool) → IsInForm first.history.track → version ≡ length first.history.entries
+      → IsTreated first.history now.history line text said → TellsRecord seen first → now.journal.device ≡ first.journal.device → nat_lt version (length now.history.entries) ≡ is_added
+      → MatchBool is_added (staged now.journal ≡ staged first.journal ++ text ∷ []) (staged now.journal ≡ staged first.journal) → TellsRecord seen now
+  by_version first now line text said version true form is treated told device more lines =
+      grown_told first now line text said form treated told device (subst (λ n. n < length now.history.entries) is (ltb-true version (length now.history.entries) more)) lines
+  by_version first now line text said version false form is treated told device more lines =
+      told_still first now told
+      (not_grown first.history now.history line said treated.goes (λ less. no_more version (length now.history.entries) (subst (λ n. n < length now.history.entries) (sym is) less) more))
+      device lines
+    where
+      both : (b : Bool) → b ≡ false → b ≡ true → ⊥
+      both b low high = cc
+      no_more : (m n : ℕ) → m < n → nat_lt m n ≡ false → ⊥
+      no_more m n less least = both (nat_lt m n) least (lt-ltb m n less)
 
-  added : (first now : Kept D) (line text said : List ℕ) (version : ℕ) → IsAfter seen may_leave first now version → IsTreated first.history now.history line text said
-      → version < length now.history.entries → Added first now text
-  added first now line text said version after treated more =
-      let g = grown first.history now.history line said treated.goes (subst (λ n. n < length now.history.entries) after.version_is more) in
-      record {
-        entry = g.0;
-        adds = same_adds first.history.track first.history.entries line text g.0 treated.says (adds_of first.history.track first.history.entries line said g.0 after.form g.1);
-        is = g.2;
-      }
+  -- the line of the entry, if there is one, is staged
+  pub told_after : (first made now : Kept D) (line text said : List ℕ) (version : ℕ) (after : HistoryOnTrack) → IsInForm first.history.track → version ≡ length first.history.entries
+      → IsTreated first.history after line text said → TellsRecord seen first → now.history ≡ after → now.journal.device ≡ first.journal.device → staged made.journal ≡ staged first.journal
+      → MatchBool (nat_lt version (length after.entries)) (staged now.journal ≡ staged made.journal ++ text ∷ []) (staged now.journal ≡ staged made.journal) → TellsRecord seen now
+  told_after first made now line text said version after form is treated told same device before lines =
+      by_version first now line text said version (nat_lt version (length now.history.entries)) form is (subst (λ (h : HistoryOnTrack). IsTreated first.history h line text said) (sym same) treated)
+      told device refl
+      (subst (λ (ls : List (List ℕ)). MatchBool (nat_lt version (length now.history.entries)) (staged now.journal ≡ ls ++ text ∷ []) (staged now.journal ≡ ls)) before
+      (subst (λ (h : HistoryOnTrack). MatchBool (nat_lt version (length h.entries)) (staged now.journal ≡ staged made.journal ++ text ∷ []) (staged now.journal ≡ staged made.journal)) (sym same) lines))
 
-  entry_added : (first now next : Kept D) (text : List ℕ) (a : Added first now text) → next.history ≡ now.history
-      → (entry : Entry) × Adds first.history.track first.history.entries text entry × (next.history.entries ≡ first.history.entries ++ entry ∷ [])
-  entry_added first now next text a same = (a.entry, a.adds, ap (λ (h : HistoryOnTrack). h.entries) (same ∙ a.is))
+-- ---- the reply is said
 
-  module _ (first now next : Kept D) (line text said : List ℕ) (version : ℕ) (after : IsAfter seen may_leave first now version) (treated : IsTreated first.history now.history line text said)
-      (more : version < length now.history.entries) (same : next.history ≡ now.history)
-      (leaves : LeavesOnly moment left_since now.journal.device next.journal.device (IsBeforeOrAfter (recovered (seen now.journal.device)) (text ∷ [])))
-      (later : faults now.journal.device ≤ faults next.journal.device) where
-    a : Added first now text
-    a = added first now line text said version after treated more
+module _ {D : Type 0} (seen : D → List ℕ) (may_leave : D → List ℕ → Type 0) (moment : D → ℕ) (left_since : D → ℕ → List ℕ → Type 0) (faults : D → ℕ) where
+  abbrev Said : Kept D → List ℕ → List ℕ → Kept D → Type 0
+  Said = IsSaid seen may_leave moment left_since faults
 
-    goes_now : Goes first.history line said next.history
-    goes_now = subst (λ (h : HistoryOnTrack). Goes first.history line said h) (sym same) treated.goes
-
-    leaves_now : Leaves seen may_leave moment left_since faults first next
-    leaves_now =
-        written (Adds first.history.track) seen may_leave moment left_since only_now first.journal.device now.journal.device next.journal.device (text ∷ []) first.history.entries next.history.entries text
-        after.device refl (entry_added first now next text a same) after.ready.is_kept.told leaves
-
-    later_now : faults first.journal.device ≤ faults next.journal.device
-    later_now = let same_faults = ap faults after.device in omega (arith, same_faults, later)
-
-    -- the line is put
-    pub advances : next.has_failed ≡ false
-        → IsSettled seen may_leave next.journal × (recovered (seen next.journal.device) ≡ recovered (seen now.journal.device) ++ text ∷ []) × (staged next.journal ≡ [])
-        → Advances seen may_leave moment left_since faults first line said next
-    advances whole put = record {
-      going = after.ready;
-      answered = λ works. (
-        goes_now,
+  module _ (now next : Kept D) (reply text : List ℕ) (told : TellsRecord seen now) (said : Said now reply text next) where
+    goes_resting : next.has_failed ≡ false → Rests now reply text next → staged next.journal ≡ staged now.journal → next.resting < MOST_TOGETHER → IsGoing seen may_leave next
+    goes_resting works rests lines few =
+        let s = said.settled works in
+        let count = rests.holds.1 in
         record {
-          whole = whole;
-          is_kept = record {
-            settled = put.0;
-            none_waits = put.2;
-            told = subst (λ t. StandsFor (Adds t) (seen next.journal.device) next.history.entries) (sym (ap (λ (h : HistoryOnTrack). h.track) (same ∙ a.is)))
-                (told_more (Adds first.history.track) (seen first.journal.device) (seen now.journal.device) (seen next.journal.device) (text ∷ []) first.history.entries next.history.entries text
-                put.1 (ap seen after.device) refl (entry_added first now next text a same) after.ready.is_kept.told);
-          };
-        },
-      );
-      unanswered = λ fails. absurd (never_both next.has_failed whole fails);
+          whole = works;
+          settled = s.0;
+          told = told_still seen now next told said.history rests.device lines;
+          few = few;
+          holds = s.1;
+          none_rests = λ zero. absurd (let e : ⊥ = omega (arith, zero, count) in e);
+        }
+
+    goes_written : next.has_failed ≡ false → Writes now reply text next → recovered (seen next.journal.device) ≡ recovered (seen now.journal.device) ++ staged now.journal
+        → staged next.journal ≡ [] → IsGoing seen may_leave next
+    goes_written works writes put none =
+        let s = said.settled works in
+        let lines : recovered (seen next.journal.device) ++ staged next.journal ≡ recovered (seen now.journal.device) ++ staged now.journal =
+            ap (λ (l : List (List ℕ)). recovered (seen next.journal.device) ++ l) none ∙ append-nil (recovered (seen next.journal.device)) ∙ put in
+        record {
+          whole = works;
+          settled = s.0;
+          told = subst (λ (h : HistoryOnTrack). Tells (Adds h.track) [] (recovered (seen next.journal.device) ++ staged next.journal) h.entries) (sym said.history)
+              (subst (λ (ls : List (List ℕ)). Tells (Adds now.history.track) [] ls now.history.entries) (sym lines) told);
+          few = subst (λ n. n < MOST_TOGETHER) (sym writes.none_rests) (lit< tt);
+          holds = s.1;
+          none_rests = λ zero. (none, writes.none_held);
+        }
+
+  module _ (first now next : Kept D) (line reply text : List ℕ) (going : IsGoing seen may_leave first) (goes : Goes first.history line reply now.history) (told : TellsRecord seen now)
+      (device : now.journal.device ≡ first.journal.device) (replies : now.replies.bytes.items ≡ first.replies.bytes.items) (resting : now.resting ≡ first.resting)
+      (said : Said now reply text next) where
+    goes_next : Goes first.history line reply next.history
+    goes_next = subst (λ (h : HistoryOnTrack). Goes first.history line reply h) (sym said.history) goes
+
+    same_track : now.history.track ≡ first.history.track
+    same_track = ap (λ (h : HistoryOnTrack). h.track) goes.2
+
+    leaves_now : LeavesWritten seen may_leave moment left_since faults first next
+    leaves_now =
+        subst (λ (d : D). LeavesOnly moment left_since d next.journal.device (IsFrom (Adds first.history.track) (length (recovered (seen d))) next.history.entries)) device
+        (subst (λ t. LeavesOnly moment left_since now.journal.device next.journal.device (IsFrom (Adds t) (length (recovered (seen now.journal.device))) next.history.entries)) same_track
+        (subst (λ (h : HistoryOnTrack). LeavesOnly moment left_since now.journal.device next.journal.device (IsFrom (Adds now.history.track) (length (recovered (seen now.journal.device))) h.entries)) (sym said.history)
+        (weaker moment left_since now.journal.device next.journal.device (IsBeforeOrAfter (recovered (seen now.journal.device)) (staged now.journal))
+        (IsFrom (Adds now.history.track) (length (recovered (seen now.journal.device))) now.history.entries)
+        (λ c left. staged_from (Adds now.history.track) c (recovered (seen now.journal.device)) (staged now.journal) now.history.entries told left) said.any_moment)))
+
+    answered_now : next.has_failed ≡ false
+        → (Rests now reply text next × (staged next.journal ≡ staged now.journal) × (next.resting < MOST_TOGETHER))
+        ⊎ (Writes now reply text next × (recovered (seen next.journal.device) ≡ recovered (seen now.journal.device) ++ staged now.journal) × (staged next.journal ≡ []))
+        → (r : List ℕ) × Goes first.history line r next.history × IsGoing seen may_leave next × (Rests first r text next ⊎ Writes first r text next)
+    answered_now works (inl (rests, lines, few)) =
+        let rested : Rests first reply text next =
+            record {
+              silent = rests.silent;
+              device = rests.device ∙ device;
+              holds = (rests.holds.0 ∙ ap (λ (l : List ℕ). l ++ reply) replies, rests.holds.1 ∙ ap (λ n. n + 1) resting);
+            } in
+        (reply, goes_next, goes_resting now next reply text told said works rests lines few, inl rested)
+    answered_now works (inr (writes, put, none)) =
+        let wrote : Writes first reply text next =
+            record {
+              text_is = writes.text_is ∙ ap (λ (l : List ℕ). l ++ reply) replies;
+              none_held = writes.none_held;
+              none_rests = writes.none_rests;
+            } in
+        (reply, goes_next, goes_written now next reply text told said works writes put none, inr wrote)
+
+    stays_now : (Rests now reply text next × (staged next.journal ≡ staged now.journal) × (next.resting < MOST_TOGETHER))
+        ⊎ (Writes now reply text next × (recovered (seen next.journal.device) ≡ recovered (seen now.journal.device) ++ staged now.journal) × (staged next.journal ≡ []))
+        → length (recovered (seen first.journal.device)) ≤ length (recovered (seen next.journal.device))
+    stays_now (inl (rests, lines, few)) =
+        let same = ap (λ (d : D). length (recovered (seen d))) (rests.device ∙ device) in
+        omega (arith, same)
+    stays_now (inr (writes, put, none)) =
+        let same = ap (λ (d : D). length (recovered (seen d))) device in
+        let all = ap (λ (l : List (List ℕ)). length l) put in
+        let count = length-append (recovered (seen now.journal.device)) (staged now.journal) in
+        omega (arith, same, all, count)
+
+    -- the line is answered, or the journal failed
+    pub advances : Advances seen may_leave moment left_since faults first line text next
+    advances = record {
+      going = going;
+      answered = λ works. answered_now works (said.said works);
+      unanswered = λ fails.
+          let u = said.unsaid fails in
+          let same_faults = ap faults device in
+          (u.0, reply, goes_next, omega (arith, same_faults, u.1));
       any_moment = leaves_now;
-      later = later_now;
+      stays = λ works. stays_now (said.said works);
+      later = let same_faults = ap faults device in let later = said.later in omega (arith, same_faults, later);
     }
 
-    -- the journal fails
-    pub breaks : next.has_failed ≡ true → faults now.journal.device < faults next.journal.device → Advances seen may_leave moment left_since faults first line [] next
-    breaks broken failed = record {
-      going = after.ready;
-      answered = λ works. absurd (never_both next.has_failed works broken);
-      unanswered = λ fails. (refl, said, goes_now, (let same_faults = ap faults after.device in omega (arith, same_faults, failed)));
-      any_moment = leaves_now;
-      later = later_now;
-    }
+  -- the same where the line was refused before anything changed
+  pub unchanged : (now next : Kept D) (line reply text : List ℕ) → IsGoing seen may_leave now → Goes now.history line reply now.history → Said now reply text next
+      → Advances seen may_leave moment left_since faults now line text next
+  unchanged now next line reply text going goes said = advances now now next line reply text going goes going.told refl refl refl said
 
-module _ {D : Type 0} (seen : D → List ℕ) (may_leave : D → List ℕ → Type 0) (moment : D → ℕ) (left_since : D → ℕ → List ℕ → Type 0) (faults : D → ℕ)
-    (only_now : (file : D) (c : List ℕ) → left_since file (moment file) c → may_leave file c) where
-  -- the record has no more entries than it had
-  pub stays_after : (first now : Kept D) (line text said : List ℕ) (version : ℕ) → IsAfter seen may_leave first now version → IsTreated first.history now.history line text said
-      → (version < length now.history.entries → ⊥) → now.has_failed ≡ false → IsSettled seen may_leave now.journal → staged now.journal ≡ []
-      → Advances seen may_leave moment left_since faults first line said now
-  stays_after first now line text said version after treated no_more whole settled none =
-      let same = not_grown first.history now.history line said treated.goes (subst (λ n. n < length now.history.entries → ⊥) after.version_is no_more) in
-      stays seen may_leave moment left_since faults only_now first now line said after.ready same whole after.device settled none treated.goes
+-- ---- between sessions
 
--- ---- what is printed
+module _ {D : Type 0} (seen : D → List ℕ) (may_leave : D → List ℕ → Type 0) where
+  pub ready_goes : (kept : Kept D) → IsReady seen may_leave kept → IsGoing seen may_leave kept
+  ready_goes kept ready = record {
+    whole = ready.whole;
+    settled = ready.is_kept.settled;
+    told = subst (λ (ls : List (List ℕ)). Tells (Adds kept.history.track) [] ls kept.history.entries)
+        (sym (ap (λ (l : List (List ℕ)). recovered (seen kept.journal.device) ++ l) ready.is_kept.none_waits ∙ append-nil (recovered (seen kept.journal.device)))) ready.is_kept.told;
+    few = subst (λ n. n < MOST_TOGETHER) (sym ready.none_rests) (lit< tt);
+    holds = ready.holds;
+    none_rests = λ zero. (ready.is_kept.none_waits, ready.none_held);
+  }
 
-pub prints_none : {E : Type 0} (a b : Option (List ℕ)) (broken failed : Bool) (r : Result (Unit {0}) E) → Keeps a b → broken ≡ true → is_err r ≡ true → Prints a b (broken || failed) [] r
-prints_none a b broken failed (Ok done) kept lost err = absurd (let c : ⊥ = cc in c)
-prints_none a b broken failed (Err fault) kept lost err =
-    record { text = ([], [], refl, Appends-kept a a b [] (Appends-nil a) kept); failed = rw lost refl }
-
-pub prints_whole : {E : Type 0} (a b : Option (List ℕ)) (broken failed : Bool) (text : List ℕ) (r : Result (Unit {0}) E) → broken ≡ false → Prints a b failed text r
-    → Prints a b (broken || failed) text r
-prints_whole a b broken failed text r whole prints = subst (λ x. Prints a b (x || failed) text r) (sym whole) prints
+  pub goes_ready : (kept : Kept D) → IsGoing seen may_leave kept → kept.resting ≡ 0 → IsReady seen may_leave kept
+  goes_ready kept going none =
+      let both = going.none_rests none in
+      record {
+        whole = going.whole;
+        is_kept = record {
+          settled = going.settled;
+          none_waits = both.0;
+          told = subst (λ (ls : List (List ℕ)). Tells (Adds kept.history.track) [] ls kept.history.entries)
+              (ap (λ (l : List (List ℕ)). recovered (seen kept.journal.device) ++ l) both.0 ∙ append-nil (recovered (seen kept.journal.device))) going.told;
+        };
+        none_rests = none;
+        none_held = both.1;
+        holds = going.holds;
+      }

@@ -1,6 +1,7 @@
 mod TellingLemmas
 mod BetweenLemmas
 mod AddingLemmas
+mod SayingLemmas
 mod KeepingLemmas
 mod TalkLemmas
 mod GateLemmas

@@ -1,5 +1,5 @@
 -- Lines and the entries that they tell.
-use Rattle.std.proofs.Common.{◌≡◌, ℕ, List, [], ◌∷◌, ◌++◌, length, take, refl, sym, ◌∙◌, ap, subst, append_assoc}
+use Rattle.std.proofs.Common.{◌≡◌, ℕ, suc, List, [], ◌∷◌, ◌++◌, length, take, refl, sym, ◌∙◌, ap, subst, append_assoc}
 use Rattle.std.proofs.lemmas.List.{append-nil}
 use Rattle.rbc_journal.specs.Journal.{recovered}
 use Rattle.rbc_kept.specs.Tells.{Tells}
@@ -65,11 +65,7 @@ module _ {Entry : Type 0} (adds : List Entry → List ℕ → Entry → Type 0) 
   ends file rest entries none so_far =
       subst (StandsFor adds file) (append-nil entries) (so_far [] (subst (λ (ls : List (List ℕ)). Tells adds entries ls []) (sym none) refl))
 
-  -- a file with one line more stands for the entries with one more
-  pub told_more : (file mid later : List ℕ) (staged : List (List ℕ)) (old new : List Entry) (line : List ℕ)
-      → recovered later ≡ recovered mid ++ staged → mid ≡ file → staged ≡ line ∷ []
-      → ((entry : Entry) × adds old line entry × (new ≡ old ++ entry ∷ [])) → StandsFor adds file old → StandsFor adds later new
-  told_more file mid later staged old new line is same one added told =
-      subst (StandsFor adds later) (sym added.2) (subst (λ (ls : List (List ℕ)). Tells adds [] ls (old ++ added.0 ∷ []))
-      (sym (is ∙ ap (λ (f : List ℕ). recovered f ++ staged) same ∙ ap (λ (ls : List (List ℕ)). recovered file ++ ls) one))
-      (one_more [] (recovered file) old line added.0 told added.1))
+  -- so many lines tell as many entries
+  pub as_many : (before : List Entry) (lines : List (List ℕ)) (entries : List Entry) → Tells adds before lines entries → length lines ≡ length entries
+  as_many before [] entries told = ap length (sym told)
+  as_many before (line ∷ lines) entries told = ap suc (as_many (before ++ told.0 ∷ []) lines told.1 told.4) ∙ ap length (sym told.2)

@@ -7,7 +7,6 @@ use Rattle.std.proofs.lemmas.List.Elements.{All-from_recursion}
 use Rattle.rbc_journal.specs.Journal.{IsLine}
 use Rattle.rbc_model.proofs.CountingLemmas.{both_of}
 use Rattle.rbc_model.proofs.SaidLineLemmas.{said_is_text}
-use Rattle.rbc_journal.specs.Settled.{IsSettled, staged}
 use Rattle.std.proofs.lemmas.Bool.{leb-true, lt-ltb}
 use Rattle.rbc_model.specs.declared.limits.TheConstants.{LONGEST_LINE}
 use Rattle.rbc_model.specs.declared.refusals.LineFault.{LineFault}
@@ -28,10 +27,7 @@ use Rattle.rbc_session_laws.specs.declared.demand.Demand.{Demand}
 use Rattle.rbc_session_laws.specs.declared.demand.Demand.TheVariants.{Nothing, Authority}
 use Rattle.rbc_session_laws.specs.Demands.{looked_up, demand_in}
 use Rattle.rbc_session_laws.specs.Turns.{AnswersAsker, AnswersDemand}
-use Rattle.rbc_kept.specs.Advances.{Advances, IsTreated}
-use Rattle.rbc_kept.specs.Kept.{IsReady}
-use Rattle.rbc_kept.specs.declared.kept.Kept.{Kept}
-use Rattle.rbc_kept.proofs.KeepingLemmas.{stays}
+use Rattle.rbc_kept.specs.Advances.{IsTreated}
 
 -- what is asked for comes to this
 abbrev pub ComesTo : Result Demand SessionRefusal → HistoryOnTrack → List ℕ → HistoryOnTrack → Type 0
@@ -82,18 +78,16 @@ treated_by first before after line text said demand reply same read says asks co
       says = says ∙ sym read;
     }
 
-module _ {D : Type 0} (seen : D → List ℕ) (may_leave : D → List ℕ → Type 0) (moment : D → ℕ) (left_since : D → ℕ → List ℕ → Type 0) (faults : D → ℕ)
-    (only_now : (file : D) (c : List ℕ) → left_since file (moment file) c → may_leave file c) where
-  -- nothing is added, and the reply is printed with the names of the track
-  pub stays_by : (first now : Kept D) (line : List ℕ) (said : SessionLine) (demand : Result Demand SessionRefusal) (reply : SessionReply) (track : Track)
-      → IsReady seen may_leave first → now.history ≡ first.history → now.has_failed ≡ false → now.journal.device ≡ first.journal.device
-      → IsSettled seen may_leave now.journal → staged now.journal ≡ [] → parse_session line ≡ Ok said → looked_up first.history.track said ≡ demand → track ≡ now.history.track
-      → ComesTo demand now.history (reply_text now.history.track reply) now.history → Advances seen may_leave moment left_since faults first line (reply_text track reply) now
-  stays_by first now line said demand reply track ready same whole device settled none read asks names comes =
-      let printed = printed_comes (λ t entries s added. AnswersDemand t entries s added demand) now.history now.history reply track names comes in
-      stays seen may_leave moment left_since faults only_now first now line (reply_text track reply) ready same whole device settled none
-      (goes_by first.history now.history line (reply_text track reply) said demand read asks
-      (subst (λ (h : HistoryOnTrack). ComesTo demand h (reply_text track reply) now.history) same printed))
+-- the same where the record was the same before
+pub goes_from : (first before after : HistoryOnTrack) (line reply : List ℕ) (said : SessionLine) (demand : Result Demand SessionRefusal) → before ≡ first → parse_session line ≡ Ok said
+    → looked_up first.track said ≡ demand → ComesTo demand before reply after → Goes first line reply after
+goes_from first before after line reply said demand same read asks comes =
+    goes_by first after line reply said demand read asks (subst (λ (h : HistoryOnTrack). ComesTo demand h reply after) same comes)
+
+-- and where it is the same after
+pub said_goes : (first after now : HistoryOnTrack) (line : List ℕ) (reply : SessionReply) → now ≡ after → Goes first line (reply_text after.track reply) after
+    → Goes first line (reply_text now.track reply) now
+said_goes first after now line reply same goes = subst (λ (h : HistoryOnTrack). Goes first line (reply_text h.track reply) h) (sym same) goes
 
 -- ---- lines that are refused before they are looked up
 

@@ -1,5 +1,5 @@
 -- A history and its journal.
-use Rattle.std.specs.Prelude.{◌≡◌, ◌≤◌, ℕ, List, [], length, take, false}
+use Rattle.std.specs.Prelude.{◌≡◌, ◌<◌, ◌≤◌, ℕ, List, [], ◌++◌, length, take, false}
 use Rattle.rbc_journal.specs.Journal.{recovered}
 use Rattle.rbc_journal.specs.Settled.{IsSettled, staged}
 use Rattle.rbc_journal.specs.declared.journal.Journal.{Journal}
@@ -7,14 +7,19 @@ use Rattle.rbc_server.specs.Records.{HistoryOnTrack}
 use Rattle.rbc_kept.specs.Tells.{Tells}
 use Rattle.rbc_kept.specs.Adds.{Adds}
 use Rattle.rbc_kept.specs.declared.kept.Kept.{Kept}
+use Rattle.rbc_kept.specs.declared.kept.TheConstants.{MOST_TOGETHER}
 
 -- a file stands for these entries
 abbrev pub StandsFor : {Entry : Type 0} → (List Entry → List ℕ → Entry → Type 0) → List ℕ → List Entry → Type 0
 StandsFor adds file entries = Tells adds [] (recovered file) entries
 
+-- a file stands for the first n of these entries, n being at least so many
+abbrev pub IsFrom : {Entry : Type 0} → (List Entry → List ℕ → Entry → Type 0) → ℕ → List Entry → List ℕ → Type 0
+IsFrom adds least entries file = (n : ℕ) × (least ≤ n) × (n ≤ length entries) × StandsFor adds file (take n entries)
+
 -- a file stands for the first n entries of the later history, n being at least the number of the earlier ones
 abbrev pub IsBetween : {Entry : Type 0} → (List Entry → List ℕ → Entry → Type 0) → List Entry → List Entry → List ℕ → Type 0
-IsBetween adds before after file = (n : ℕ) × (length before ≤ n) × (n ≤ length after) × StandsFor adds file (take n after)
+IsBetween adds before after file = IsFrom adds (length before) after file
 
 -- All of the journal is on the disk, nothing waits to be written, and the file stands for the history.
 pub record IsKept {D : Type 0} (seen : D → List ℕ) (may_leave : D → List ℕ → Type 0) (history : HistoryOnTrack) (journal : Journal D) : Type 0 where
@@ -22,7 +27,23 @@ pub record IsKept {D : Type 0} (seen : D → List ℕ) (may_leave : D → List �
   pub none_waits : staged journal ≡ []
   pub told : StandsFor (Adds history.track) (seen journal.device) history.entries
 
--- The journal has not failed, and tells the record.
+-- The journal has not failed, and tells the record. No reply rests.
 pub record IsReady {D : Type 0} (seen : D → List ℕ) (may_leave : D → List ℕ → Type 0) (kept : Kept D) : Type 0 where
   pub whole : kept.has_failed ≡ false
   pub is_kept : IsKept seen may_leave kept.history kept.journal
+  pub none_rests : kept.resting ≡ 0
+  pub none_held : kept.replies.bytes.items ≡ []
+  pub holds : kept.replies.failed ≡ false
+
+-- the file and the lines that are staged tell the record
+abbrev pub TellsRecord : {D : Type 0} → (D → List ℕ) → Kept D → Type 0
+TellsRecord seen kept = Tells (Adds kept.history.track) [] (recovered (seen kept.journal.device) ++ staged kept.journal) kept.history.entries
+
+-- The same between two lines of a session: fewer replies rest than may, and lines are staged only where one does.
+pub record IsGoing {D : Type 0} (seen : D → List ℕ) (may_leave : D → List ℕ → Type 0) (kept : Kept D) : Type 0 where
+  pub whole : kept.has_failed ≡ false
+  pub settled : IsSettled seen may_leave kept.journal
+  pub told : TellsRecord seen kept
+  pub few : kept.resting < MOST_TOGETHER
+  pub holds : kept.replies.failed ≡ false
+  pub none_rests : kept.resting ≡ 0 → (staged kept.journal ≡ []) × (kept.replies.bytes.items ≡ [])

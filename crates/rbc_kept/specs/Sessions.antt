@@ -1,31 +1,33 @@
 -- A session whose record is kept in a journal.
-use Rattle.std.specs.Prelude.{◌≡◌, ◌<◌, ℕ, List, ◌∷◌, ◌++◌, length, take, slice_get, Option, Some, Result, Ok, Err}
+use Rattle.std.specs.Prelude.{◌≡◌, ◌<◌, ◌≤◌, ◌+◌, ℕ, List, ◌++◌, length, take, slice_get, Option, Some, Result, Ok, Err}
 use Rattle.rbc_model.specs.declared.limits.TheConstants.{MOST_LINES}
 use Rattle.rbc_model.specs.Sessions.{lines_of, WritesPart}
 use Rattle.rbc_model.specs.Tracks.{Track}
 use Rattle.rbc_model.specs.Histories.{Entry}
 use Rattle.rbc_session_laws.specs.Turns.{AnswersLine}
-use Rattle.rbc_session_laws.specs.SessionRuns.{Turn, entries_of, entries_added, lines_treated, replies_to, IsSession}
+use Rattle.rbc_session_laws.specs.SessionRuns.{Turn, entries_added, lines_treated, replies_to, IsSession}
 use Rattle.rbc_kept.specs.Adds.{Adds}
 use Rattle.rbc_kept.specs.Kept.{IsBetween}
 use Rattle.rbc_kept.specs.declared.fault.RunFault.{RunFault}
+use Rattle.rbc_kept.specs.declared.kept.TheConstants.{MOST_TOGETHER}
 use Rattle.rbc_kept.specs.declared.fault.RunFault.TheVariants.{Session, Journal}
 
 -- A session over this input, from these entries to those, that the journal ended, where a crash from then on leaves such files. Its first lines were treated, each
--- after the entries of those before it. All that they added is on the disk. The next line was treated too, but has no reply: what was written is made of the
--- replies to those before it.
+-- after the entries of those before it. All that they added is on the disk, and what was written is made of the replies to them. So were the next lines, at most 64,
+-- but these have no reply.
 pub record IsCutShort (track : Track) (before after : List Entry) (input : List ℕ) (old new : Option (List ℕ)) (left : List ℕ → Type 0) : Type 0 where
   pub turns : List Turn
-  pub line : List ℕ
-  pub said : List ℕ
-  pub added : Option Entry
+  pub lost : List Turn
   pub rest : List (List ℕ)
-  pub lines : lines_of input ≡ lines_treated turns ++ line ∷ rest
-  pub few : length turns < MOST_LINES
+  pub lines : lines_of input ≡ lines_treated turns ++ (lines_treated lost ++ rest)
+  pub few : length turns + length lost ≤ MOST_LINES
+  pub some_lost : 0 < length lost
+  pub few_lost : length lost ≤ MOST_TOGETHER
   pub each : (place : ℕ) (turn : Turn) → slice_get turns place ≡ Some turn
       → AnswersLine track (before ++ entries_added (take place turns)) turn.line turn.reply turn.added
-  pub unanswered : AnswersLine track (before ++ entries_added turns) line said added
-  pub entries : after ≡ (before ++ entries_added turns) ++ entries_of added
+  pub each_lost : (place : ℕ) (turn : Turn) → slice_get lost place ≡ Some turn
+      → AnswersLine track ((before ++ entries_added turns) ++ entries_added (take place lost)) turn.line turn.reply turn.added
+  pub entries : after ≡ (before ++ entries_added turns) ++ entries_added lost
   pub written : WritesPart old new (replies_to turns)
   pub on_disk : (c : List ℕ) → left c → IsBetween (Adds track) (before ++ entries_added turns) after c
 

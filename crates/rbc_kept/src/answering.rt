@@ -1,30 +1,26 @@
 //! The centre with a journal answers lines: a reply that tells of an entry is written once the entry is on the disk.
 
-ghost use Rattle.std.specs.Prelude.{◌≡◌, ◌||◌, ◌<◌, ◌≤◌, ◌++◌, ◌∷◌, [], ℕ, List, false, is_err, length, Ok, IfOk, OnOk, OnErr};
-ghost use Rattle.std.specs.Io.KnownBytes.{Keeps};
+ghost use Rattle.std.specs.Prelude.{◌≡◌, ◌||◌, ◌++◌, ◌∷◌, [], ℕ, List, false, length, nat_lt, Ok, IfOk, MatchBool};
 ghost use Rattle.std.specs.Thread.{IsSync};
-ghost use Rattle.rbc_journal.specs.Device.{LeavesOnly};
-ghost use Rattle.rbc_journal.specs.Journal.{recovered, IsLine, IsBeforeOrAfter};
+ghost use Rattle.rbc_journal.specs.Journal.{IsLine};
 ghost use Rattle.rbc_journal.specs.Settled.{staged, IsSettled, HasRoom};
 ghost use Rattle.rbc_model.specs.HistoryText.{IsToldOfTrack};
 ghost use Rattle.rbc_model.specs.SessionText.{parse_session, IsSayable};
 ghost use Rattle.rbc_model.specs.Sessions.{Prints};
-ghost use Rattle.rbc_model.specs.SoundTracks.{IsInForm};
 ghost use Rattle.rbc_model.specs.Views.{view};
-ghost use Rattle.rbc_replies.specs.Replies.{reply_text, ReplyIsWhole};
 ghost use Rattle.rbc_server.specs.Records.{scene_now};
 ghost use Rattle.rbc_session_laws.specs.declared.demand.Demand.TheVariants.{Event, Authority};
 ghost use Rattle.rbc_session_laws.specs.Demands.{looked_up};
 ghost use Rattle.rbc_words.specs.SessionLines.{request_view};
-ghost use Rattle.rbc_kept.specs.Kept.{IsReady};
-ghost use Rattle.rbc_kept.specs.Advances.{Advances, IsAfter, IsTreated};
+ghost use Rattle.rbc_kept.specs.Kept.{IsGoing};
+ghost use Rattle.rbc_kept.specs.Advances.{Advances, RestsOnly};
 
 use crate::Kept;
 use crate::line_text::line_text;
 use rbc_journal::Device;
 use rbc_model::limits::LONGEST_LINE;
 use rbc_model::{LineFault, Memory, Told};
-use rbc_replies::{SessionRefusal, SessionReply, print};
+use rbc_replies::{SessionRefusal, SessionReply};
 use rbc_server::{View, candidate, commit, in_vain, looked_up, stopped, tell};
 use rbc_session_laws::Demand;
 use rbc_streams::{Answers, Sink, WriteFailed};
@@ -42,7 +38,7 @@ impl<D: Device> Answers<Centre> for Kept<D> {
     ghost use Rattle.std.specs.Prelude.{◌≡◌, ◌≤◌};
     ghost use Rattle.rbc_model.specs.declared.limits.TheConstants.{LONGEST_LINE};
     ghost use Rattle.rbc_kept.specs.Advances.{Advances, goes_on};
-    ghost use Rattle.rbc_kept.specs.Kept.{IsReady};
+    ghost use Rattle.rbc_kept.specs.Kept.{IsGoing};
 
     ghost longest = { LONGEST_LINE };
 
@@ -50,7 +46,9 @@ impl<D: Device> Answers<Centre> for Kept<D> {
 
     ghost answers = { Advances D.seen D.may_leave D.moment D.left_since D.faults };
 
-    ghost ready = { IsReady D.seen D.may_leave };
+    ghost rests = { λ kept. kept.resting };
+
+    ghost ready = { IsGoing D.seen D.may_leave };
 
     ghost broken = { λ kept. kept.has_failed };
 
@@ -71,20 +69,21 @@ impl<D: Device> Answers<Centre> for Kept<D> {
         alloc: Global,
         _centre: &Centre,
         line: &[u8],
+        more: bool,
         writer: &mut W,
     ) -> Result<(), WriteFailed> {
         match parse(line) {
-            Ok(request) => self.treat(rt, alloc, request, writer),
+            Ok(request) => self.treat(rt, alloc, request, more, writer),
             Err(fault) => {
                 let refused = SessionReply::Refused(SessionRefusal::BadLine(fault));
-                print(self.history.track(), &refused, writer)
+                self.say(&refused, more, writer)
             }
         }
     }
 
     fn refuse<W: Sink>(&mut self, _centre: &Centre, writer: &mut W) -> Result<(), WriteFailed> {
         let overlong = SessionReply::Refused(SessionRefusal::BadLine(LineFault::Overlong));
-        print(self.history.track(), &overlong, writer)
+        self.say(&overlong, false, writer)
     }
 }
 
@@ -99,25 +98,23 @@ impl<D: Device> Kept<D> {
         rt: &(impl Threads + Sync),
         alloc: Global,
         request: Request,
+        more: bool,
         writer: &mut W,
     ) -> Result<(), WriteFailed>
-        requires going { W.failed writer.old ≡ false }
-        requires ready { IsReady D.seen D.may_leave self.old }
+        requires works { W.failed writer.old ≡ false }
+        requires going { IsGoing D.seen D.may_leave self.old }
         requires sayable { IsSayable (request_view request) }
-        ensures { (reply : List ℕ)
+        ensures rests { RestsOnly more result self.new }
+        ensures text { (text : List ℕ)
             × ((line : List ℕ) → parse_session line ≡ Ok (request_view request)
-            → Advances D.seen D.may_leave D.moment D.left_since D.faults self.old line reply self.new)
-            × Prints (W.written writer.old) (W.written writer.new) (self.new.has_failed || W.failed writer.new) reply result }
+            → Advances D.seen D.may_leave D.moment D.left_since D.faults self.old line text self.new)
+            × Prints (W.written writer.old) (W.written writer.new) (self.new.has_failed || W.failed writer.new) text result }
     {
         match looked_up(self.history.track(), request) {
-            Ok(Demand::Nothing) => print(self.history.track(), &SessionReply::Nothing, writer),
-            Ok(Demand::Event(told)) => self.hear(alloc, &request, &told, writer),
-            Ok(Demand::Authority(train)) => self.ask(rt, alloc, &request, train, writer),
-            Err(refusal) => print(
-                self.history.track(),
-                &SessionReply::Refused(refusal),
-                writer,
-            ),
+            Ok(Demand::Nothing) => self.say(&SessionReply::Nothing, more, writer),
+            Ok(Demand::Event(told)) => self.hear(alloc, &request, &told, more, writer),
+            Ok(Demand::Authority(train)) => self.ask(rt, alloc, &request, train, more, writer),
+            Err(refusal) => self.say(&SessionReply::Refused(refusal), more, writer),
         }
     }
 
@@ -131,26 +128,29 @@ impl<D: Device> Kept<D> {
         alloc: Global,
         request: &Request,
         told: &Told,
+        more: bool,
         writer: &mut W,
     ) -> Result<(), WriteFailed>
-        requires going { W.failed writer.old ≡ false }
-        requires ready { IsReady D.seen D.may_leave self.old }
+        requires works { W.failed writer.old ≡ false }
+        requires going { IsGoing D.seen D.may_leave self.old }
         requires sayable { IsSayable (request_view request.now) }
         requires demand { looked_up self.old.history.track (request_view request.now) ≡ Ok (Event told.now) }
         requires of_track { IsToldOfTrack self.old.history.track told.now }
-        ensures { (reply : List ℕ)
+        ensures rests { RestsOnly more result self.new }
+        ensures text { (text : List ℕ)
             × ((line : List ℕ) → parse_session line ≡ Ok (request_view request.now)
-            → Advances D.seen D.may_leave D.moment D.left_since D.faults self.old line reply self.new)
-            × Prints (W.written writer.old) (W.written writer.new) (self.new.has_failed || W.failed writer.new) reply result }
+            → Advances D.seen D.may_leave D.moment D.left_since D.faults self.old line text self.new)
+            × Prints (W.written writer.old) (W.written writer.new) (self.new.has_failed || W.failed writer.new) text result }
     {
         // The track is in form.
         let before = self.history.version();
         let Ok(text) = self.make_room(alloc, request) else {
             let reply = in_vain(&self.history, told);
-            return print(self.history.track(), &reply, writer);
+            return self.say(&reply, more, writer);
         };
         let reply = tell(alloc, &mut self.history, told);
-        self.acknowledge(before, text.as_slice(), &reply, writer)
+        self.stage(before, text.as_slice());
+        self.say(&reply, more, writer)
     }
 
     /// Treats a train that asks for an authority.
@@ -164,22 +164,24 @@ impl<D: Device> Kept<D> {
         alloc: Global,
         request: &Request,
         train: u32,
+        more: bool,
         writer: &mut W,
     ) -> Result<(), WriteFailed>
-        requires going { W.failed writer.old ≡ false }
-        requires ready { IsReady D.seen D.may_leave self.old }
+        requires works { W.failed writer.old ≡ false }
+        requires going { IsGoing D.seen D.may_leave self.old }
         requires sayable { IsSayable (request_view request.now) }
         requires demand { looked_up self.old.history.track (request_view request.now) ≡ Ok (Authority train) }
-        ensures { (reply : List ℕ)
+        ensures rests { RestsOnly more result self.new }
+        ensures text { (text : List ℕ)
             × ((line : List ℕ) → parse_session line ≡ Ok (request_view request.now)
-            → Advances D.seen D.may_leave D.moment D.left_since D.faults self.old line reply self.new)
-            × Prints (W.written writer.old) (W.written writer.new) (self.new.has_failed || W.failed writer.new) reply result }
+            → Advances D.seen D.may_leave D.moment D.left_since D.faults self.old line text self.new)
+            × Prints (W.written writer.old) (W.written writer.new) (self.new.has_failed || W.failed writer.new) text result }
     {
         match self.history.view(alloc, train) {
-            Ok(shown) => self.grant(rt, alloc, request, shown, writer),
+            Ok(shown) => self.grant(rt, alloc, request, shown, more, writer),
             Err(fault) => {
                 let reply = stopped(&self.history, train, fault);
-                print(self.history.track(), &reply, writer)
+                self.say(&reply, more, writer)
             }
         }
     }
@@ -195,35 +197,30 @@ impl<D: Device> Kept<D> {
         alloc: Global,
         request: &Request,
         shown: View,
+        more: bool,
         writer: &mut W,
     ) -> Result<(), WriteFailed>
-        requires going { W.failed writer.old ≡ false }
-        requires ready { IsReady D.seen D.may_leave self.old }
+        requires works { W.failed writer.old ≡ false }
+        requires going { IsGoing D.seen D.may_leave self.old }
         requires sayable { IsSayable (request_view request.now) }
         requires demand { looked_up self.old.history.track (request_view request.now) ≡ Ok (Authority shown.train) }
         requires shown { view self.old.history.track (scene_now self.old.history) shown.train ≡ Ok shown }
-        ensures { (reply : List ℕ)
+        ensures rests { RestsOnly more result self.new }
+        ensures text { (text : List ℕ)
             × ((line : List ℕ) → parse_session line ≡ Ok (request_view request.now)
-            → Advances D.seen D.may_leave D.moment D.left_since D.faults self.old line reply self.new)
-            × Prints (W.written writer.old) (W.written writer.new) (self.new.has_failed || W.failed writer.new) reply result }
+            → Advances D.seen D.may_leave D.moment D.left_since D.faults self.old line text self.new)
+            × Prints (W.written writer.old) (W.written writer.new) (self.new.has_failed || W.failed writer.new) text result }
     {
         let before = self.history.version();
         let Ok(text) = self.make_room(alloc, request) else {
-            return print(
-                self.history.track(),
-                &SessionReply::Refused(SessionRefusal::Memory),
-                writer,
-            );
+            return self.say(&SessionReply::Refused(SessionRefusal::Memory), more, writer);
         };
         let Ok(candidate) = candidate(rt, alloc, shown, before) else {
-            return print(
-                self.history.track(),
-                &SessionReply::Refused(SessionRefusal::Memory),
-                writer,
-            );
+            return self.say(&SessionReply::Refused(SessionRefusal::Memory), more, writer);
         };
         let reply = commit(alloc, &mut self.history, &candidate);
-        self.acknowledge(before, text.as_slice(), &reply, writer)
+        self.stage(before, text.as_slice());
+        self.say(&reply, more, writer)
     }
 
     /// Makes room for the line of a request in the journal, and tells that line.
@@ -236,6 +233,8 @@ impl<D: Device> Kept<D> {
         requires sayable { IsSayable (request_view request.now) }
         ensures history { self.new.history ≡ self.old.history }
         ensures whole { self.new.has_failed ≡ self.old.has_failed }
+        ensures replies { self.new.replies ≡ self.old.replies }
+        ensures resting { self.new.resting ≡ self.old.resting }
         ensures device { self.new.journal.device ≡ self.old.journal.device }
         ensures staged { staged self.new.journal ≡ staged self.old.journal }
         ensures settled { IsSettled D.seen D.may_leave self.new.journal }
@@ -250,67 +249,22 @@ impl<D: Device> Kept<D> {
         }
     }
 
-    /// Prints the reply to a line, once its entry is on the disk, if it has added one since the record was at a version.
-    ///
-    /// # Errors
-    ///
-    /// As above. Where the journal fails, the replies before this one are handed on.
-    fn acknowledge<W: Sink>(
-        &mut self,
-        before: u64,
-        text: &[u8],
-        reply: &SessionReply,
-        writer: &mut W,
-    ) -> Result<(), WriteFailed>
-        requires going { W.failed writer.old ≡ false }
-        requires whole { self.old.has_failed ≡ false }
+    /// Stages the line of an entry, for which there is room, if the record has gained one since it was at a version.
+    fn stage(&mut self, before: u64, text: &[u8])
         requires settled { IsSettled D.seen D.may_leave self.old.journal }
-        requires none_staged { staged self.old.journal ≡ [] }
         requires room { HasRoom self.old.journal (length text.now) }
         requires line { IsLine text.now }
-        requires reply { ReplyIsWhole self.old.history.track reply.now }
-        ensures { (first : Kept D) → IsAfter D.seen D.may_leave first self.old before → (said : List ℕ)
-            × ((line : List ℕ) → IsTreated first.history self.old.history line text.now (reply_text self.old.history.track reply.now)
-            → Advances D.seen D.may_leave D.moment D.left_since D.faults first line said self.new)
-            × Prints (W.written writer.old) (W.written writer.new) (self.new.has_failed || W.failed writer.new) said result }
+        ensures history { self.new.history ≡ self.old.history }
+        ensures whole { self.new.has_failed ≡ self.old.has_failed }
+        ensures replies { self.new.replies ≡ self.old.replies }
+        ensures resting { self.new.resting ≡ self.old.resting }
+        ensures device { self.new.journal.device ≡ self.old.journal.device }
+        ensures settled { IsSettled D.seen D.may_leave self.new.journal }
+        ensures staged { MatchBool (nat_lt before (length self.old.history.entries))
+            (staged self.new.journal ≡ staged self.old.journal ++ text.now ∷ []) (staged self.new.journal ≡ staged self.old.journal) }
     {
         if self.history.version() > before {
-            self.put(text, writer)?;
-            return print(self.history.track(), reply, writer);
+            self.journal.stage(text);
         }
-        print(self.history.track(), reply, writer)
-    }
-
-    /// Puts a line, for which there is room, into the journal.
-    ///
-    /// # Errors
-    ///
-    /// The journal failed. What was written so far is handed on, if the writer takes it.
-    fn put<W: Sink>(&mut self, text: &[u8], writer: &mut W) -> Result<(), WriteFailed>
-        requires going { W.failed writer.old ≡ false }
-        requires settled { IsSettled D.seen D.may_leave self.old.journal }
-        requires none_staged { staged self.old.journal ≡ [] }
-        requires room { HasRoom self.old.journal (length text.now) }
-        requires line { IsLine text.now }
-        requires whole { self.old.has_failed ≡ false }
-        ensures history { self.new.history ≡ self.old.history }
-        ensures acknowledged { OnOk result (IsSettled D.seen D.may_leave self.new.journal
-            × (recovered (D.seen self.new.journal.device) ≡ recovered (D.seen self.old.journal.device) ++ text.now ∷ [])
-            × (staged self.new.journal ≡ [])) }
-        ensures any_moment { LeavesOnly D.moment D.left_since self.old.journal.device self.new.journal.device
-            (IsBeforeOrAfter (recovered (D.seen self.old.journal.device)) (text.now ∷ [])) }
-        ensures later { D.faults self.old.journal.device ≤ D.faults self.new.journal.device }
-        ensures failed { OnErr result (D.faults self.old.journal.device < D.faults self.new.journal.device) }
-        ensures broken { self.new.has_failed ≡ is_err result }
-        ensures writer { OnOk result (writer.new ≡ writer.old) }
-        ensures written { Keeps (W.written writer.old) (W.written writer.new) }
-    {
-        self.journal.stage(text);
-        if self.journal.commit().is_ok() {
-            return Ok(());
-        }
-        self.has_failed = true;
-        writer.flush()?;
-        Err(WriteFailed)
     }
 }

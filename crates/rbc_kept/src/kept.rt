@@ -8,20 +8,28 @@ ghost use Rattle.rbc_kept.specs.Kept.{IsReady};
 
 use crate::KeptFault;
 use crate::replaying::replay;
+use crate::text::Text;
 use rbc_journal::{Device, Journal};
 use rbc_server::Record;
 use std::alloc::Global;
 use std::thread::Threads;
 
-/// A record, and the journal that tells it.
+/// How many lines are put together at most: those whose replies rest until their entries are on the disk, and one more.
+pub(crate) const MOST_TOGETHER: usize = 64;
+
+/// A record, and the journal that tells it. In a session its last lines may be staged and their replies rest.
 #[derive(Drop)]
 pub struct Kept<D: Device> {
     /// The record.
     pub(crate) history: Record,
     /// Its journal.
     pub(crate) journal: Journal<D>,
-    /// Whether the journal has failed. Then the record may have an entry that the journal does not tell, and takes no more.
+    /// Whether the journal has failed. Then the record may have entries that the journal does not tell, and takes no more.
     pub(crate) has_failed: bool,
+    /// The replies that rest.
+    pub(crate) replies: Text,
+    /// How many lines they answer.
+    pub(crate) resting: usize,
 }
 
 impl<D: Device> Kept<D> {
@@ -63,12 +71,14 @@ impl<D: Device> Kept<D> {
                 history,
                 journal,
                 has_failed: false,
+                replies: Text::new(alloc),
+                resting: 0,
             }),
             Err((fault, device)) => Err((KeptFault::from(fault), device)),
         }
     }
 
-    /// The record, unless the journal has failed: then it may have an entry that the journal does not tell.
+    /// The record, unless the journal has failed: then it may have entries that the journal does not tell.
     pub fn history(&self) -> Option<&Record>
         requires { self.now.has_failed ≡ false → IsReady D.seen D.may_leave self.now }
         ensures some { is_some result ≡ not self.now.has_failed }

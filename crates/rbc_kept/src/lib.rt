@@ -7,7 +7,9 @@ mod kept;
 mod laws;
 mod line_text;
 mod replaying;
+mod saying;
 mod sessions;
+mod text;
 
 pub use fault::{KeptFault, RunFault};
 pub use kept::Kept;

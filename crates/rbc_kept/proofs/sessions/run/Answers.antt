@@ -2,8 +2,12 @@ use Rattle.std.proofs.Common.{◌∙◌, sym}
 use Rattle.std.specs.Io.KnownBytes.{IsAtEnd}
 use Rattle.rbc_server.specs.Answered.{AnswersAll}
 use Rattle.rbc_kept.proofs.EndLemmas.{read_told, write_told, journal_told, broken_told, memory_told, ok_told, handed_told}
+use Rattle.rbc_kept.proofs.KeepingLemmas.{ready_goes}
 use Rattle.rbc_kept.proofs.TalkLemmas.{leaves_in, track_in, ready_after, fails_in, kept_session, kept_answers}
 use Rattle.rbc_kept.proofs.sessions.run.Goals as goal
+
+pub converse-ended-requires-clause-ready : goal.converse-ended-requires-clause-ready
+converse-ended-requires-clause-ready g c κs within = ready_goes g.D.Device.seen g.D.Device.may_leave c.args.kept.now c.requires.ready
 
 pub returns-clause-read : goal.returns-clause-read
 returns-clause-read g c = rw c.run_end.ensures (read_told c.converse-ended.result c.converse-ended.new.answerer.has_failed _ _ c.converse-ended.ensures.read c.converse-ended.ensures.write)
@@ -31,7 +35,7 @@ returns-clause-end g c =
 pub returns-clause-ready : goal.returns-clause-ready
 returns-clause-ready g c whole =
     ready_after g.D.Device.seen g.D.Device.may_leave g.D.Device.moment g.D.Device.left_since g.D.Device.faults g.met.D.Device.only_now g.met.D.Device.counts_now
-    c.args.kept.now c.converse-ended.new.answerer c.converse-ended.ensures.talk.0 _ _ c.converse-ended.result c.requires.ready c.converse-ended.ensures.talk.2 whole
+    c.args.kept.now c.converse-ended.new.answerer c.converse-ended.ensures.talk.0 _ _ c.converse-ended.result c.requires.ready c.converse-ended.ensures.talk.2 c.converse-ended.ensures.none_rests whole
 
 pub returns-clause-any_moment : goal.returns-clause-any_moment
 returns-clause-any_moment g c =
@@ -49,7 +53,7 @@ returns-clause-session g c = (
   c.converse-ended.ensures.talk.1,
   rw c.run_end.ensures
       (kept_session g.D.Device.seen g.D.Device.may_leave g.D.Device.moment g.D.Device.left_since g.D.Device.faults g.met.D.Device.only_now g.met.D.Device.counts_now
-      c.args.kept.now c.converse-ended.new.answerer c.converse-ended.ensures.talk.0 _ _ c.converse-ended.result (g.W.Sink.failed c.converse-ended.new.writer) c.requires.ready c.converse-ended.ensures.talk.2 c.converse-ended.ensures.write),
+      c.args.kept.now c.converse-ended.new.answerer c.converse-ended.ensures.talk.0 _ _ c.converse-ended.result (g.W.Sink.failed c.converse-ended.new.writer) c.converse-ended.ensures.none_rests c.requires.ready c.converse-ended.ensures.talk.2 c.converse-ended.ensures.write),
 )
 
 pub returns-clause-answers : goal.returns-clause-answers
@@ -59,7 +63,7 @@ returns-clause-answers g c =
     (AnswersAll c.args.kept.now.history c.converse-ended.new.answerer.history (g.R.Source.left c.args.reader.now) (g.W.Sink.written c.args.writer.now) (g.W.Sink.written c.converse-ended.new.writer))
     (λ whole.
     kept_answers g.D.Device.seen g.D.Device.may_leave g.D.Device.moment g.D.Device.left_since g.D.Device.faults g.met.D.Device.only_now g.met.D.Device.counts_now
-    c.args.kept.now c.converse-ended.new.answerer c.converse-ended.ensures.talk.0 _ _ _ _ c.converse-ended.result c.version-version.ensures.form c.converse-ended.ensures.end c.converse-ended.ensures.talk.1 c.converse-ended.ensures.talk.2 whole))
+    c.args.kept.now c.converse-ended.new.answerer c.converse-ended.ensures.talk.0 _ _ _ _ c.converse-ended.result c.version-version.ensures.form c.requires.ready c.converse-ended.ensures.none_rests c.converse-ended.ensures.end c.converse-ended.ensures.talk.1 c.converse-ended.ensures.talk.2 whole))
 
 pub returns-clause-handed_on : goal.returns-clause-handed_on
 returns-clause-handed_on g c =

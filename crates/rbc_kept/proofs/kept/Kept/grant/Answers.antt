@@ -4,65 +4,73 @@ use Rattle.rbc_model.specs.Views.{View}
 use Rattle.rbc_replies.specs.Replies.{reply_text, ReplyIsWhole}
 use Rattle.rbc_replies.specs.declared.replies.SessionRefusal.TheVariants.{Memory as NoMemory}
 use Rattle.rbc_replies.specs.declared.replies.SessionReply.TheVariants.{Refused as RefusedReply}
-use Rattle.rbc_server.specs.Records.{HistoryOnTrack}
 use Rattle.rbc_session_laws.specs.declared.demand.Demand.TheVariants.{Authority}
+use Rattle.rbc_server.specs.Records.{HistoryOnTrack}
 use Rattle.rbc_words.specs.SessionLines.{request_view}
-use Rattle.rbc_kept.proofs.KeepingLemmas.{prints_whole}
-use Rattle.rbc_kept.proofs.TreatingLemmas.{ComesTo, given_up, stays_by, treated_by}
+use Rattle.rbc_kept.specs.declared.text.Text.{Text}
+use Rattle.rbc_kept.proofs.KeepingLemmas.{advances, told_still, told_after}
+use Rattle.rbc_kept.proofs.TreatingLemmas.{ComesTo, given_up, goes_from, said_goes, treated_by}
 use Rattle.rbc_kept.proofs.kept.Kept.grant.Goals as goal
 
-pub returns-in_default : goal.returns-in_default
-returns-in_default g c =
+pub returns-in_default-clause-text : goal.returns-in_default-clause-text
+returns-in_default-clause-text g c =
     let first = c.args.self.now in
     let now = c.make_room.new.self in
-    let ready = c.requires.ready in
-    let track = c.deref.result.now in
-    let train = c.args.shown.train in
-    let reply = reply_text track (RefusedReply NoMemory) in
-    let whole = c.make_room.ensures.whole ∙ ready.whole in (
-      reply,
-      λ line read.
-          stays_by g.D.Device.seen g.D.Device.may_leave g.D.Device.moment g.D.Device.left_since g.D.Device.faults g.met.D.Device.only_now first now line (request_view c.args.request.now) (Ok (Authority train))
-          (RefusedReply NoMemory) track ready c.make_room.ensures.history whole c.make_room.ensures.device c.make_room.ensures.settled
-          (c.make_room.ensures.staged ∙ ready.is_kept.none_waits) read c.requires.demand (c.deref.ensures ∙ c.track.ensures)
-          (given_up first.history now.history train c.args.shown c.make_room.ensures.history c.requires.shown),
-      prints_whole (g.W.Sink.written c.args.writer.now) (g.W.Sink.written c.print.new.writer) now.has_failed (g.W.Sink.failed c.print.new.writer) reply c.print.result whole c.print.ensures,
-    )
-
-pub returns-in_default-candidate : goal.returns-in_default-candidate
-returns-in_default-candidate g c =
-    let first = c.args.self.now in
-    let now = c.make_room.new.self in
-    let ready = c.requires.ready in
-    let track = c.deref-in_default-candidate.result.now in
-    let train = c.args.shown.train in
-    let reply = reply_text track (RefusedReply NoMemory) in
-    let whole = c.make_room.ensures.whole ∙ ready.whole in (
-      reply,
-      λ line read.
-          stays_by g.D.Device.seen g.D.Device.may_leave g.D.Device.moment g.D.Device.left_since g.D.Device.faults g.met.D.Device.only_now first now line (request_view c.args.request.now) (Ok (Authority train))
-          (RefusedReply NoMemory) track ready c.make_room.ensures.history whole c.make_room.ensures.device c.make_room.ensures.settled
-          (c.make_room.ensures.staged ∙ ready.is_kept.none_waits) read c.requires.demand (c.deref-in_default-candidate.ensures ∙ c.track-in_default-candidate.ensures)
-          (given_up first.history now.history train c.args.shown c.make_room.ensures.history c.requires.shown),
-      prints_whole (g.W.Sink.written c.args.writer.now) (g.W.Sink.written c.print-in_default-candidate.new.writer) now.has_failed (g.W.Sink.failed c.print-in_default-candidate.new.writer) reply c.print-in_default-candidate.result whole c.print-in_default-candidate.ensures,
-    )
-
-pub acknowledge-requires-clause-reply : goal.acknowledge-requires-clause-reply
-acknowledge-requires-clause-reply g c =
-    subst (λ t. ReplyIsWhole t c.commit-reply.result) (sym (ap (λ (h : HistoryOnTrack). h.track) c.commit-reply.ensures.comes.2)) c.commit-reply.ensures.whole
-
-pub returns : goal.returns
-returns g c =
-    let first = c.args.self.now in
-    let before = c.make_room.new.self.history in
-    let after = c.commit-reply.new.history in
-    let comes = subst (λ (v : View). ComesTo (Ok (Authority v.train)) before (reply_text before.track c.commit-reply.result) after) c.in-Ok-candidate.ensures.view c.commit-reply.ensures.comes in
-    let done = c.acknowledge.ensures first
-    record { ready = c.requires.ready; form = c.version-before.ensures.form; version_is = c.version-before.ensures.count; device = c.make_room.ensures.device } in (
+    let room = c.make_room.ensures in
+    let reply = reply_text now.history.track (RefusedReply NoMemory) in
+    let comes = given_up first.history now.history c.args.shown.train c.args.shown room.history c.requires.shown in
+    let done = c.say.ensures.said in (
       done.0,
       λ line read.
-          done.1 line
-          (treated_by first.history before after line c.as_slice.result.now (request_view c.args.request.now) (Ok (Authority c.args.shown.train)) c.commit-reply.result
-          c.make_room.ensures.history read (ap parse_session c.as_slice.ensures.value ∙ c.in-Ok.ensures.says) c.requires.demand comes),
+          advances g.D.Device.seen g.D.Device.may_leave g.D.Device.moment g.D.Device.left_since g.D.Device.faults first now c.say.new.self line reply done.0 c.requires.going
+          (goes_from first.history now.history now.history line reply (request_view c.args.request.now) (Ok (Authority c.args.shown.train)) room.history read c.requires.demand comes)
+          (told_still g.D.Device.seen first now c.requires.going.told room.history room.device room.staged) room.device (ap (λ (t : Text). t.bytes.items) room.replies) room.resting done.1,
+      done.2,
+    )
+
+pub returns-in_default-candidate-clause-text : goal.returns-in_default-candidate-clause-text
+returns-in_default-candidate-clause-text g c =
+    let first = c.args.self.now in
+    let now = c.make_room.new.self in
+    let room = c.make_room.ensures in
+    let reply = reply_text now.history.track (RefusedReply NoMemory) in
+    let comes = given_up first.history now.history c.args.shown.train c.args.shown room.history c.requires.shown in
+    let done = c.say-in_default-candidate.ensures.said in (
+      done.0,
+      λ line read.
+          advances g.D.Device.seen g.D.Device.may_leave g.D.Device.moment g.D.Device.left_since g.D.Device.faults first now c.say-in_default-candidate.new.self line reply done.0 c.requires.going
+          (goes_from first.history now.history now.history line reply (request_view c.args.request.now) (Ok (Authority c.args.shown.train)) room.history read c.requires.demand comes)
+          (told_still g.D.Device.seen first now c.requires.going.told room.history room.device room.staged) room.device (ap (λ (t : Text). t.bytes.items) room.replies) room.resting done.1,
+      done.2,
+    )
+
+pub say-requires-2-clause-reply : goal.say-requires-2-clause-reply
+say-requires-2-clause-reply g c =
+    subst (λ (h : HistoryOnTrack). ReplyIsWhole h.track c.commit-reply.result) (sym c.stage.ensures.history)
+    (subst (λ t. ReplyIsWhole t c.commit-reply.result) (sym (ap (λ (h : HistoryOnTrack). h.track) c.commit-reply.ensures.comes.2)) c.commit-reply.ensures.whole)
+
+pub returns-clause-text : goal.returns-clause-text
+returns-clause-text g c =
+    let first = c.args.self.now in
+    let made = c.make_room.new.self in
+    let room = c.make_room.ensures in
+    let after = c.commit-reply.new.history in
+    let now = c.stage.new.self in
+    let kept = c.stage.ensures in
+    let device = kept.device ∙ room.device in
+    let reply = reply_text now.history.track c.commit-reply.result in
+    let comes = subst (λ (v : View). ComesTo (Ok (Authority v.train)) made.history (reply_text made.history.track c.commit-reply.result) after) c.in-Ok-candidate.ensures.view c.commit-reply.ensures.comes in
+    let done = c.say-2.ensures.said in (
+      done.0,
+      λ line read.
+          let treated =
+              treated_by first.history made.history after line c.as_slice.result.now (request_view c.args.request.now) (Ok (Authority c.args.shown.train)) c.commit-reply.result room.history read
+              (ap parse_session c.as_slice.ensures.value ∙ c.in-Ok.ensures.says) c.requires.demand comes in
+          let told =
+              told_after g.D.Device.seen first made now line c.as_slice.result.now (reply_text after.track c.commit-reply.result) c.version-before.result after c.version-before.ensures.form c.version-before.ensures.count
+              treated c.requires.going.told kept.history device room.staged kept.staged in
+          advances g.D.Device.seen g.D.Device.may_leave g.D.Device.moment g.D.Device.left_since g.D.Device.faults first now c.say-2.new.self line reply done.0 c.requires.going
+          (said_goes first.history after now.history line c.commit-reply.result kept.history treated.goes) told device
+          (ap (λ (t : Text). t.bytes.items) (kept.replies ∙ room.replies)) (kept.resting ∙ room.resting) done.1,
       done.2,
     )
