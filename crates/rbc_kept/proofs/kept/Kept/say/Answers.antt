@@ -31,7 +31,7 @@ returns-in_err-settle-clause-said g c =
       cond next.has_failed [] (mid.replies.bytes.items ++ reply),
       said_settled g.D.Device.seen g.D.Device.may_leave g.D.Device.moment g.D.Device.left_since g.D.Device.faults now mid next reply (cond next.has_failed [] (mid.replies.bytes.items ++ reply)) did.history did.journal same put.history put.acknowledged put.any_moment put.later put.failed put.holds put.none_rests refl,
       prints_lost (g.W.Sink.written c.args.writer.now) (g.W.Sink.written c.settle.new.writer) next.has_failed (g.W.Sink.failed c.settle.new.writer) mid.replies.bytes.items reply
-          c.in_err-settle.field-0 c.from_residual.result (ap (λ r. is_err r) told.1) c.in_err-settle.ensures.written (λ broken. let u = c.in_err-settle.ensures.unwritten broken in u.0),
+          c.in_err-settle.field-0.0 c.from_residual.result (ap (λ r. is_err r) told.1) c.in_err-settle.ensures.written (λ broken. let u = c.in_err-settle.ensures.unwritten broken in u.0),
     )
 
 pub returns-clause-said : goal.returns-clause-said
