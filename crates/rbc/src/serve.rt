@@ -6,14 +6,13 @@ ghost use Rattle.rbc.specs.Listening.{listening_line};
 
 use crate::command_line::Service;
 use crate::failure::Failure;
-use rbc_kept::server::{Blank, Desk, DeskName, Port, Record};
+use rbc_kept::server::{Blank, Client, Clients, Desk, DeskName, Record};
 use rbc_model::Memory;
 use rbc_track::Track;
-use rbc_words::{Sink, Word, WriteFailed, print_line};
+use rbc_words::{Sink, Source, Word, WriteFailed, print_line};
 use std::alloc::Global;
-use std::io::{Eprint, Read, Write};
+use std::io::Eprint;
 use std::marker::Brand;
-use std::net::{OpenListener, OpenStream};
 use std::sync::{Arc, Wait};
 use std::thread::Threads;
 use std::time::Clock;
@@ -47,14 +46,17 @@ fn print_port<W: Sink>(port: u16, writer: &mut W) -> Result<(), WriteFailed>
 ///
 /// `Memory` for the record or the desk, and those of [`rbc_kept::server::serve`].
 pub(crate) fn serve<
-    S: Read + Write + OpenStream + Send + Drop,
-    N: OpenListener<Stream = S> + Drop,
+    I: Source + Send + Drop,
+    O: Sink + Send + Drop,
+    G: Send + Drop,
+    C: Client<Reader = I, Writer = O, Gone = G> + Send + Drop,
+    P: Clients<Each = C> + Drop,
     W: Sink,
     T: Threads + Wait + Clock + Eprint + Sync,
 >(
     rt: &T,
     alloc: Global,
-    port: Port<N>,
+    port: P,
     track: Arc<Track>,
     service: &Service,
     writer: &mut W,
@@ -65,7 +67,7 @@ pub(crate) fn serve<
     let log = Record::new(alloc, track)?;
     let seats = service.connections + service.workers;
     let blank = Blank::new(seats);
-    open::<Brand, S, N, W, T>(
+    open::<Brand, I, O, G, C, P, W, T>(
         rt,
         alloc,
         port,
@@ -81,14 +83,17 @@ pub(crate) fn serve<
 /// Serves connections at a desk over the record.
 fn open<
     L: DeskName + Send + Sync,
-    S: Read + Write + OpenStream + Send + Drop,
-    N: OpenListener<Stream = S> + Drop,
+    I: Source + Send + Drop,
+    O: Sink + Send + Drop,
+    G: Send + Drop,
+    C: Client<Reader = I, Writer = O, Gone = G> + Send + Drop,
+    P: Clients<Each = C> + Drop,
     W: Sink,
     T: Threads + Wait + Clock + Eprint + Sync,
 >(
     rt: &T,
     alloc: Global,
-    port: Port<N>,
+    port: P,
     track: &Track,
     log: Record,
     seats: usize,
@@ -108,6 +113,15 @@ fn open<
     requires few { seats ≤ 16 }
 {
     let (desk, seats) = Desk::<L>::new(rt, alloc, log, seats, blank)?;
-    rbc_kept::server::serve(rt, alloc, port, track, desk, seats, connections, writer)?;
+    let _served = rbc_kept::server::serve(
+        rt,
+        alloc,
+        port,
+        track,
+        desk,
+        seats,
+        connections,
+        writer,
+    )?;
     Ok(())
 }

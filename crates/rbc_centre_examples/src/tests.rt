@@ -4,6 +4,7 @@ mod crowds;
 mod desks;
 mod faults;
 mod gates;
+mod guests;
 mod memory;
 mod records;
 mod replays;

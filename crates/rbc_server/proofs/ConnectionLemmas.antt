@@ -1,35 +1,107 @@
--- Connections, each served from a seat.
-use Rattle.std.proofs.Common.{◌≡◌, ℕ, List, [], ◌∷◌, ◌++◌, length, take, map, Option, None, Result, Err, refl, sym, ap, ◌∙◌, subst, append_assoc, lit≤, arith}
-use Rattle.std.proofs.lemmas.List.{append-nil, map_push}
+-- Connections: each client is served from a seat.
+use Rattle.std.proofs.Common.{◌≡◌, ℕ, ◌+◌, ◌<◌, ◌≤◌, Bool, true, false, List, [], ◌∷◌, ◌++◌, length, take, map, Option, Some, None, Result, Err, refl, sym, ap, ◌∙◌, subst, append_assoc, lit≤, arith}
+use Rattle.std.specs.Prelude.{◌↔◌, All, IsTrue, OnOk}
+use Rattle.std.proofs.lemmas.List.{append-nil, length-map, map_push}
+use Rattle.std.proofs.lemmas.List.Elements.{All-nil, All-cons}
 use Rattle.std.specs.List.{AllZip}
+use Rattle.std.specs.Io.KnownBytes.{Appends, Consumes, IsAtEnd}
 use Rattle.rbc_model.specs.declared.sessions.SessionFault.{SessionFault}
-use Rattle.rbc_model.specs.declared.sessions.SessionFault.TheVariants.{Memory}
+use Rattle.rbc_model.specs.declared.sessions.SessionFault.TheVariants.{Read, Write, Memory}
+use Rattle.rbc_port.specs.Clients.{Came, Coming, FewerCome, NoneComes, Parting, unheard}
 use Rattle.rbc_sweep.specs.Seats.{Seated}
+use Rattle.rbc_server.specs.Connections.{AreConnections, Connection, IsConnection}
 use Rattle.rbc_server.specs.SeatAnswers.{AreLineAnswers}
 use Rattle.rbc_server.specs.SeatSessions.{IsSeatSession}
-use Rattle.rbc_server.specs.Serving.{IsConnection}
 
 pub take_append : {A : Type 0} (xs ys : List A) → take (length xs) (xs ++ ys) ≡ xs
 take_append [] ys = refl
 take_append (x ∷ xs) ys = ap (λ l. x ∷ l) (take_append xs ys)
 
--- a session of the seat
-pub talked : (before after : Seated) (input : List ℕ) (old new : Option (List ℕ)) (ended : Result (Unit {0}) SessionFault) (session : IsSeatSession before after input old new ended)
-    → AreLineAnswers before.told session.turns → IsConnection before after
-talked before after input old new ended session answers = record { input = input; old = old; new = new; ended = ended; session = session; answers = answers }
+-- ---- one connection
+
+-- a session with the client, from the seat
+pub talked : (came : Coming) (before after : Seated) (went : Parting) (left unread written told : Option (List ℕ)) (held : List ℕ) (read_failed write_failed : Bool)
+    (ended : Result (Unit {0}) SessionFault) (input : List ℕ) → left ≡ came.says → written ≡ came.told
+    → went ≡ record { unread = unread; told = told; held_back = held; read_failed = read_failed; write_failed = write_failed; ended = ended }
+    → Consumes left unread input → (session : IsSeatSession before after input written told ended) → AreLineAnswers before.told session.turns
+    → OnOk ended (IsAtEnd unread) → ((ended ≡ Err Read) ↔ IsTrue read_failed) → ((ended ≡ Err Write) ↔ IsTrue write_failed)
+    → (ended ≡ Err Memory → (unread ≡ left) × (told ≡ written) × (after ≡ before)) → (write_failed ≡ false → held ≡ [])
+    → IsConnection (record { came = came; before = before; after = after; went = went })
+talked came before after went left unread written told held read_failed write_failed ended input says tells parted read session answers end reading writing memory handed =
+    let begun : (s : IsSeatSession before after input came.told told ended) × AreLineAnswers before.told s.turns =
+    subst (λ (w : Option (List ℕ)). (s : IsSeatSession before after input w told ended) × AreLineAnswers before.told s.turns) tells (session, answers) in
+    let parting : Parting = record { unread = unread; told = told; held_back = held; read_failed = read_failed; write_failed = write_failed; ended = ended } in
+    let whole : IsConnection (record { came = came; before = before; after = after; went = parting }) = record {
+      input = input;
+      read = subst (λ (l : Option (List ℕ)). Consumes l unread input) says read;
+      session = begun.0;
+      answers = begun.1;
+      end = end;
+      read_fault = reading;
+      write_fault = writing;
+      memory = λ none. let same = memory none in (same.0 ∙ says, same.1 ∙ tells, same.2);
+      handed_on = handed;
+    } in
+    subst (λ (w : Parting). IsConnection (record { came = came; before = before; after = after; went = w })) (sym parted) whole
+
+consumes_nothing : (known : Option (List ℕ)) → Consumes known known []
+consumes_nothing None = tt
+consumes_nothing (Some bytes) = refl
+
+appends_nothing : (known : Option (List ℕ)) → Appends known known []
+appends_nothing None = tt
+appends_nothing (Some bytes) = sym (append-nil bytes)
+
+no_truth : IsTrue false → ⊥
+no_truth e = cc
+
+not_read : (r : Result (Unit {0}) SessionFault) → r ≡ Err Memory → r ≡ Err Read → IsTrue false
+not_read r memory read = cc
+
+not_write : (r : Result (Unit {0}) SessionFault) → r ≡ Err Memory → r ≡ Err Write → IsTrue false
+not_write r memory write = cc
 
 -- memory was refused before anything was read
-pub none_begun : (seat : Seated) → IsConnection seat seat
-none_begun seat =
-    let session : IsSeatSession seat seat [] None None (Err Memory) =
-    record { turns = []; rest = []; lines = refl; few = lit≤ tt; each = refl; receipts = sym (append-nil seat.receipts); ends = (tt, refl) } in
-    talked seat seat [] None None (Err Memory) session tt
+pub none_begun : (came : Coming) (seat : Seated) (went : Parting) → went ≡ unheard came → IsConnection (record { came = came; before = seat; after = seat; went = went })
+none_begun came seat went parted =
+    let session : IsSeatSession seat seat [] came.told came.told (Err Memory) =
+    record { turns = []; rest = []; lines = refl; few = lit≤ tt; each = refl; receipts = sym (append-nil seat.receipts); ends = (appends_nothing came.told, refl) } in
+    talked came seat seat went came.says came.says came.told came.told [] false false (Err Memory) [] refl refl parted (consumes_nothing came.says) session tt tt
+    ((λ e. not_read (Err Memory) refl e), (λ e. absurd (no_truth e))) ((λ e. not_write (Err Memory) refl e), (λ e. absurd (no_truth e))) (λ e. (refl, refl, refl)) (λ e. refl)
 
-all_zip_map : {H S : Type 0} (f : H → S) (R : S → S → Type 0) (hs : List H) (ts : List S) → AllZip (λ h t. R (f h) t) hs ts → AllZip R (map f hs) ts
-all_zip_map f R [] [] z = z
-all_zip_map f R [] (t ∷ ts) z = z
-all_zip_map f R (h ∷ hs) [] z = z
-all_zip_map f R (h ∷ hs) (t ∷ ts) z = (z.0, all_zip_map f R hs ts z.1)
+-- ---- the clients that came
+
+pub none_came : (coming : Option (List Coming)) → Came coming coming []
+none_came None = tt
+none_came (Some coming) = refl
+
+-- one more
+pub one_came : (coming left later : Option (List Coming)) (came more : List Coming) (c : Coming) → Came coming left came → Came left later (c ∷ []) → more ≡ came ++ c ∷ [] → Came coming later more
+one_came None left later came more c before now are = tt
+one_came (Some coming) None later came more c before now are = absurd before
+one_came (Some coming) (Some left) None came more c before now are = absurd now
+one_came (Some coming) (Some left) (Some later) came more c before now are =
+    before ∙ ap (λ l. came ++ l) now ∙ sym (append_assoc came (c ∷ []) later) ∙ ap (λ l. l ++ later) (sym are)
+
+-- no further one
+pub no_more_came : (coming left : Option (List Coming)) (came : List Coming) (count : ℕ) → Came coming left came → NoneComes left → length came < count → FewerCome coming count
+no_more_came None left came count before none few = tt
+no_more_came (Some coming) None came count before none few = absurd before
+no_more_came (Some coming) (Some left) came count before none few =
+    let all : coming ≡ came = before ∙ ap (λ l. came ++ l) none ∙ append-nil came in
+    subst (λ (l : List Coming). length l < count) (sym all) few
+
+-- no further one, where so many clients have a handle, and some are wanted still
+pub none_for_the_rest : {H : Type 0} (came : H → Coming) (handles : List H) (coming left : Option (List Coming)) (wanted count : ℕ) → Came coming left (map came handles)
+    → NoneComes left → length handles + wanted ≤ count → 0 < wanted → FewerCome coming count
+none_for_the_rest came handles coming left wanted count before none fits some =
+    no_more_came coming left (map came handles) count before none (omega (arith, length-map handles came, fits, some))
+
+-- a handle more
+pub one_mapped : {H A : Type 0} (f : H → A) (handles more : List H) (h : H) (y : A) → more ≡ handles ++ h ∷ [] → f h ≡ y → map f more ≡ map f handles ++ y ∷ []
+one_mapped f handles more h y is mine = ap (map f) is ∙ map_push f handles h ∙ ap (λ x. map f handles ++ x ∷ []) mine
+
+-- ---- all connections
 
 no_items : {A : Type 0} (xs : List A) → length xs ≡ 0 → xs ≡ []
 no_items [] e = refl
@@ -48,9 +120,71 @@ one_handed promised handles more h s left rest all was next is mine =
     ap (λ l. map promised l ++ rest) is ∙ ap (λ l. l ++ rest) (map_push promised handles h) ∙ append_assoc (map promised handles) (promised h ∷ []) rest
     ∙ ap (λ x. map promised handles ++ x ∷ rest) mine ∙ ap (λ l. map promised handles ++ l) (sym next) ∙ was
 
--- from what each handle promised to what each seat kept
-pub kept_by_handles : {H S : Type 0} (promised : H → S) (R : S → S → Type 0) (handles : List H) (left seats back : List S)
-    → AllZip (λ h t. R (promised h) t) handles back → map promised handles ++ left ≡ seats → length left ≡ 0 → AllZip R seats back
-kept_by_handles promised R handles left seats back came all over =
-    let whole : map promised handles ≡ seats = sym (append-nil (map promised handles)) ∙ ap (λ l. map promised handles ++ l) (sym (no_items left over)) ∙ all in
-    subst (λ l. AllZip R l back) whole (all_zip_map promised R handles back came)
+-- What each handle promised, of its client and its seat, was kept by the visit that came back.
+module _ {H V : Type 0} (came : H → Coming) (before : H → Seated) (after : V → Seated) (went : V → Parting) where
+  abbrev joined : H → V → Connection
+  joined h v = record { came = came h; before = before h; after = after v; went = went v }
+
+  abbrev all_joined : List H → List V → List Connection
+  all_joined [] vs = []
+  all_joined (h ∷ hs) [] = []
+  all_joined (h ∷ hs) (v ∷ vs) = joined h v ∷ all_joined hs vs
+
+  abbrev Kept : H → V → Type 0
+  Kept h v = IsConnection (joined h v)
+
+  all_kept : (hs : List H) (vs : List V) → AllZip Kept hs vs → All IsConnection (all_joined hs vs)
+  all_kept [] [] z = All-nil IsConnection
+  all_kept [] (v ∷ vs) z = absurd z
+  all_kept (h ∷ hs) [] z = absurd z
+  all_kept (h ∷ hs) (v ∷ vs) z = All-cons IsConnection (joined h v) (all_joined hs vs) z.0 (all_kept hs vs z.1)
+
+  all_came_so : (hs : List H) (vs : List V) → AllZip Kept hs vs → map (λ (c : Connection). c.came) (all_joined hs vs) ≡ map came hs
+  all_came_so [] [] z = refl
+  all_came_so [] (v ∷ vs) z = absurd z
+  all_came_so (h ∷ hs) [] z = absurd z
+  all_came_so (h ∷ hs) (v ∷ vs) z = ap (λ l. came h ∷ l) (all_came_so hs vs z.1)
+
+  all_before : (hs : List H) (vs : List V) → AllZip Kept hs vs → map (λ (c : Connection). c.before) (all_joined hs vs) ≡ map before hs
+  all_before [] [] z = refl
+  all_before [] (v ∷ vs) z = absurd z
+  all_before (h ∷ hs) [] z = absurd z
+  all_before (h ∷ hs) (v ∷ vs) z = ap (λ l. before h ∷ l) (all_before hs vs z.1)
+
+  all_after : (hs : List H) (vs : List V) → AllZip Kept hs vs → map (λ (c : Connection). c.after) (all_joined hs vs) ≡ map after vs
+  all_after [] [] z = refl
+  all_after [] (v ∷ vs) z = absurd z
+  all_after (h ∷ hs) [] z = absurd z
+  all_after (h ∷ hs) (v ∷ vs) z = ap (λ l. after v ∷ l) (all_after hs vs z.1)
+
+  all_went : (hs : List H) (vs : List V) → AllZip Kept hs vs → map (λ (c : Connection). c.went) (all_joined hs vs) ≡ map went vs
+  all_went [] [] z = refl
+  all_went [] (v ∷ vs) z = absurd z
+  all_went (h ∷ hs) [] z = absurd z
+  all_went (h ∷ hs) (v ∷ vs) z = ap (λ l. went v ∷ l) (all_went hs vs z.1)
+
+  pub connected : (handles : List H) (visits : List V) (seats left : List Seated) (coming later : Option (List Coming)) → AllZip Kept handles visits
+      → map before handles ++ left ≡ seats → length left ≡ 0 → Came coming later (map came handles) → AreConnections coming seats (map after visits) (map went visits)
+  connected handles visits seats left coming later kept begun over came_first =
+      let whole : map before handles ≡ seats = sym (append-nil (map before handles)) ∙ ap (λ l. map before handles ++ l) (sym (no_items left over)) ∙ begun in
+      record {
+        connections = all_joined handles visits;
+        each = all_kept handles visits kept;
+        still_to_come = later;
+        clients = subst (Came coming later) (sym (all_came_so handles visits kept)) came_first;
+        before = all_before handles visits kept ∙ whole;
+        after = all_after handles visits kept;
+        went = all_went handles visits kept;
+      }
+
+-- ---- seats and what is left of clients, apart
+
+map_twice : {V G A : Type 0} (f : V → G) (h : G → A) (vs : List V) → map h (map f vs) ≡ map (λ v. h (f v)) vs
+map_twice f h [] = refl
+map_twice f h (v ∷ vs) = ap (λ l. h (f v) ∷ l) (map_twice f h vs)
+
+pub parted : {V G : Type 0} (seat : V → Seated) (gone : V → G) (parting : G → Parting) (coming : Option (List Coming)) (seats : List Seated) (visits : List V) (back : List Seated) (left : List G)
+    → AreConnections coming seats (map seat visits) (map (λ v. parting (gone v)) visits) → back ≡ map seat visits → left ≡ map gone visits → AreConnections coming seats back (map parting left)
+parted seat gone parting coming seats visits back left connections in_seats in_order =
+    let went : map (λ v. parting (gone v)) visits ≡ map parting left = sym (ap (map parting) in_order ∙ map_twice gone parting visits) in
+    subst (λ (b : List Seated). AreConnections coming seats b (map parting left)) (sym in_seats) (subst (λ (w : List Parting). AreConnections coming seats (map seat visits) w) went connections)

@@ -1,5 +1,6 @@
 pub mod Answered
 pub mod Changes
+pub mod Connections
 pub mod SeatChanges
 pub mod SeatSessions
 pub mod SeatAnswers

@@ -1,12 +1,12 @@
 -- What a centre that serves connections prints at the end, and what comes of it.
-use Rattle.std.specs.Prelude.{◌≡◌, ℕ, ◌+◌, ◌<◌, ◌⊎◌, List, [], ◌∷◌, ◌++◌, length, map, take, drop, codes, decimal, All, IsPermutation, Option, Result}
+use Rattle.std.specs.Prelude.{◌≡◌, ℕ, ◌+◌, ◌<◌, ◌⊎◌, List, [], ◌∷◌, ◌++◌, length, map, take, drop, codes, decimal, All, IsPermutation, Option}
 use Rattle.std.specs.List.{AllZip}
 use Rattle.std.specs.Io.KnownBytes.{Appends}
 use Rattle.rbc_model.specs.Levels.{speed_levels, grade_levels}
 use Rattle.rbc_model.specs.Histories.{Matches}
 use Rattle.rbc_model.specs.PriceTables.{IsGreatestSoundTable}
 use Rattle.rbc_model.specs.Scales.{unit_of}
-use Rattle.rbc_model.specs.declared.sessions.SessionFault.{SessionFault}
+use Rattle.rbc_port.specs.Clients.{Coming, Parting}
 use Rattle.rbc_model.specs.Sessions.{WritesPart}
 use Rattle.rbc_model.specs.SessionReply.{grant_reply, blocked_reply, refused_reply, Full as HistoryIsFull, Memory as NoMemory}
 use Rattle.rbc_model.specs.Tracks.{Track}
@@ -24,8 +24,7 @@ use Rattle.rbc_sweep.specs.declared.outcome.Answer.TheVariants.{Granted, Blocked
 use Rattle.rbc_sweep.specs.declared.outcome.Outcome.{Outcome}
 use Rattle.rbc_server.specs.declared.connections.ConnectFault.{ConnectFault}
 use Rattle.rbc_server.specs.declared.connections.ConnectFault.TheVariants.{Port as NoConnection, Memory as NoThread}
-use Rattle.rbc_server.specs.SeatAnswers.{AreLineAnswers}
-use Rattle.rbc_server.specs.SeatSessions.{IsSeatSession}
+use Rattle.rbc_server.specs.Connections.{AreConnections}
 use Rattle.rbc_server.specs.declared.serving.ServeFault.{ServeFault}
 use Rattle.rbc_server.specs.declared.serving.ServeFault.TheVariants.{Port, Write, Memory as NoServeMemory, Close}
 
@@ -75,32 +74,22 @@ IsTellable track outcome = AnswerIsTellable track outcome.answer
 
 -- ---- what comes of it
 
--- A connection was served from a seat: what was read of it is the input of a session, line by line, and what was written on it are the replies, as far
--- as that is known. The session ended so.
-pub record IsConnection (before after : Seated) : Type 0 where
-  pub input : List ℕ
-  pub old : Option (List ℕ)
-  pub new : Option (List ℕ)
-  pub ended : Result (Unit {0}) SessionFault
-  pub session : IsSeatSession before after input old new ended
-  pub answers : AreLineAnswers before.told session.turns
-
 -- A seat that had this was told all that these others were told. It kept its receipts.
 pub record IsBrought (others : List Seated) (had has : Seated) : Type 0 where
   pub receipts : has.receipts ≡ had.receipts
   pub told : Begins had.told has.told
   pub all : All (λ (other : Seated). Begins other.told has.told) others
 
--- So many connections were served from the first of these seats, and a sweep with these outcomes was made with those that are left. These seats came
--- back.
-pub record IsSwept (connections : ℕ) (seats kept : List Seated) (outcomes : List Outcome) : Type 0 where
-  -- Each connection was served from a seat of its own. Before the sweep, the seats that are left were told all that those were told by the end of their
+-- So many of the clients that come were served from the first of these seats, and went so; and a sweep with these outcomes was made with the seats that
+-- are left. These seats came back.
+pub record IsSwept (coming : Option (List Coming)) (partings : List Parting) (connections : ℕ) (seats kept : List Seated) (outcomes : List Outcome) : Type 0 where
+  -- Each client was served from a seat of its own, in order. Before the sweep, the seats that are left were told all that those were told by the end of their
   -- sessions. All seats have first what they had then, of receipts and of what they were told.
   pub served : List Seated
   pub brought : List Seated
   pub swept : List Seated
   pub all : kept ≡ served ++ swept
-  pub after_connections : AllZip IsConnection (take connections seats) served
+  pub after_connections : AreConnections coming (take connections seats) served partings
   pub before_sweep : AllZip (IsBrought served) (drop connections seats) brought
   pub after_sweep : AllZip AreFirst brought swept
   -- The sweep served, in order of arrival, each train that its first seat was told of, and each is answered as one of its seats was told. What the
@@ -110,9 +99,9 @@ pub record IsSwept (connections : ℕ) (seats kept : List Seated) (outcomes : Li
   pub gained : IsPermutation (all_receipts brought ++ granted outcomes) (all_receipts swept)
 
 -- The same, and what was written on this track tells the outcomes.
-pub record IsAttended (track : Track) (connections : ℕ) (seats kept : List Seated) (old new : Option (List ℕ)) : Type 0 where
+pub record IsAttended (track : Track) (coming : Option (List Coming)) (partings : List Parting) (connections : ℕ) (seats kept : List Seated) (old new : Option (List ℕ)) : Type 0 where
   pub outcomes : List Outcome
-  pub sweep : IsSwept connections seats kept outcomes
+  pub sweep : IsSwept coming partings connections seats kept outcomes
   pub told : List ℕ
   pub tells : TellsAll track outcomes told
   pub written : Appends old new told
@@ -123,12 +112,12 @@ pub record IsClosed (opened : HistoryOnTrack) (kept : List Seated) (log : Histor
   pub matches : Matches (all_receipts kept) log.entries (length opened.entries)
   pub goes_on : All (λ (seat : Seated). IsLater seat.told log) kept
 
--- Connections were served, and a sweep was made, at the desk that was opened with this history; then the desk was closed. This was written, and this
--- record came back.
-pub record IsServed (opened : HistoryOnTrack) (connections : ℕ) (seats : List Seated) (old new : Option (List ℕ)) (log : HistoryOnTrack) : Type 0 where
+-- Clients were served, and went so, and a sweep was made, at the desk that was opened with this history; then the desk was closed. This was written,
+-- and this record came back.
+pub record IsServed (opened : HistoryOnTrack) (coming : Option (List Coming)) (partings : List Parting) (connections : ℕ) (seats : List Seated) (old new : Option (List ℕ)) (log : HistoryOnTrack) : Type 0 where
   pub kept : List Seated
   pub so_far : Option (List ℕ)
-  pub attended : IsAttended opened.track connections seats kept old so_far
+  pub attended : IsAttended opened.track coming partings connections seats kept old so_far
   pub closing : IsClosed opened kept log
   -- Last of all it is told how many entries the record has.
   pub closed : Appends so_far new (closed_line (length log.entries))
@@ -150,26 +139,29 @@ IsCloseFault opened parts kept old new Write = (log : HistoryOnTrack) × IsClose
 IsCloseFault opened parts kept old new (Close fault) = IsUnmatched opened parts kept fault × (new ≡ old)
 
 -- The writer failed while the outcomes of a sweep were told. What was written is a part, from its start, of what tells the first of them.
-pub record IsCutOff (track : Track) (connections : ℕ) (seats : List Seated) (old new : Option (List ℕ)) : Type 0 where
+pub record IsCutOff (track : Track) (coming : Option (List Coming)) (connections : ℕ) (seats : List Seated) (old new : Option (List ℕ)) : Type 0 where
+  pub partings : List Parting
   pub kept : List Seated
   pub outcomes : List Outcome
-  pub sweep : IsSwept connections seats kept outcomes
+  pub sweep : IsSwept coming partings connections seats kept outcomes
   pub count : ℕ
   pub told : List ℕ
   pub tells : TellsAll track (take count outcomes) told
   pub written : WritesPart old new told
 
 -- the same while the last line was told, or the desk could not be closed
-pub record IsUnclosed (opened : HistoryOnTrack) (parts connections : ℕ) (seats : List Seated) (old new : Option (List ℕ)) (fault : ServeFault) : Type 0 where
+pub record IsUnclosed (opened : HistoryOnTrack) (coming : Option (List Coming)) (parts connections : ℕ) (seats : List Seated) (old new : Option (List ℕ)) (fault : ServeFault) : Type 0 where
+  pub partings : List Parting
   pub kept : List Seated
   pub so_far : Option (List ℕ)
-  pub attended : IsAttended opened.track connections seats kept old so_far
+  pub attended : IsAttended opened.track coming partings connections seats kept old so_far
   pub unclosed : IsCloseFault opened parts kept so_far new fault
 
 -- What is known after a fault. Of a connection that could not be had, and of memory that was refused, nothing is: nothing was written before either.
-abbrev pub IsServeFault : HistoryOnTrack → ℕ → ℕ → List Seated → Option (List ℕ) → Option (List ℕ) → ServeFault → Type 0
-IsServeFault opened parts connections seats old new Port = Unit {0}
-IsServeFault opened parts connections seats old new NoServeMemory = Unit {0}
-IsServeFault opened parts connections seats old new Write =
-    IsCutOff opened.track connections seats old new ⊎ IsUnclosed opened parts connections seats old new Write
-IsServeFault opened parts connections seats old new (Close fault) = IsUnclosed opened parts connections seats old new (Close fault)
+abbrev pub IsServeFault : HistoryOnTrack → Option (List Coming) → ℕ → ℕ → List Seated → Option (List ℕ) → Option (List ℕ) → ServeFault → Type 0
+IsServeFault opened coming parts connections seats old new Port = Unit {0}
+IsServeFault opened coming parts connections seats old new NoServeMemory = Unit {0}
+IsServeFault opened coming parts connections seats old new Write =
+    IsCutOff opened.track coming connections seats old new ⊎ IsUnclosed opened coming parts connections seats old new Write
+IsServeFault opened coming parts connections seats old new (Close fault) =
+    IsUnclosed opened coming parts connections seats old new (Close fault)

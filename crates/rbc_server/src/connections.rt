@@ -1,20 +1,20 @@
 //! Connections, each with a thread and a seat of its own.
 
-ghost use Rattle.std.specs.Prelude.{◌≡◌, ◌+◌, ◌≤◌, ◌<◌, ◌^◌, IfOk, vec_len, vec_capacity};
+ghost use Rattle.std.specs.Prelude.{◌≡◌, ◌+◌, ◌≤◌, ◌<◌, ◌^◌, map, IfOk, Err, vec_len, vec_capacity};
 ghost use Rattle.std.specs.List.{AllZip};
 ghost use Rattle.std.specs.Thread.{IsSend, IsSync};
-ghost use Rattle.rbc_server.specs.Serving.{IsConnection};
+ghost use Rattle.rbc_port.specs.Clients.{FewerCome};
+ghost use Rattle.rbc_server.specs.Connections.{AreConnections, IsConnection};
+ghost use Rattle.rbc_server.specs.declared.connections.ConnectFault.TheVariants.{Port as NoClient};
 
-use crate::ends::End;
 use crate::session;
-use rbc_port::{Client, Port, PortFailed};
-use rbc_streams::{SessionFault, Stream};
+use rbc_port::{Client, Clients, Ends, PortFailed};
+use rbc_streams::{Sink, Source};
 use rbc_sweep::{Desk, DeskName, OpenGate, Seat};
 use rbc_track::Track;
 use std::alloc::{AllocError, Global};
-use std::cell::RefCell;
-use std::io::{Eprint, Read, Write};
-use std::net::{OpenListener, OpenStream};
+use std::io::Eprint;
+use std::marker::PhantomData;
 use std::snapshot::Snapshot;
 use std::sync::Wait;
 use std::thread;
@@ -31,86 +31,102 @@ pub(crate) enum ConnectFault {
 }
 
 impl From<AllocError> for ConnectFault {
+    ghost use Rattle.rbc_server.specs.declared.connections.ConnectFault.TheVariants.{Memory as NoThread};
+
+    ghost from_gives = { λ _ fault. fault ≡ NoThread };
+
     fn from(_refused: AllocError) -> ConnectFault {
         ConnectFault::Memory
     }
 }
 
 impl From<PortFailed> for ConnectFault {
+    ghost use Rattle.rbc_server.specs.declared.connections.ConnectFault.TheVariants.{Port as NoClient};
+
+    ghost from_gives = { λ _ fault. fault ≡ NoClient };
+
     fn from(_failed: PortFailed) -> ConnectFault {
         ConnectFault::Port
     }
 }
 
-/// A connection is served from the seat.
+/// A seat that a client was served from, and what is left of the client.
 #[derive(Drop)]
-struct Serves<L: DeskName>(Snapshot<Seat<L>>);
+struct Visit<L: DeskName, G> {
+    seat: Seat<L>,
+    gone: G,
+}
 
-impl<L: DeskName> Promise<Seat<L>> for Serves<L> {
-    ghost use Rattle.rbc_server.specs.Serving.{IsConnection};
+/// The client is served from the seat.
+#[derive(Drop)]
+struct Serves<L: DeskName, C>(Snapshot<Seat<L>>, Snapshot<C>);
 
-    ghost kept_by = { λ promise seat. IsConnection promise.0.value seat };
+impl<L: DeskName, G, C: Client<Gone = G>> Promise<Visit<L, G>> for Serves<L, C> {
+    ghost use Rattle.rbc_server.specs.Connections.{IsConnection};
+
+    ghost kept_by = { λ promise visit. IsConnection (record {
+      came = C.coming promise.1.value;
+      before = promise.0.value;
+      after = visit.seat;
+      went = C.parting visit.gone;
+    }) };
 }
 
 /// A session with a client, from this seat. A fault of the session ends the connection, and nothing else.
 fn connection<
     L: DeskName,
-    S: Read + Write + OpenStream + Drop,
+    I: Source + Drop,
+    O: Sink + Drop,
+    G,
+    C: Client<Reader = I, Writer = O, Gone = G>,
     T: Threads + Wait + Clock + Eprint + Sync,
->(
-    rt: &T,
-    alloc: Global,
-    track: &Track,
-    desk: &Desk<L>,
-    mut seat: Seat<L>,
-    client: Client<S>,
-) -> Seat<L>
+>(rt: &T, alloc: Global, track: &Track, desk: &Desk<L>, mut seat: Seat<L>, client: C) -> Visit<L, G>
     requires { track.now ≡ L.opened.track }
-    ensures { IsConnection seat result }
+    ensures { IsConnection (record {
+      came = C.coming client;
+      before = seat;
+      after = result.seat;
+      went = C.parting result.gone;
+    }) }
 {
-    let client = RefCell::new(client);
-    let ended = talk(rt, alloc, &client, track, desk, &mut seat);
-    client.into_inner().let_go(rt, alloc, ended);
-    seat
-}
-
-/// The session of a client.
-fn talk<L: DeskName, S: Read + Write + Drop, T: Threads + Wait + Sync>(
-    rt: &T,
-    alloc: Global,
-    client: &RefCell<Client<S>>,
-    track: &Track,
-    desk: &Desk<L>,
-    seat: &mut Seat<L>,
-) -> Result<(), SessionFault>
-    requires { track.now ≡ L.opened.track }
-    ensures { IsConnection seat.old seat.new }
-{
-    let mut writer = Stream::writer(alloc, End::of(client))?;
-    let mut reader = Stream::reader(End::of(client));
-    session(
+    let Ends {
+        mut reader,
+        mut writer,
+        lines,
+    } = match client.begin(rt, alloc) {
+        Ok(ends) => ends,
+        Err(gone) => return Visit { seat, gone },
+    };
+    let ended = session(
         rt,
         alloc,
+        lines,
         &mut reader,
         &mut writer,
         track,
         desk,
-        seat,
+        &mut seat,
         &OpenGate,
-    )
+    );
+    let gone = C::let_go(rt, alloc, reader, writer, ended);
+    Visit { seat, gone }
 }
 
-/// Waits until these sessions have ended, and gives their seats back in order, in the room that is there for them.
-fn join_all<L: DeskName, T: Threads>(
+/// Waits until these sessions have ended, and gives what came of them back in order, in the room that is there for them.
+fn join_all<L: DeskName, G: Drop, C: Client<Gone = G>, T: Threads>(
     rt: &T,
-    handles: Vec<PromisedHandle<Seat<L>, Serves<L>>>,
-    mut back: Vec<Seat<L>>,
-) -> Vec<Seat<L>>
+    handles: Vec<PromisedHandle<Visit<L, G>, Serves<L, C>>>,
+    mut back: Vec<Visit<L, G>>,
+) -> Vec<Visit<L, G>>
     requires empty { vec_len back ≡ 0 }
     requires room { vec_len handles ≤ vec_capacity back }
-    ensures served { AllZip (λ handle seat. IsConnection handle.promise.0.value seat) handles.items result.items }
+    ensures served { AllZip (λ handle visit. IsConnection (record {
+      came = C.coming handle.promise.1.value;
+      before = handle.promise.0.value;
+      after = visit.seat;
+      went = C.parting visit.gone;
+    })) handles.items result.items }
     ensures length { vec_len result ≡ vec_len handles }
-    ensures room { vec_capacity result ≡ vec_capacity back }
 {
     for handle in handles {
         back.push_reserved(handle.join(rt));
@@ -118,47 +134,73 @@ fn join_all<L: DeskName, T: Threads>(
     back
 }
 
-/// Accepts a connection for each of the seats, in order, each with a thread of its own, and closes the port. Once all
-/// have ended it gives the seats back in their order, with room for so many more.
+/// The seats and what is left of the clients, each in order, in the room that is there for them.
+fn part_all<L: DeskName, G: Drop>(
+    visits: Vec<Visit<L, G>>,
+    mut seats: Vec<Seat<L>>,
+    mut gone: Vec<G>,
+) -> (Vec<Seat<L>>, Vec<G>)
+    requires no_seat { vec_len seats ≡ 0 }
+    requires none_gone { vec_len gone ≡ 0 }
+    requires room_for_seats { vec_len visits ≤ vec_capacity seats }
+    requires room_for_gone { vec_len visits ≤ vec_capacity gone }
+    ensures seats { result.0.items ≡ map (λ visit. visit.seat) visits.items }
+    ensures gone { result.1.items ≡ map (λ visit. visit.gone) visits.items }
+    ensures room { vec_capacity result.0 ≡ vec_capacity seats }
+{
+    for visit in visits {
+        let Visit { seat, gone: client } = visit;
+        seats.push_reserved(seat);
+        gone.push_reserved(client);
+    }
+    (seats, gone)
+}
+
+/// Accepts a client for each of the seats, in order, each with a thread of its own, and closes the port. Once all
+/// sessions have ended it tells what came of them, in order.
 ///
 /// # Errors
 ///
-/// The first of these; the sessions that were begun have ended then too:
-/// - `Port`: a connection could not be accepted,
-/// - `Memory`: no thread could be started for a connection, or there was no room for the seats.
-pub(crate) fn connect<
+/// Those of [`connect`].
+fn visit_all<
     L: DeskName + Send + Sync,
-    S: Read + Write + OpenStream + Send + Drop,
-    N: OpenListener<Stream = S> + Drop,
+    I: Source + Send + Drop,
+    O: Sink + Send + Drop,
+    G: Send + Drop,
+    C: Client<Reader = I, Writer = O, Gone = G> + Send + Drop,
+    P: Clients<Each = C> + Drop,
     T: Threads + Wait + Clock + Eprint + Sync,
 >(
     rt: &T,
     alloc: Global,
-    port: Port<N>,
+    port: P,
     track: &Track,
     desk: &Desk<L>,
     seats: Vec<Seat<L>>,
-    more: usize,
-) -> Result<Vec<Seat<L>>, ConnectFault>
+) -> Result<Vec<Visit<L, G>>, ConnectFault>
     requires track { track.now ≡ L.opened.track }
-    requires fits { vec_len seats + more < 2 ^ 64 }
-    ensures served { IfOk result (λ back. AllZip IsConnection seats.items back.items) }
-    ensures room { IfOk result (λ back. vec_len back + more ≤ vec_capacity back) }
+    ensures served { IfOk result (λ visits. AreConnections (P.coming port) seats.items
+        (map (λ visit. visit.seat) visits.items) (map (λ visit. C.parting visit.gone) visits.items)
+        × (vec_len visits ≤ vec_len seats)) }
+    ensures port { result ≡ Err NoClient → FewerCome (P.coming port) (vec_len seats) }
 {
-    let mut handles = Vec::with_capacity(alloc, seats.len())?;
-    let back = Vec::with_capacity(alloc, seats.len() + more)?;
     thread::scope(
         thread::scope_env(),
         rt,
-        move |scope| -> Result<Vec<Seat<L>>, ConnectFault>
-            requires { IsSync T.row × IsSend L.row × IsSync L.row × IsSend S.row × (track.now ≡ L.opened.track)
-                × (vec_len handles ≡ 0) × (vec_len seats ≤ vec_capacity handles)
-                × (vec_len back ≡ 0) × (vec_len seats ≤ vec_capacity back) }
-            ensures { IfOk result (λ served. AllZip IsConnection seats.items served.items
-                × (vec_len served ≤ vec_len seats) × (vec_capacity served ≡ vec_capacity back)) }
+        move |scope| -> Result<Vec<Visit<L, G>>, ConnectFault>
+            requires { IsSync T.row × IsSend L.row × IsSync L.row × IsSend I.row × IsSend O.row × IsSend G.row × IsSend C.row
+                × (track.now ≡ L.opened.track) }
+            ensures served { IfOk result (λ visits. AreConnections (P.coming port) seats.items
+                (map (λ visit. visit.seat) visits.items) (map (λ visit. C.parting visit.gone) visits.items)
+                × (vec_len visits ≤ vec_len seats)) }
+            ensures port { result ≡ Err NoClient → FewerCome (P.coming port) (vec_len seats) }
         {
+            let mut handles = Vec::with_capacity(alloc, seats.len())?;
+            let visits = Vec::with_capacity(alloc, seats.len())?;
             let mut port = port;
             let mut fault = None;
+            // What runs in a thread holds each type that it names.
+            let types = PhantomData::<(I, O, G)>;
             for seat in seats {
                 if fault.is_some() {
                     continue;
@@ -170,24 +212,73 @@ pub(crate) fn connect<
                         continue;
                     }
                 };
-                match scope.spawn_with(
-                    Serves(Snapshot::of(&seat)),
-                    move || -> Seat<L>
-                        requires { IsSync T.row × IsSend L.row × IsSync L.row × IsSend S.row
+                let serves = Serves(Snapshot::of(&seat), Snapshot::of(&client));
+                let spawned = scope.spawn_with(
+                    serves,
+                    move || -> Visit<L, G>
+                        requires { IsSync T.row × IsSend L.row × IsSync L.row × IsSend I.row × IsSend O.row × IsSend G.row × IsSend C.row
                             × (track.now ≡ L.opened.track) }
-                        ensures { IsConnection seat result }
-                    { connection(rt, alloc, track, desk, seat, client) },
-                ) {
-                    Ok(handle) => handles.push_reserved(handle),
-                    Err(_) => fault = Some(ConnectFault::Memory),
+                        ensures { IsConnection (record {
+                          came = C.coming client;
+                          before = seat;
+                          after = result.seat;
+                          went = C.parting result.gone;
+                        }) }
+                    {
+                        let _types = types;
+                        connection(rt, alloc, track, desk, seat, client)
+                    },
+                );
+                match spawned.ok() {
+                    Some(handle) => handles.push_reserved(handle),
+                    None => fault = Some(ConnectFault::Memory),
                 }
             }
             drop(port);
-            let served = join_all(rt, handles, back);
+            let visits = join_all(rt, handles, visits);
             match fault {
-                None => Ok(served),
+                None => Ok(visits),
                 Some(fault) => Err(fault),
             }
         },
     )
+}
+
+/// Accepts a client for each of the seats, in order, each with a thread of its own, and closes the port. Once all
+/// sessions have ended it gives the seats back in their order, with room for so many more, and what is left of the
+/// clients.
+///
+/// # Errors
+///
+/// The first of these; the sessions that were begun have ended then too:
+/// - `Port`: a client could not be accepted,
+/// - `Memory`: no thread could be started for a connection, or there was no room for the seats.
+pub(crate) fn connect<
+    L: DeskName + Send + Sync,
+    I: Source + Send + Drop,
+    O: Sink + Send + Drop,
+    G: Send + Drop,
+    C: Client<Reader = I, Writer = O, Gone = G> + Send + Drop,
+    P: Clients<Each = C> + Drop,
+    T: Threads + Wait + Clock + Eprint + Sync,
+>(
+    rt: &T,
+    alloc: Global,
+    port: P,
+    track: &Track,
+    desk: &Desk<L>,
+    seats: Vec<Seat<L>>,
+    more: usize,
+) -> Result<(Vec<Seat<L>>, Vec<G>), ConnectFault>
+    requires track { track.now ≡ L.opened.track }
+    requires fits { vec_len seats + more < 2 ^ 64 }
+    ensures served { IfOk result (λ back.
+        AreConnections (P.coming port) seats.items back.0.items (map C.parting back.1.items)) }
+    ensures room { IfOk result (λ back. vec_len back.0 + more ≤ vec_capacity back.0) }
+    ensures port { result ≡ Err NoClient → FewerCome (P.coming port) (vec_len seats) }
+{
+    let back = Vec::with_capacity(alloc, seats.len() + more)?;
+    let gone = Vec::with_capacity(alloc, seats.len())?;
+    let visits = visit_all(rt, alloc, port, track, desk, seats)?;
+    Ok(part_all(visits, back, gone))
 }

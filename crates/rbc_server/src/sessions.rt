@@ -1,7 +1,9 @@
 //! Sessions over a record, and at a desk.
 
-ghost use Rattle.std.specs.Prelude.{◌≡◌, ◌↔◌, ℕ, List, [], true, false, IsTrue, OnOk, Err};
+ghost use Rattle.std.specs.Prelude.{◌≡◌, ◌≢◌, ◌↔◌, ℕ, List, [], true, false, IsTrue, OnOk, Err};
 ghost use Rattle.std.specs.Io.KnownBytes.{Consumes, IsAtEnd};
+ghost use Rattle.rbc_model.specs.declared.limits.TheConstants.{LONGEST_LINE};
+ghost use Rattle.rbc_streams.specs.LineReading.{at_start};
 ghost use Rattle.rbc_sweep.specs.Outcomes.{AreFirst};
 ghost use Rattle.rbc_server.specs.SeatAnswers.{AreLineAnswers};
 ghost use Rattle.rbc_server.specs.SeatSessions.{IsSeatSession};
@@ -12,7 +14,7 @@ ghost use Rattle.rbc_server.specs.Answered.{AnswersAll};
 use crate::SessionFault;
 use crate::centre::Centre;
 use crate::counter::Counter;
-use rbc_streams::{Sink, Source, converse};
+use rbc_streams::{LineReader, Sink, Source, answer_lines, converse};
 use rbc_sweep::{Desk, DeskName, Gate, Record, Seat};
 use rbc_track::Track;
 use std::alloc::Global;
@@ -76,14 +78,16 @@ pub fn run<R: Source, W: Sink>(
 /// receipt for each line that is accepted, and none for any other. Each line is answered as after a history that goes on
 /// from all that the seat had been told, and the seat is told that history: other seats may enter what they are told and
 /// asked meanwhile. Before each read of the reader all replies so far are handed on. The track is that of the desk.
-/// Trains that ask pass the gate, outside the desk's lock.
+/// Trains that ask pass the gate, outside the desk's lock. There is room for the lines: a reader of lines that was not
+/// begun.
 ///
 /// # Errors
 ///
-/// Those of [`run`]. The seat keeps the receipts for all lines that were treated.
+/// Those of [`run`], but for `Memory`. The seat keeps the receipts for all lines that were treated.
 pub fn session<R: Source, W: Sink, L: DeskName, G: Gate, T: Threads + Wait + Sync>(
     rt: &T,
     alloc: Global,
+    lines: LineReader,
     reader: &mut R,
     writer: &mut W,
     track: &Track,
@@ -91,6 +95,7 @@ pub fn session<R: Source, W: Sink, L: DeskName, G: Gate, T: Threads + Wait + Syn
     seat: &mut Seat<L>,
     gate: &G,
 ) -> Result<(), SessionFault>
+    requires lines { lines ≡ at_start LONGEST_LINE }
     requires reader { R.failed reader.old ≡ false }
     requires writer { W.failed writer.old ≡ false }
     requires track { track.now ≡ L.opened.track }
@@ -99,9 +104,8 @@ pub fn session<R: Source, W: Sink, L: DeskName, G: Gate, T: Threads + Wait + Syn
     ensures read { (result ≡ Err SessionFault.Read) ↔ IsTrue (R.failed reader.new) }
     ensures write { (result ≡ Err SessionFault.Write) ↔ IsTrue (W.failed writer.new) }
 
-    // Without memory nothing begins.
-    ensures memory { result ≡ Err SessionFault.Memory
-        → (reader.new ≡ reader.old) × (writer.new ≡ writer.old) × (seat.new ≡ seat.old) }
+    // None that begins ends for want of memory.
+    ensures begins { result ≢ Err SessionFault.Memory }
 
     // Ok is answered at the end of the input.
     ensures end { OnOk result (IsAtEnd (R.left reader.new)) }
@@ -130,5 +134,5 @@ pub fn session<R: Source, W: Sink, L: DeskName, G: Gate, T: Threads + Wait + Syn
         gate,
         waiting: rt,
     };
-    converse(rt, alloc, reader, writer, seat, &counter)
+    answer_lines(rt, alloc, lines, reader, writer, seat, &counter)
 }

@@ -135,7 +135,7 @@ where
         connections,
         &mut writer,
     );
-    (ended, writer.into_writer())
+    (ended.map(|served| served.record), writer.into_writer())
 }
 
 /// The record has four entries, and the server wrote what came of the sweep.

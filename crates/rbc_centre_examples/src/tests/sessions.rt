@@ -4,8 +4,9 @@ ghost use Rattle.std.specs.Prelude.{◌≡◌};
 
 use super::telling::{closed, record_of, shared_track};
 use super::{BRANCH, PLAIN};
+use rbc_model::limits::LONGEST_LINE;
 use rbc_server::{SessionFault, run, session};
-use rbc_streams::Stream;
+use rbc_streams::{LineReader, Stream};
 use rbc_sweep::{Blank, Desk, DeskName, OpenGate, Record};
 use std::io::{Read, Write};
 use std::marker::Brand;
@@ -167,9 +168,11 @@ where
     let mut seat = seats.pop().expect(rt, "a seat");
     let mut reader = Stream::reader(case.lines.as_bytes());
     let mut writer = Stream::writer(alloc, Vec::new(alloc)).expect(rt, "room");
+    let lines = LineReader::new(alloc, LONGEST_LINE).expect(rt, "room");
     let outcome = session(
         rt,
         alloc,
+        lines,
         &mut reader,
         &mut writer,
         &track,

@@ -27,7 +27,9 @@ returns-clause-attended g c =
     let connections = c.args.connections in
     let seats = c.args.seats.items in
     let workers = c.in_ok-workers.workers.items in
-    let served = c.in_ok-served.served.items in
+    let served = c.in_ok-visited.visited.0.items in
+    let partings = map g.C.Client.parting c.in_ok-visited.visited.1.items in
+    let coming = g.P.Clients.coming c.args.port in
     let brought = c.bring_all-workers.result.items in
     let swept = c.sweep-workers.result.0.items in
     let outcomes = c.in_ok-outcomes.outcomes.items in
@@ -38,12 +40,12 @@ returns-clause-attended g c =
     let answered : All (IsToldToOne brought swept) outcomes = search rules in
     let gained : IsPermutation (all_receipts brought ++ granted outcomes) (all_receipts swept) = search rules in
     let all : c.append.new.self.items ≡ served ++ swept = search rules in
-    let sweep : IsSwept connections seats (served ++ swept) outcomes =
-    swept_with connections seats workers c.split_off.new.self.items served c.as_slice.result.now brought swept outcomes left first c.in_ok-served.ensures.served c.as_slice.ensures.value
+    let sweep : IsSwept coming partings connections seats (served ++ swept) outcomes =
+    swept_with coming partings connections seats workers c.split_off.new.self.items served c.as_slice.result.now brought swept outcomes left first c.in_ok-visited.ensures.served c.as_slice.ensures.value
     c.bring_all-workers.ensures.brought c.sweep-workers.ensures.seats trains answered gained in
     record {
       outcomes = outcomes;
-      sweep = subst (λ kept. IsSwept connections seats kept outcomes) (sym all) sweep;
+      sweep = subst (λ kept. IsSwept coming partings connections seats kept outcomes) (sym all) sweep;
       told = printed.0;
       tells = subst (λ track. TellsAll track outcomes printed.0) c.requires.track (subst (λ l. TellsAll c.args.track.now l printed.0) c.as_slice-3.ensures.value printed.1);
       written = printed.2;
@@ -55,7 +57,9 @@ returns-in_err-print_outcomes-clause-fault g c =
     let connections = c.args.connections in
     let seats = c.args.seats.items in
     let workers = c.in_ok-workers.workers.items in
-    let served = c.in_ok-served.served.items in
+    let served = c.in_ok-visited.visited.0.items in
+    let partings = map g.C.Client.parting c.in_ok-visited.visited.1.items in
+    let coming = g.P.Clients.coming c.args.port in
     let brought = c.bring_all-workers.result.items in
     let swept = c.sweep-workers.result.0.items in
     let outcomes = c.in_ok-outcomes.outcomes.items in
@@ -65,11 +69,12 @@ returns-in_err-print_outcomes-clause-fault g c =
     let trains : AreTrainsOfFirst brought swept (map train_of outcomes) = search rules in
     let answered : All (IsToldToOne brought swept) outcomes = search rules in
     let gained : IsPermutation (all_receipts brought ++ granted outcomes) (all_receipts swept) = search rules in
-    let sweep : IsSwept connections seats (served ++ swept) outcomes =
-    swept_with connections seats workers c.split_off.new.self.items served c.as_slice.result.now brought swept outcomes left first c.in_ok-served.ensures.served c.as_slice.ensures.value
+    let sweep : IsSwept coming partings connections seats (served ++ swept) outcomes =
+    swept_with coming partings connections seats workers c.split_off.new.self.items served c.as_slice.result.now brought swept outcomes left first c.in_ok-visited.ensures.served c.as_slice.ensures.value
     c.bring_all-workers.ensures.brought c.sweep-workers.ensures.seats trains answered gained in
-    let cut : IsCutOff track connections seats (g.W.Sink.written c.args.writer.now) (g.W.Sink.written c.print_outcomes.new.writer) =
+    let cut : IsCutOff track coming connections seats (g.W.Sink.written c.args.writer.now) (g.W.Sink.written c.print_outcomes.new.writer) =
     record {
+      partings = partings;
       kept = served ++ swept;
       outcomes = outcomes;
       sweep = sweep;
@@ -79,5 +84,5 @@ returns-in_err-print_outcomes-clause-fault g c =
       written = part.3;
     } in
     let fault = err_from_is_err_and c.from_residual-in_err-print_outcomes.result c.from_residual-in_err-print_outcomes.ensures.1 in
-    cut_off_is_told c.from_residual-in_err-print_outcomes.result fault.0 fault.1 g.L.DeskName.opened g.L.Ledger.parts connections seats (g.W.Sink.written c.args.writer.now)
+    cut_off_is_told c.from_residual-in_err-print_outcomes.result fault.0 fault.1 g.L.DeskName.opened coming g.L.Ledger.parts connections seats (g.W.Sink.written c.args.writer.now)
     (g.W.Sink.written c.print_outcomes.new.writer) fault.2 cut

@@ -5,10 +5,10 @@ use Rattle.rbc_server.proofs.SeatSessionLemmas.{seat_grown, seat_session}
 use Rattle.rbc_server.proofs.sessions.session.Goals as goal
 
 pub returns-clause-grown : goal.returns-clause-grown
-returns-clause-grown g c = seat_grown _ _ _ _ _ _ c.converse.ensures.talk.2
+returns-clause-grown g c = seat_grown _ _ _ _ _ _ c.answer_lines.ensures.talk.2
 
 pub returns-clause-session : goal.returns-clause-session
-returns-clause-session g c = (c.converse.ensures.talk.0, c.converse.ensures.talk.1, seat_session _ _ _ _ _ _ c.converse.ensures.talk.2)
+returns-clause-session g c = (c.answer_lines.ensures.talk.0, c.answer_lines.ensures.talk.1, seat_session _ _ _ _ _ _ c.answer_lines.ensures.talk.2)
 
 pub returns-clause-answers : goal.returns-clause-answers
 returns-clause-answers g c = λ input session.
