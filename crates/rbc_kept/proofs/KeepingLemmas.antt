@@ -45,8 +45,8 @@ module _ {D : Type 0} (seen : D → List ℕ) where
       let file = recovered (seen first.journal.device) in
       let adds = same_adds track entries line text g.0 treated.says (adds_of track entries line said g.0 form g.1) in
       let one : Told track file (staged first.journal ++ text ∷ []) (entries ++ g.0 ∷ []) =
-          subst (λ (ls : List (List ℕ)). Tells (Adds track) [] ls (entries ++ g.0 ∷ [])) (append_assoc file (staged first.journal) (text ∷ []))
-          (one_more (Adds track) [] (file ++ staged first.journal) entries text g.0 told adds) in
+      subst (λ (ls : List (List ℕ)). Tells (Adds track) [] ls (entries ++ g.0 ∷ [])) (append_assoc file (staged first.journal) (text ∷ []))
+      (one_more (Adds track) [] (file ++ staged first.journal) entries text g.0 told adds) in
       subst (λ (h : HistoryOnTrack). Told h.track (recovered (seen now.journal.device)) (staged now.journal) h.entries) (sym g.2)
       (subst (λ (d : D). Told track (recovered (seen d)) (staged now.journal) (entries ++ g.0 ∷ [])) (sym device)
       (subst (λ (ls : List (List ℕ)). Told track file ls (entries ++ g.0 ∷ [])) (sym lines) one))
@@ -63,6 +63,7 @@ module _ {D : Type 0} (seen : D → List ℕ) where
     where
       both : (b : Bool) → b ≡ false → b ≡ true → ⊥
       both b low high = cc
+
       no_more : (m n : ℕ) → m < n → nat_lt m n ≡ false → ⊥
       no_more m n less least = both (nat_lt m n) least (lt-ltb m n less)
 
@@ -101,7 +102,7 @@ module _ {D : Type 0} (seen : D → List ℕ) (may_leave : D → List ℕ → Ty
     goes_written works writes put none =
         let s = said.settled works in
         let lines : recovered (seen next.journal.device) ++ staged next.journal ≡ recovered (seen now.journal.device) ++ staged now.journal =
-            ap (λ (l : List (List ℕ)). recovered (seen next.journal.device) ++ l) none ∙ append-nil (recovered (seen next.journal.device)) ∙ put in
+        ap (λ (l : List (List ℕ)). recovered (seen next.journal.device) ++ l) none ∙ append-nil (recovered (seen next.journal.device)) ∙ put in
         record {
           whole = works;
           settled = s.0;
@@ -136,19 +137,19 @@ module _ {D : Type 0} (seen : D → List ℕ) (may_leave : D → List ℕ → Ty
         → (r : List ℕ) × Goes first.history line r next.history × IsGoing seen may_leave next × (Rests first r text next ⊎ Writes first r text next)
     answered_now works (inl (rests, lines, few)) =
         let rested : Rests first reply text next =
-            record {
-              silent = rests.silent;
-              device = rests.device ∙ device;
-              holds = (rests.holds.0 ∙ ap (λ (l : List ℕ). l ++ reply) replies, rests.holds.1 ∙ ap (λ n. n + 1) resting);
-            } in
+        record {
+          silent = rests.silent;
+          device = rests.device ∙ device;
+          holds = (rests.holds.0 ∙ ap (λ (l : List ℕ). l ++ reply) replies, rests.holds.1 ∙ ap (λ n. n + 1) resting);
+        } in
         (reply, goes_next, goes_resting now next reply text told said works rests lines few, inl rested)
     answered_now works (inr (writes, put, none)) =
         let wrote : Writes first reply text next =
-            record {
-              text_is = writes.text_is ∙ ap (λ (l : List ℕ). l ++ reply) replies;
-              none_held = writes.none_held;
-              none_rests = writes.none_rests;
-            } in
+        record {
+          text_is = writes.text_is ∙ ap (λ (l : List ℕ). l ++ reply) replies;
+          none_held = writes.none_held;
+          none_rests = writes.none_rests;
+        } in
         (reply, goes_next, goes_written now next reply text told said works writes put none, inr wrote)
 
     stays_now : (Rests now reply text next × (staged next.journal ≡ staged now.journal) × (next.resting < MOST_TOGETHER))
