@@ -1,6 +1,6 @@
 -- What a crash leaves of a history that grows.
-use Rattle.std.proofs.Common.{◌≡◌, ◌⊎◌, ⊎_elim, inl, inr, ℕ, ◌≤◌, List, [], ◌++◌, length, take, refl, sym, ◌∙◌, ap, subst, append_assoc, length-append, arith}
-use Rattle.std.proofs.lemmas.List.{append-nil, take_all, take-append-le}
+use Rattle.std.proofs.Common.{◌≡◌, ◌⊎◌, ⊎_elim, inl, inr, ℕ, ◌≤◌, List, [], ◌++◌, length, take, refl, sym, ◌∙◌, ap, subst, length-append, arith}
+use Rattle.std.proofs.lemmas.List.{take_all, take-append-le}
 use Rattle.rbc_journal.specs.Device.{Only, LeavesOnly}
 use Rattle.rbc_journal.specs.Journal.{recovered}
 use Rattle.rbc_kept.specs.Tells.{Tells}

@@ -1,5 +1,5 @@
 -- A reply is said: it rests, or it is written behind those that rested, once all lines that are staged are put.
-use Rattle.std.proofs.Common.{◌≡◌, ℕ, ◌<◌, ◌≤◌, ◌+◌, Bool, true, false, cond, ◌||◌, List, [], ◌++◌, Option, Result, Ok, Err, inl, inr, refl, sym, ap, ◌∙◌, subst, arith, append_assoc}
+use Rattle.std.proofs.Common.{◌≡◌, ℕ, ◌<◌, ◌≤◌, Bool, true, false, cond, ◌||◌, List, [], ◌++◌, Option, Result, Ok, Err, inl, inr, refl, sym, ap, ◌∙◌, subst, arith, append_assoc}
 use Rattle.std.specs.Prelude.{is_err}
 use Rattle.std.specs.Io.KnownBytes.{Appends, Keeps}
 use Rattle.std.proofs.KnownBytes.{Appends-nil, Appends-kept, Appends-trans}
@@ -8,7 +8,6 @@ use Rattle.rbc_journal.specs.Journal.{recovered, IsBeforeOrAfter}
 use Rattle.rbc_journal.specs.Settled.{IsSettled, staged}
 use Rattle.rbc_journal.specs.declared.journal.Journal.{Journal}
 use Rattle.rbc_model.specs.Sessions.{Prints, WritesText}
-use Rattle.rbc_server.specs.Records.{HistoryOnTrack}
 use Rattle.rbc_kept.specs.Advances.{Holds, IsSaid}
 use Rattle.rbc_kept.specs.declared.kept.Kept.{Kept}
 use Rattle.rbc_kept.specs.declared.kept.TheConstants.{MOST_TOGETHER}

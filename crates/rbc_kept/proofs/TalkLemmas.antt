@@ -1,5 +1,5 @@
 -- A talk over a record that is kept, line by line.
-use Rattle.std.proofs.Common.{◌≡◌, ℕ, ◌<◌, ◌≤◌, ◌+◌, Bool, true, false, List, [], ◌∷◌, ◌++◌, length, Option, Result, Ok, Err, inl, inr, refl, sym, ap, ◌∙◌, subst, arith, append_assoc, append-nil}
+use Rattle.std.proofs.Common.{◌≡◌, ℕ, ◌<◌, ◌≤◌, Bool, true, false, List, [], ◌∷◌, ◌++◌, length, Option, Result, Ok, Err, inl, inr, refl, sym, ap, ◌∙◌, subst, arith, append_assoc, append-nil}
 use Rattle.std.specs.Prelude.{◌↔◌, ◌||◌, ◌⊎◌, OnOk}
 use Rattle.std.specs.Bool.{IsTrue}
 use Rattle.std.proofs.lemmas.List.{length-append, length-map}
@@ -22,8 +22,7 @@ use Rattle.rbc_server.proofs.SessionLemmas.{AreRight, turned, session_turns}
 use Rattle.rbc_session_laws.specs.SessionRuns.{Turn, entries_of, entries_added, lines_treated}
 use Rattle.rbc_kept.specs.Adds.{Adds}
 use Rattle.rbc_kept.specs.Advances.{Advances, Leaves, LeavesWritten, Rests, Writes}
-use Rattle.rbc_kept.specs.Kept.{IsBetween, IsFrom, IsGoing, IsReady}
-use Rattle.rbc_kept.specs.Tells.{Tells}
+use Rattle.rbc_kept.specs.Kept.{IsFrom, IsGoing, IsReady}
 use Rattle.rbc_kept.specs.Ends.{run_end}
 use Rattle.rbc_kept.specs.Sessions.{IsCutShort, IsKeptSession}
 use Rattle.rbc_kept.specs.declared.kept.Kept.{Kept}

@@ -1,5 +1,5 @@
 -- What a line asks for, treated.
-use Rattle.std.proofs.Common.{◌≡◌, ℕ, ◌<◌, ◌&&◌, List, [], ◌∷◌, true, false, nat_le, arith, length, None, Result, Ok, Err, refl, sym, ap, ◌∙◌, subst, append-nil, inr}
+use Rattle.std.proofs.Common.{◌≡◌, ℕ, ◌<◌, ◌&&◌, List, [], ◌∷◌, true, nat_le, arith, length, None, Result, Ok, Err, refl, sym, ap, ◌∙◌, subst, append-nil, inr}
 use Rattle.std.specs.Prelude.{◌≢◌}
 use Rattle.std.specs.List.{AllByRecursion, list_all}
 use Rattle.std.specs.Result.{result_map_both}

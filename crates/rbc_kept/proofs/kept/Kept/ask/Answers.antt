@@ -1,4 +1,4 @@
-use Rattle.std.proofs.Common.{Ok, refl}
+use Rattle.std.proofs.Common.{Ok}
 use Rattle.rbc_replies.specs.Replies.{reply_text}
 use Rattle.rbc_session_laws.specs.declared.demand.Demand.TheVariants.{Authority}
 use Rattle.rbc_words.specs.SessionLines.{request_view}
