@@ -6,7 +6,7 @@ use super::PLAIN;
 use super::gates::wait_for;
 use super::sessions::{LINES, REPLIES};
 use super::telling::{record_of, shared_track};
-use rbc_server::{Port, ServeFault, Terms, serve};
+use rbc_server::{Port, ServeFault, Served, Terms, serve};
 use rbc_streams::Stream;
 use rbc_sweep::{Blank, Desk, DeskName, Record};
 use std::io;
@@ -135,7 +135,10 @@ where
         connections,
         &mut writer,
     );
-    (ended.map(|served| served.record), writer.into_writer())
+    match ended {
+        Ok(Served { record, .. }) => (Ok(record), writer.into_writer()),
+        Err(fault) => (Err(fault), writer.into_writer()),
+    }
 }
 
 /// The record has four entries, and the server wrote what came of the sweep.
