@@ -4,7 +4,6 @@ mod crowds;
 mod desks;
 mod faults;
 mod gates;
-mod guests;
 mod memory;
 mod records;
 mod replays;
