@@ -7,7 +7,6 @@ mod gates;
 mod memory;
 mod records;
 mod replays;
-mod servers;
 mod sessions;
 mod sweeps;
 mod telling;
