@@ -1,0 +1,5 @@
+mod BeginningLemmas
+mod AddingLemmas
+mod MarkLemmas
+mod FileLemmas
+mod PageLemmas

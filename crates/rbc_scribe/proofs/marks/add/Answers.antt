@@ -1,0 +1,18 @@
+use Rattle.std.proofs.Common.{sym, ◌∙◌, ap}
+use Rattle.rbc_scribe.specs.Stamps.{stamp_of}
+use Rattle.rbc_scribe.proofs.AddingLemmas.{adds_moves}
+use Rattle.rbc_scribe.proofs.marks.add.Goals as goal
+
+pub compare_exchange-found-requires : goal.compare_exchange-found-requires
+compare_exchange-found-requires g c =
+    let d = g.D.Device in
+    let h = c.requires.head in
+    let offer = c.plain-offer.ensures in
+    let pen = c.no_pen-pen.ensures in
+    let again = c.again-more.ensures in (
+      ap (λ w. w.tracked) h,
+      ap (λ s. s.book) again ∙ sym (ap (λ w. w.book) h),
+      pen.0 ∙ sym (ap (λ w. w.book) h),
+      offer.0 ∙ sym (ap (λ s. s.names) again),
+      rw (ap (λ w. w.key) h, pen.1, offer.1, offer.3, again) (adds_moves c.args.seen.now.log (stamp_of d.seen d.moment c.args.journal.now) c.args.count (sym c.requires.count)),
+    )

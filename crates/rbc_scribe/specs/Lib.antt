@@ -1,0 +1,4 @@
+pub mod Told
+pub mod Stamps
+pub mod Marks
+pub mod Pages

@@ -1,0 +1,33 @@
+-- A journal that is written for many.
+use Rattle.std.specs.Prelude.{◌≡◌, ◌≤◌, ◌+◌, ◌++◌, ℕ, Bool, List, length, slice_get, Some, false}
+use Rattle.rbc_journal.specs.Journal.{recovered}
+use Rattle.rbc_journal.specs.Settled.{IsSettled, staged}
+use Rattle.rbc_journal.specs.declared.journal.Journal.{Journal}
+use Rattle.rbc_scribe.specs.Told.{AreTold}
+use Rattle.rbc_scribe.specs.Stamps.{Lasts}
+use Rattle.rbc_scribe.specs.declared.stamp.Stamp.{Stamp}
+
+-- the file, what was told of the history, how many lines are on the disk, how many with those that are staged, and whether the journal has failed
+pub record PageOf (D T : Type 0) : Type 0 where
+  pub device : D
+  pub told : T
+  pub lines : ℕ
+  pub next : ℕ
+  pub has_failed : Bool
+
+abbrev pub page_of : {D T : Type 0} → D → T → ℕ → ℕ → Bool → PageOf D T
+page_of device told lines next has_failed = record { device = device; told = told; lines = lines; next = next; has_failed = has_failed }
+
+module _ {D : Type 0} (seen : D → List ℕ) (may_leave : D → List ℕ → Type 0) where
+  -- The journal is settled, with so many lines in its file and so many with the staged ones. Each tells the entry at its place.
+  pub record IsWhole (tells : ℕ → List ℕ → Type 0) (journal : Journal D) (lines next : ℕ) : Type 0 where
+    pub settled : IsSettled seen may_leave journal
+    pub count : lines ≡ length (recovered (seen journal.device))
+    pub counts_staged : next ≡ lines + length (staged journal)
+    pub told : AreTold tells (recovered (seen journal.device) ++ staged journal)
+
+module _ {D : Type 0} (moment : D → ℕ) (left_since : D → ℕ → List ℕ → Type 0) where
+  -- each of these stamps has at most so many lines, and lasts
+  abbrev pub AllLast : (ℕ → List ℕ → Type 0) → D → ℕ → List Stamp → Type 0
+  AllLast tells device lines stamps =
+      (place : ℕ) (stamp : Stamp) → slice_get stamps place ≡ Some stamp → (stamp.lines ≤ lines) × Lasts moment left_since tells device stamp

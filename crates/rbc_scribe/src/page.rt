@@ -1,0 +1,157 @@
+//! The journal, as one seat at a time writes it.
+
+ghost use Rattle.std.specs.Prelude.{◌≡◌, ◌+◌, ℕ, [], length, true, false, IsTrue, IfSome, IfNone};
+ghost use Rattle.rbc_journal.specs.Device.{Only};
+ghost use Rattle.rbc_journal.specs.Journal.{recovered};
+ghost use Rattle.rbc_journal.specs.Settled.{staged, IsSettled, HasRoom};
+ghost use Rattle.rbc_scribe.specs.Pages.{page_of};
+ghost use Rattle.rbc_scribe.specs.Stamps.{stamp_of, Lasts};
+ghost use Rattle.rbc_scribe.specs.Told.{AreTold};
+
+use crate::marks::{Mark, Marks};
+use crate::{Blank, Line, Pen, ScribeName, Told};
+use rbc_journal::{Device, Journal, JournalFault};
+use std::marker::Model;
+use std::sync::Wait;
+
+/// A journal, and what is known of its lines: each tells the entry at its place of one history. Contracts see its file,
+/// what was told of the history, how many lines are on the disk, how many with those that are staged, and whether the
+/// journal has failed.
+#[derive(Drop)]
+pub struct Page<T: Told + Drop, D: Device, N: ScribeName> {
+    journal: Journal<D>,
+    told: T,
+    lines: u64,
+    next: u64,
+    has_failed: bool,
+    marks: Marks<N>,
+}
+
+impl<T: Told + Drop, D: Device, N: ScribeName> Model for Page<T, D, N> {
+    ghost use Rattle.std.specs.Prelude.{◌≡◌, ◌≤◌, false};
+    ghost use Rattle.rbc_scribe.specs.Pages.{PageOf, page_of, IsWhole, AllLast};
+
+    ghost Value = { PageOf D T };
+
+    ghost view = { λ p. page_of p.journal.device p.told p.lines p.next p.has_failed };
+
+    ghost invariant = { λ p. (p.has_failed ≡ false → IsWhole D.seen D.may_leave (T.tells p.told) p.journal p.lines p.next)
+        × AllLast D.moment D.left_since (T.tells p.told) p.journal.device p.lines p.marks
+        × (p.lines ≤ p.next) };
+}
+
+/// Makes room to stage a line of so many bytes. False where the file takes no more.
+fn make_room<D: Device, R: Wait>(rt: &R, journal: &mut Journal<D>, bytes: usize) -> bool
+    requires { IsSettled D.seen D.may_leave journal.old }
+    ensures settled { IsSettled D.seen D.may_leave journal.new }
+    ensures device { journal.new.device ≡ journal.old.device }
+    ensures staged { staged journal.new ≡ staged journal.old }
+    ensures room { IsTrue result → HasRoom journal.new bytes }
+{
+    // Room for the lines of all pens was made before, so memory is not refused.
+    for _ in rt.forever() {
+        match journal.reserve(bytes) {
+            Ok(()) => return true,
+            Err(JournalFault::Memory) => {}
+            Err(_) => return false,
+        }
+    }
+    unreachable!()
+}
+
+impl<T: Told + Drop, D: Device, N: ScribeName> Page<T, D, N> {
+    /// A page over a journal that is settled, with so many lines, and its first stamp.
+    pub(crate) fn new<R: Wait>(
+        rt: &R,
+        journal: Journal<D>,
+        told: T,
+        lines: u64,
+        blank: Blank,
+    ) -> (Page<T, D, N>, Mark<N>)
+        requires settled { IsSettled D.seen D.may_leave journal }
+        requires none_staged { staged journal ≡ [] }
+        requires count { lines ≡ length (recovered (D.seen journal.device)) }
+        requires told { AreTold (T.tells told) (recovered (D.seen journal.device)) }
+        requires book { blank ≡ N.book }
+        ensures page { result.0 ≡ page_of journal.device told lines lines false }
+        ensures mark { result.1 ≡ stamp_of D.seen D.moment journal }
+    {
+        let mut marks = Marks::new(blank);
+        let mark = marks.stamp(rt, &journal, lines);
+        let page = Page {
+            journal,
+            told,
+            lines,
+            next: lines,
+            has_failed: false,
+            marks,
+        };
+        (page, mark)
+    }
+
+    /// The place of the next line that it takes; None where the journal has failed.
+    pub(crate) fn wanted(&self) -> Option<u64>
+        ensures next { IfSome result (λ place. place ≡ self.now.next) }
+        ensures whole { IfSome result (λ place. self.now.has_failed ≡ false) }
+        ensures failed { IfNone result (self.now.has_failed ≡ true) }
+    {
+        if self.has_failed {
+            return None;
+        }
+        Some(self.next)
+    }
+
+    /// Stages the next line, without a call of the file. Where the file takes no more, the journal has failed.
+    pub(crate) fn take<R: Wait>(&mut self, rt: &R, line: Line<T>)
+        requires place { line ≡ self.old.next }
+        requires whole { self.old.has_failed ≡ false }
+        ensures device { self.new.device ≡ self.old.device }
+        ensures lines { self.new.lines ≡ self.old.lines }
+        ensures next { self.new.has_failed ≡ false → self.new.next ≡ self.old.next + 1 }
+    {
+        let Line { told, place, text } = line;
+        self.told.hear(&told);
+        if !make_room(rt, &mut self.journal, text.len()) {
+            self.has_failed = true;
+            return;
+        }
+        self.journal.stage(text.as_slice());
+        self.next = place + 1;
+    }
+
+    /// Makes the staged lines durable, all at once, and gives out the stamp. None where the journal has failed.
+    pub(crate) fn commit<R: Wait>(&mut self, rt: &R) -> Option<Mark<N>>
+        ensures told { self.new.told ≡ self.old.told }
+        ensures lines { IfSome result (λ mark. mark.lines ≡ self.old.next) }
+        ensures failed { IfNone result (self.new.has_failed ≡ true) }
+    {
+        if self.has_failed {
+            return None;
+        }
+        let Ok(()) = self.journal.commit() else {
+            self.has_failed = true;
+            return None;
+        };
+        self.lines = self.next;
+        Some(self.marks.stamp(rt, &self.journal, self.lines))
+    }
+
+    /// A crash at any moment since the pen's last stamp left a file with the stamp's lines at least.
+    pub fn vouch<R: Wait>(&self, rt: &R, pen: &Pen<N>)
+        ensures { Lasts D.moment D.left_since (T.tells self.now.told) self.now.device pen.now }
+    {
+        self.marks.has(rt, &pen.mark);
+    }
+
+    /// The file, and what was told of the history.
+    pub fn into_parts(self) -> (D, T)
+        ensures device { result.0 ≡ self.device }
+        ensures told { result.1 ≡ self.told }
+        ensures whole { self.has_failed ≡ false → AreTold (T.tells self.told) (recovered (D.seen self.device)) }
+        ensures count { self.has_failed ≡ false → length (recovered (D.seen self.device)) ≡ self.lines }
+        ensures durable { self.has_failed ≡ false → Only (D.seen self.device) (D.may_leave self.device) }
+    {
+        let Page { journal, told, .. } = self;
+        (journal.into_device(), told)
+    }
+}

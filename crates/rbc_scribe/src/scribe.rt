@@ -1,0 +1,165 @@
+//! The scribe.
+
+ghost use Rattle.std.specs.Prelude.{◌≡◌, ◌<◌, ◌≤◌, [], length, replicate, vec_len, vec_capacity, IfOk, IfErr, OnOk, OnErr, IfSome};
+ghost use Rattle.rbc_journal.specs.Journal.{recovered};
+ghost use Rattle.rbc_journal.specs.Settled.{staged, IsSettled};
+ghost use Rattle.rbc_scribe.specs.Stamps.{stamp_of};
+ghost use Rattle.rbc_scribe.specs.Told.{AreTold};
+
+use crate::marks::Mark;
+use crate::tray::{MOST_PENS, Tray};
+use crate::{Blank, Line, Page, Pen, ScribeName, Told};
+use rbc_journal::{Device, Journal, JournalFault};
+use std::alloc::{AllocError, Global};
+use std::sync::{Condvar, Mutex, Wait};
+use thiserror::Error;
+
+/// The journal has failed: its file did, or takes no more. Whether the entry is on the disk is not known.
+#[derive(Clone, Copy, Debug, PartialEq, Eq, Error)]
+#[error("journal fault")]
+pub struct NotKept;
+
+/// A journal that many seats write to. Each lays the line of its entry, and one writes for all that wait.
+#[derive(Drop)]
+pub struct Scribe<T: Told + Drop, D: Device, N: ScribeName> {
+    tray: Mutex<Tray<T, N>>,
+    page: Mutex<Page<T, D, N>>,
+    noted: Condvar,
+}
+
+/// How many bytes the lines of all pens have at most, each with its line feed and its gate.
+const ROOM: usize = MOST_PENS * 4_098;
+
+/// A slot for each pen.
+fn empty_slots<T: Told + Drop>(alloc: Global) -> Result<Vec<Option<Line<T>>>, AllocError>
+    ensures { IfOk result (λ slots. vec_len slots ≡ 16) }
+{
+    let mut slots = Vec::with_capacity(alloc, MOST_PENS)?;
+    for _slot in 0..MOST_PENS {
+        slots.push_reserved(None);
+    }
+    Ok(slots)
+}
+
+/// So many pens, in the room that is there for them.
+fn pens_with<N: ScribeName>(mut pens: Vec<Pen<N>>, count: usize, mark: &Mark<N>) -> Vec<Pen<N>>
+    requires empty { vec_len pens ≡ 0 }
+    requires room { count ≤ vec_capacity pens }
+    requires few { count ≤ 16 }
+    ensures { result.items ≡ replicate count mark.now }
+{
+    for slot in 0..count {
+        pens.push_reserved(Pen::new(slot, mark.again()));
+    }
+    pens
+}
+
+impl<T: Told + Drop, D: Device, N: ScribeName> Scribe<T, D, N> {
+    /// A scribe over a journal with so many lines, each of which tells the entry at its place, and so many pens, which have
+    /// the first stamp. The file is not asked for anything.
+    ///
+    /// # Errors
+    ///
+    /// `Memory`, or `Full`, where the file has no room for a line of each pen. The file comes back.
+    pub fn open<R: Wait>(
+        rt: &R,
+        alloc: Global,
+        mut journal: Journal<D>,
+        told: T,
+        lines: u64,
+        pens: usize,
+        blank: Blank,
+    ) -> Result<(Scribe<T, D, N>, Vec<Pen<N>>), (JournalFault, D)>
+        requires settled { IsSettled D.seen D.may_leave journal }
+        requires none_staged { staged journal ≡ [] }
+        requires count { lines ≡ length (recovered (D.seen journal.device)) }
+        requires told { AreTold (T.tells told) (recovered (D.seen journal.device)) }
+        requires few { pens ≤ 16 }
+        requires book { blank ≡ N.book }
+        ensures pens { IfOk result (λ opened. opened.1.items ≡ replicate pens (stamp_of D.seen D.moment journal)) }
+        ensures refused { IfErr result (λ fault. (fault.1 ≡ journal.device) × (fault.0 ≡ JournalFault.Device → ⊥)) }
+    {
+        if let Err(fault) = journal.reserve(ROOM) {
+            return Err((fault, journal.into_device()));
+        }
+        let (Ok(slots), Ok(room)) = (empty_slots(alloc), Vec::with_capacity(alloc, pens)) else {
+            return Err((JournalFault::Memory, journal.into_device()));
+        };
+        let (page, mark) = Page::new(rt, journal, told, lines, blank);
+        let pens = pens_with(room, pens, &mark);
+        let tray = Tray {
+            slots,
+            latest: mark,
+            is_writing: false,
+            has_failed: false,
+        };
+        let scribe = Scribe {
+            tray: Mutex::new(tray),
+            page: Mutex::new(page),
+            noted: Condvar::new(),
+        };
+        Ok((scribe, pens))
+    }
+
+    /// Lays the line of an entry, and returns once it is on the disk. It waits until the lines of all entries before it are
+    /// laid, and for at most one write beside the one that has its line.
+    ///
+    /// # Errors
+    ///
+    /// The journal has failed, now or before.
+    pub fn keep<R: Wait>(&self, rt: &R, pen: &mut Pen<N>, line: Line<T>) -> Result<(), NotKept>
+        ensures kept { OnOk result (line < pen.new.lines) }
+        ensures refused { OnErr result (pen.new ≡ pen.old) }
+    {
+        let place = line.place();
+        self.tray.lock(rt).lay(pen.slot, line);
+        pen.mark = self.follow(rt, place)?;
+        Ok(())
+    }
+
+    /// Goes on until the line of this place is on the disk.
+    ///
+    /// # Errors
+    ///
+    /// As above.
+    fn follow<R: Wait>(&self, rt: &R, place: u64) -> Result<Mark<N>, NotKept>
+        ensures { IfOk result (λ mark. place < mark.lines) }
+    {
+        for _ in rt.forever() {
+            if let Some(mark) = self.turn(rt, place)? {
+                return Ok(mark);
+            }
+            self.write(rt);
+        }
+        unreachable!()
+    }
+
+    /// Waits until there is something to do for the seat whose line has this place.
+    ///
+    /// # Errors
+    ///
+    /// As above.
+    fn turn<R: Wait>(&self, rt: &R, place: u64) -> Result<Option<Mark<N>>, NotKept>
+        ensures { IfOk result (λ turn. IfSome turn (λ mark. place < mark.lines)) }
+    {
+        let mut tray = self
+            .noted
+            .wait_while(rt, self.tray.lock(rt), |tray| tray.must_wait(place));
+        (*tray).turn(place)
+    }
+
+    /// Writes the lines that wait.
+    fn write<R: Wait>(&self, rt: &R) {
+        let mut page = self.page.lock(rt);
+        self.tray.lock(rt).hand_over(rt, &mut *page);
+        let mark = (*page).commit(rt);
+        self.tray.lock(rt).note(mark);
+        self.noted.notify_all();
+    }
+
+    /// The page, once no seat writes any more.
+    pub fn close(self) -> Page<T, D, N> {
+        let Scribe { page, .. } = self;
+        page.into_inner()
+    }
+}
