@@ -1,5 +1,5 @@
 -- Lemmas on beginnings of lists.
-use Rattle.std.proofs.Common.{◌≡◌, ◌≤◌, List, ◌++◌, length, sym, ap, ◌∙◌, take, drop}
+use Rattle.std.proofs.Common.{◌≡◌, ◌≤◌, List, [], ◌++◌, length, sym, ap, ◌∙◌, take, drop, append-nil}
 use Rattle.std.proofs.Math.Seq.{take-append_seam}
 use Rattle.std.proofs.lemmas.List.{take_all, take-take, take-append-drop}
 use mathlib.Core.List.{IsPrefix}
@@ -13,6 +13,10 @@ pub prefix_shorter : {A : Type 0} (xs ys zs : List A) → IsPrefix xs zs → IsP
 prefix_shorter xs ys zs p q few =
     let same : take (length xs) ys ≡ xs = ap (take (length xs)) (sym (front ys zs q)) ∙ take-take (length xs) (length ys) zs few ∙ front xs zs p in
     (drop (length xs) ys, ap (λ l. l ++ drop (length xs) ys) (sym same) ∙ take-append-drop (length xs) ys)
+
+-- all of a list begins it
+pub prefix_itself : {A : Type 0} (xs : List A) → IsPrefix xs xs
+prefix_itself xs = ([], append-nil xs)
 
 -- a beginning as long as the whole is the whole
 pub prefix_whole : {A : Type 0} (xs ys : List A) → IsPrefix xs ys → length ys ≤ length xs → xs ≡ ys

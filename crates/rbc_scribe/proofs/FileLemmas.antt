@@ -12,7 +12,7 @@ module _ {A : Type 0} where
   none_is_some b e = cc
 
   -- what stands in the front stands in the whole
-  front_get : (xs ys : List A) (place : ℕ) (x : A) → slice_get xs place ≡ Some x → slice_get (xs ++ ys) place ≡ Some x
+  pub front_get : (xs ys : List A) (place : ℕ) (x : A) → slice_get xs place ≡ Some x → slice_get (xs ++ ys) place ≡ Some x
   front_get [] ys place x is = absurd (none_is_some x is)
   front_get (y ∷ xs) ys zero x is = is
   front_get (y ∷ xs) ys (suc place) x is = front_get xs ys place x is

@@ -6,10 +6,11 @@ use Rattle.rbc_journal.specs.Journal.{recovered, IsBeforeOrAfter}
 use Rattle.rbc_journal.specs.Settled.{IsSettled, staged}
 use Rattle.rbc_journal.specs.declared.journal.Journal.{Journal}
 use Rattle.rbc_scribe.specs.Told.{AreTold, HasLines}
-use Rattle.rbc_scribe.specs.Stamps.{stamp_of, Lasts}
+use Rattle.rbc_scribe.specs.Stamps.{stamp_of, Lasts, EachLasts}
 use Rattle.rbc_scribe.specs.Pages.{IsWhole, AllLast}
 use Rattle.rbc_scribe.specs.declared.stamp.Stamp.{Stamp}
-use Rattle.rbc_scribe.proofs.FileLemmas.{by_place, told_front, before_or_after}
+use mathlib.Core.List.{IsPrefix}
+use Rattle.rbc_scribe.proofs.FileLemmas.{by_place, front_get, told_front, before_or_after}
 
 module _ {D : Type 0} (seen : D → List ℕ) (may_leave : D → List ℕ → Type 0) where
   -- a line more is staged
@@ -95,3 +96,10 @@ module _ {D : Type 0} (seen : D → List ℕ) (may_leave : D → List ℕ → Ty
       stamped tells journal lines stamps is all =
           by_place (λ _ stamp. (stamp.lines ≤ lines) × Lasts moment left_since tells journal.device stamp) stamps (stamp_of seen moment journal) all
           (omega (arith, is.count), stamp_lasts tells journal is.settled (told_front tells (recovered (seen journal.device)) (staged journal) is.told))
+
+-- of all stamps that last the first ones do
+pub given_last : {D : Type 0} (moment : D → ℕ) (left_since : D → ℕ → List ℕ → Type 0) (tells : ℕ → List ℕ → Type 0) (device : D) (lines : ℕ) (given stamps : List Stamp)
+    → IsPrefix given stamps → AllLast moment left_since tells device lines stamps → EachLasts moment left_since tells device given
+given_last moment left_since tells device lines given stamps p all = λ at stamp here.
+    let one = all at stamp (subst (λ (l : List Stamp). slice_get l at ≡ Some stamp) p.1 (front_get given p.0 at stamp here)) in
+    one.1

@@ -1,5 +1,5 @@
 -- The rule of the word that counts the stamps, and what its one step tells.
-use Rattle.std.specs.Prelude.{ℕ, ◌≡◌, ◌==◌, true, List, [], ◌∷◌, ◌++◌, length}
+use Rattle.std.specs.Prelude.{ℕ, ◌≡◌, ◌<◌, ◌==◌, true, List, [], ◌∷◌, ◌++◌, length, slice_get, Some}
 use Rattle.logbook.specs.Pages.{Cell, Step, View, Book, Named}
 use Rattle.rbc_scribe.specs.declared.stamp.Stamp.{Stamp}
 
@@ -26,3 +26,10 @@ no_stamp = record { moment = 0; lines = 0 }
 
 abbrev pub latest : List Stamp → Stamp
 latest stamps = last_of no_stamp stamps
+
+-- By one of these stamps the line of this place is on the disk, counted from 0.
+pub record HasLine (stamps : List Stamp) (place : ℕ) : Type 0 where
+  pub at : ℕ
+  pub stamp : Stamp
+  pub given : slice_get stamps at ≡ Some stamp
+  pub more : place < stamp.lines

@@ -1,5 +1,5 @@
 -- What a crash leaves since a stamp.
-use Rattle.std.specs.Prelude.{◌≤◌, ℕ, List, length}
+use Rattle.std.specs.Prelude.{◌≡◌, ◌≤◌, ℕ, List, length, slice_get, Some}
 use Rattle.rbc_journal.specs.Journal.{recovered}
 use Rattle.rbc_journal.specs.declared.journal.Journal.{Journal}
 use Rattle.rbc_scribe.specs.Told.{HasLines}
@@ -13,3 +13,7 @@ stamp_of seen moment journal = record { moment = moment journal.device; lines = 
 pub record Lasts {D : Type 0} (moment : D → ℕ) (left_since : D → ℕ → List ℕ → Type 0) (tells : ℕ → List ℕ → Type 0) (device : D) (stamp : Stamp) : Type 0 where
   pub past : stamp.moment ≤ moment device
   pub leaves : (file : List ℕ) → left_since device stamp.moment file → HasLines tells stamp.lines file
+
+-- so does each of these stamps
+abbrev pub EachLasts : {D : Type 0} → (D → ℕ) → (D → ℕ → List ℕ → Type 0) → (ℕ → List ℕ → Type 0) → D → List Stamp → Type 0
+EachLasts moment left_since tells device stamps = (at : ℕ) (stamp : Stamp) → slice_get stamps at ≡ Some stamp → Lasts moment left_since tells device stamp

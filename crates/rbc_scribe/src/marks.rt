@@ -1,7 +1,8 @@
 //! The stamps of a journal, in order.
 
-ghost use Rattle.std.specs.Prelude.{◌≡◌, ◌+◌, ◌^◌, ◌<◌, ◌++◌, ◌∷◌, ℕ, [], length, slice_get, Some, IfSome};
-ghost use Rattle.rbc_scribe.specs.Marks.{head_of};
+ghost use Rattle.std.specs.Prelude.{◌≡◌, ◌+◌, ◌^◌, ◌<◌, ◌++◌, ◌∷◌, [], length, IfSome};
+ghost use mathlib.Core.List.{IsPrefix};
+ghost use Rattle.rbc_scribe.specs.Marks.{head_of, latest};
 ghost use Rattle.rbc_scribe.specs.Stamps.{stamp_of};
 
 use crate::stamp::{Add, Law, Nothing};
@@ -17,7 +18,7 @@ pub(crate) type Head = Word<Stamp, u64, Law>;
 /// Stamps that were seen. It has no bytes.
 pub(crate) type Glimpse = Seen<Stamp, u64, Law>;
 
-/// A stamp that was seen, with how many lines it has. Contracts see the stamp.
+/// Stamps that were seen, with how many lines the last of them has. Contracts see them in order.
 #[derive(Drop)]
 pub(crate) struct Mark<N: ScribeName> {
     count: u64,
@@ -27,13 +28,13 @@ pub(crate) struct Mark<N: ScribeName> {
 }
 
 impl<N: ScribeName> Model for Mark<N> {
-    ghost use Rattle.std.specs.Prelude.{◌≡◌, ◌<◌, length};
+    ghost use Rattle.std.specs.Prelude.{◌≡◌, ◌<◌, List, length};
     ghost use Rattle.rbc_scribe.specs.Marks.{latest};
     ghost use Rattle.rbc_scribe.specs.declared.stamp.Stamp.{Stamp};
 
-    ghost Value = { Stamp };
+    ghost Value = { List Stamp };
 
-    ghost view = { λ m. latest m.seen.log };
+    ghost view = { λ m. m.seen.log };
 
     ghost invariant = { λ m. (m.count ≡ length m.seen.log) × (0 < m.count) × (m.lines ≡ (latest m.seen.log).lines) × (m.seen.book ≡ N.book) };
 }
@@ -51,11 +52,25 @@ impl<N: ScribeName> Mark<N> {
         }
     }
 
-    /// How many lines the stamp has.
+    /// How many lines the last stamp has.
     pub(crate) fn lines(&self) -> u64
-        ensures { result ≡ self.now.lines }
+        ensures lines { result ≡ (latest self.now).lines }
+        ensures some { 0 < length self.now }
     {
         self.lines
+    }
+
+    /// Goes on to what the other has, if that is not less.
+    #[tactic(auto, using(crate::proofs::BeginningLemmas::prefix_itself))]
+    pub(crate) fn go_on(&mut self, other: Mark<N>)
+        ensures stays { IsPrefix self.old self.new }
+        ensures heard { IsPrefix other self.new }
+    {
+        let mut both = self.seen.again();
+        both.learn(&other.seen);
+        if self.count <= other.count {
+            *self = other;
+        }
     }
 }
 
@@ -146,7 +161,7 @@ impl<N: ScribeName> Marks<N> {
         }
     }
 
-    /// Adds a stamp of the journal, whose file stands for so many lines. It is given out too.
+    /// Adds a stamp of the journal, whose file stands for so many lines. All stamps are given out too.
     #[tactic(auto, using(crate::proofs::MarkLemmas::latest_added))]
     pub(crate) fn stamp<R: Wait, D: Device>(
         &mut self,
@@ -156,7 +171,8 @@ impl<N: ScribeName> Marks<N> {
     ) -> Mark<N>
         requires { lines ≡ (stamp_of D.seen D.moment journal.now).lines }
         ensures stamps { self.new ≡ self.old ++ stamp_of D.seen D.moment journal.now ∷ [] }
-        ensures mark { result ≡ stamp_of D.seen D.moment journal.now }
+        ensures mark { result ≡ self.new }
+        ensures lines { (latest result).lines ≡ lines }
     {
         let seen = advance(rt, &self.head, &self.seen, self.count, journal);
         self.count += 1;
@@ -170,9 +186,9 @@ impl<N: ScribeName> Marks<N> {
         mark
     }
 
-    /// A mark is one of the stamps.
+    /// The stamps of a mark are the first of these.
     pub(crate) fn has<R: Wait>(&self, rt: &R, mark: &Mark<N>)
-        ensures { (place : ℕ) × (slice_get self.now place ≡ Some mark.now) }
+        ensures { IsPrefix mark.now self.now }
     {
         // No mark has more stamps than there are, so the first try succeeds.
         for _ in rt.forever() {

@@ -1,11 +1,12 @@
 //! The journal, as one seat at a time writes it.
 
-ghost use Rattle.std.specs.Prelude.{◌≡◌, ◌+◌, ℕ, [], length, true, false, IsTrue, IfSome, IfNone};
+ghost use Rattle.std.specs.Prelude.{◌≡◌, ◌+◌, ◌∷◌, ℕ, [], length, slice_get, true, false, Some, IsTrue, IfSome, IfNone};
 ghost use Rattle.rbc_journal.specs.Device.{Only};
 ghost use Rattle.rbc_journal.specs.Journal.{recovered};
 ghost use Rattle.rbc_journal.specs.Settled.{staged, IsSettled, HasRoom};
+ghost use Rattle.rbc_scribe.specs.Marks.{latest};
 ghost use Rattle.rbc_scribe.specs.Pages.{page_of};
-ghost use Rattle.rbc_scribe.specs.Stamps.{stamp_of, Lasts};
+ghost use Rattle.rbc_scribe.specs.Stamps.{stamp_of, EachLasts};
 ghost use Rattle.rbc_scribe.specs.Told.{AreTold};
 
 use crate::marks::{Mark, Marks};
@@ -74,7 +75,7 @@ impl<T: Told + Drop, D: Device, N: ScribeName> Page<T, D, N> {
         requires told { AreTold (T.tells told) (recovered (D.seen journal.device)) }
         requires book { blank ≡ N.book }
         ensures page { result.0 ≡ page_of journal.device told lines lines false }
-        ensures mark { result.1 ≡ stamp_of D.seen D.moment journal }
+        ensures mark { result.1 ≡ stamp_of D.seen D.moment journal ∷ [] }
     {
         let mut marks = Marks::new(blank);
         let mark = marks.stamp(rt, &journal, lines);
@@ -119,10 +120,10 @@ impl<T: Told + Drop, D: Device, N: ScribeName> Page<T, D, N> {
         self.next = place + 1;
     }
 
-    /// Makes the staged lines durable, all at once, and gives out the stamp. None where the journal has failed.
+    /// Makes the staged lines durable, all at once, and gives out the stamps. None where the journal has failed.
     pub(crate) fn commit<R: Wait>(&mut self, rt: &R) -> Option<Mark<N>>
         ensures told { self.new.told ≡ self.old.told }
-        ensures lines { IfSome result (λ mark. mark.lines ≡ self.old.next) }
+        ensures lines { IfSome result (λ mark. (latest mark).lines ≡ self.old.next) }
         ensures failed { IfNone result (self.new.has_failed ≡ true) }
     {
         if self.has_failed {
@@ -136,11 +137,18 @@ impl<T: Told + Drop, D: Device, N: ScribeName> Page<T, D, N> {
         Some(self.marks.stamp(rt, &self.journal, self.lines))
     }
 
-    /// A crash at any moment since the pen's last stamp left a file with the stamp's lines at least.
+    /// A crash at any moment since a stamp that the pen was given left a file with the stamp's lines at least.
     pub fn vouch<R: Wait>(&self, rt: &R, pen: &Pen<N>)
-        ensures { Lasts D.moment D.left_since (T.tells self.now.told) self.now.device pen.now }
+        ensures { EachLasts D.moment D.left_since (T.tells self.now.told) self.now.device pen.now }
     {
         self.marks.has(rt, &pen.mark);
+    }
+
+    /// What was told of the history.
+    pub fn told(&self) -> &T
+        ensures { result.now ≡ self.now.told }
+    {
+        &self.told
     }
 
     /// The file, and what was told of the history.

@@ -1,12 +1,14 @@
 //! The right to lay lines.
 
 ghost use Rattle.std.specs.Prelude.{◌≡◌, ◌<◌};
+ghost use mathlib.Core.List.{IsPrefix};
+ghost use Rattle.rbc_scribe.specs.Marks.{latest};
 
 use crate::ScribeName;
 use crate::marks::Mark;
 use std::marker::Model;
 
-/// A seat's pen, with which it lays one line at a time. Contracts see the last stamp that it was given.
+/// A seat's pen, with which it lays one line at a time. Contracts see the stamps that it was given, in order.
 #[derive(Drop)]
 pub struct Pen<N: ScribeName> {
     pub(crate) slot: usize,
@@ -14,10 +16,10 @@ pub struct Pen<N: ScribeName> {
 }
 
 impl<N: ScribeName> Model for Pen<N> {
-    ghost use Rattle.std.specs.Prelude.{◌<◌};
+    ghost use Rattle.std.specs.Prelude.{◌<◌, List};
     ghost use Rattle.rbc_scribe.specs.declared.stamp.Stamp.{Stamp};
 
-    ghost Value = { Stamp };
+    ghost Value = { List Stamp };
 
     ghost view = { λ p. p.mark };
 
@@ -33,9 +35,17 @@ impl<N: ScribeName> Pen<N> {
         Pen { slot, mark }
     }
 
+    /// Is given what the mark has too.
+    pub(crate) fn note(&mut self, mark: Mark<N>)
+        ensures stays { IsPrefix self.old self.new }
+        ensures heard { IsPrefix mark self.new }
+    {
+        self.mark.go_on(mark);
+    }
+
     /// How many lines the last stamp has that it was given.
     pub fn lines(&self) -> u64
-        ensures { result ≡ self.now.lines }
+        ensures { result ≡ (latest self.now).lines }
     {
         self.mark.lines()
     }

@@ -1,8 +1,10 @@
 //! The scribe.
 
-ghost use Rattle.std.specs.Prelude.{◌≡◌, ◌<◌, ◌≤◌, [], length, replicate, vec_len, vec_capacity, IfOk, IfErr, OnOk, OnErr, IfSome};
+ghost use Rattle.std.specs.Prelude.{◌≡◌, ◌<◌, ◌≤◌, ◌∷◌, [], length, replicate, vec_len, vec_capacity, IfOk, IfErr, OnOk, OnErr, IfSome};
+ghost use mathlib.Core.List.{IsPrefix};
 ghost use Rattle.rbc_journal.specs.Journal.{recovered};
 ghost use Rattle.rbc_journal.specs.Settled.{staged, IsSettled};
+ghost use Rattle.rbc_scribe.specs.Marks.{latest, HasLine};
 ghost use Rattle.rbc_scribe.specs.Stamps.{stamp_of};
 ghost use Rattle.rbc_scribe.specs.Told.{AreTold};
 
@@ -76,7 +78,7 @@ impl<T: Told + Drop, D: Device, N: ScribeName> Scribe<T, D, N> {
         requires told { AreTold (T.tells told) (recovered (D.seen journal.device)) }
         requires few { pens ≤ 16 }
         requires book { blank ≡ N.book }
-        ensures pens { IfOk result (λ opened. opened.1.items ≡ replicate pens (stamp_of D.seen D.moment journal)) }
+        ensures pens { IfOk result (λ opened. opened.1.items ≡ replicate pens (stamp_of D.seen D.moment journal ∷ [])) }
         ensures refused { IfErr result (λ fault. (fault.1 ≡ journal.device) × (fault.0 ≡ JournalFault.Device → ⊥)) }
     {
         if let Err(fault) = journal.reserve(ROOM) {
@@ -107,13 +109,17 @@ impl<T: Told + Drop, D: Device, N: ScribeName> Scribe<T, D, N> {
     /// # Errors
     ///
     /// The journal has failed, now or before.
+    #[tactic(auto, using(crate::proofs::MarkLemmas::has_line))]
     pub fn keep<R: Wait>(&self, rt: &R, pen: &mut Pen<N>, line: Line<T>) -> Result<(), NotKept>
-        ensures kept { OnOk result (line < pen.new.lines) }
+        ensures kept { OnOk result (HasLine pen.new line) }
+        ensures stays { IsPrefix pen.old pen.new }
         ensures refused { OnErr result (pen.new ≡ pen.old) }
     {
         let place = line.place();
         self.tray.lock(rt).lay(pen.slot, line);
-        pen.mark = self.follow(rt, place)?;
+        let mark = self.follow(rt, place)?;
+        let _lines = mark.lines();
+        pen.note(mark);
         Ok(())
     }
 
@@ -123,7 +129,7 @@ impl<T: Told + Drop, D: Device, N: ScribeName> Scribe<T, D, N> {
     ///
     /// As above.
     fn follow<R: Wait>(&self, rt: &R, place: u64) -> Result<Mark<N>, NotKept>
-        ensures { IfOk result (λ mark. place < mark.lines) }
+        ensures { IfOk result (λ mark. place < (latest mark).lines) }
     {
         for _ in rt.forever() {
             if let Some(mark) = self.turn(rt, place)? {
@@ -140,7 +146,7 @@ impl<T: Told + Drop, D: Device, N: ScribeName> Scribe<T, D, N> {
     ///
     /// As above.
     fn turn<R: Wait>(&self, rt: &R, place: u64) -> Result<Option<Mark<N>>, NotKept>
-        ensures { IfOk result (λ turn. IfSome turn (λ mark. place < mark.lines)) }
+        ensures { IfOk result (λ turn. IfSome turn (λ mark. place < (latest mark).lines)) }
     {
         let mut tray = self
             .noted

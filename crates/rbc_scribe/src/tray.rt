@@ -1,6 +1,7 @@
 //! The lines that wait.
 
 ghost use Rattle.std.specs.Prelude.{◌≡◌, ◌<◌, length, slice_get, true, Some, IfOk, IfSome, vec_len};
+ghost use Rattle.rbc_scribe.specs.Marks.{latest};
 ghost use Rattle.rbc_scribe.specs.Pages.{PageOf};
 
 use crate::marks::Mark;
@@ -76,7 +77,7 @@ impl<T: Told + Drop, N: ScribeName> Tray<T, N> {
     ///
     /// The journal has failed, and the line is not on the disk.
     pub(crate) fn turn(&mut self, place: u64) -> Result<Option<Mark<N>>, NotKept>
-        ensures { IfOk result (λ turn. IfSome turn (λ mark. place < mark.lines)) }
+        ensures { IfOk result (λ turn. IfSome turn (λ mark. place < (latest mark).lines)) }
     {
         if place < self.latest.lines() {
             return Ok(Some(self.latest.again()));
