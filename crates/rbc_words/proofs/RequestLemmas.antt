@@ -55,11 +55,14 @@ module _ {V : Type 0} (kind : Kind V) (limit i : ℕ) (word next : List ℕ) (al
         faults = so_far.faults ∙ ap result_err step ∙ same_fault run rest;
       }
 
--- the words of a request behind its limit are read as its runs and its end
-pub behind_limit : {V : Type 0} (kind : Kind V) (words : List (List ℕ)) (first : List ℕ) (rest : List (List ℕ)) (limit : ℕ) → words ≡ first ∷ rest → nat_le 3 (length rest) ≡ true
-    → Ok limit ≡ allowed_value (is_from_to 1 MOST_STEPS) (Number 2) (number_in first) → request_in kind Far words ≡ runs_in kind Far limit 3 rest
-behind_limit kind words first [] limit e long read = absurd (cc)
-behind_limit kind words first (a ∷ []) limit e long read = absurd (cc)
-behind_limit kind words first (a ∷ b ∷ []) limit e long read = absurd (cc)
-behind_limit kind words first (a ∷ b ∷ c ∷ more) limit e long read =
-    ap (request_in kind Far) e ∙ ap (λ found. found >>= λ limit. runs_in kind Far limit 3 (a ∷ b ∷ c ∷ more)) (sym read)
+-- the words of a request behind its limit, at least three, are read as its runs and its end
+pub behind_limit : {V : Type 0} (kind : Kind V) (words : List (List ℕ)) (word first second third : List ℕ) (some fewer least rest : List (List ℕ)) (limit : ℕ)
+    → words ≡ word ∷ some → some ≡ first ∷ fewer → fewer ≡ second ∷ least → least ≡ third ∷ rest
+    → Ok limit ≡ allowed_value (is_from_to 1 MOST_STEPS) (Number 2) (number_in word)
+    → request_in kind Far words ≡ runs_in kind Far limit 3 (first ∷ second ∷ least)
+behind_limit kind words word first second third some fewer least rest limit a b c d read =
+    let all : words ≡ word ∷ first ∷ second ∷ third ∷ rest =
+    a ∙ ap (λ (l : List (List ℕ)). word ∷ l) (b ∙ ap (λ (l : List (List ℕ)). first ∷ l) (c ∙ ap (λ (l : List (List ℕ)). second ∷ l) d)) in
+    ap (request_in kind Far) all
+    ∙ ap (λ found. found >>= λ n. runs_in kind Far n 3 (first ∷ second ∷ third ∷ rest)) (sym read)
+    ∙ ap (λ (l : List (List ℕ)). runs_in kind Far limit 3 (first ∷ second ∷ l)) (sym d)

@@ -1,7 +1,8 @@
 -- Words of a line behind spaces, and the rows of a table of prices, printed one behind another.
-use Rattle.std.proofs.Common.{◌≡◌, ℕ, suc, ◌<◌, ◌≤◌, ◌+◌, List, [], ◌∷◌, ◌++◌, sym, ap, ◌∙◌, append_assoc, append-nil, drop, drop-cons, get_or, length, add-one, map}
+use Rattle.std.proofs.Common.{◌≡◌, ℕ, suc, ◌<◌, ◌≤◌, ◌+◌, ◌==◌, true, List, [], ◌∷◌, ◌++◌, refl, sym, ap, ◌∙◌, arith, append_assoc, append-nil, take, drop, drop-cons, take-append-drop, get_or, length, add-one, map}
+use Rattle.std.proofs.lemmas.Bool.{eqb-true}
 use Rattle.std.specs.List.{join_with_byte}
-use Rattle.std.proofs.lemmas.List.{at_drop_all}
+use Rattle.std.proofs.lemmas.List.{at_drop_all, map-append}
 use Rattle.std.proofs.lemmas.Grind.{flat_map-append, get_or_default_zero}
 use Rattle.std.specs.Global.{Vec}
 use Rattle.std.specs.Prelude.{codes, decimal}
@@ -39,6 +40,22 @@ pub prices_left-next : (prices : List ℕ) (index : ℕ) → index < length pric
     → spaced (map decimal (drop index prices)) ≡ (32 ∷ decimal (get_or prices index 0)) ++ spaced (map decimal (drop (index + 1) prices))
 prices_left-next prices index inside =
     spaced-next decimal prices index (get_or prices index 0) inside (sym (get_or_default_zero prices index (get_or prices index 0) inside))
+
+-- numbers behind spaces are the first ones, as they are written, and then the rest
+pub prices-split : (count : ℕ) (prices front rest text : List ℕ) → front ≡ take count prices → rest ≡ drop count prices
+    → text ≡ spaced (map decimal front) → spaced (map decimal prices) ≡ text ++ spaced (map decimal rest)
+prices-split count prices front rest text first second same =
+    ap (λ ps. spaced (map decimal ps)) (sym (take-append-drop count prices))
+    ∙ ap spaced (map-append decimal (take count prices) (drop count prices))
+    ∙ flat_map-append (λ word. 32 ∷ word) (map decimal (take count prices)) (map decimal (drop count prices))
+    ∙ ap (λ ps. spaced (map decimal ps) ++ spaced (map decimal (drop count prices))) (sym first)
+    ∙ ap (λ ps. spaced (map decimal front) ++ spaced (map decimal ps)) (sym second)
+    ∙ ap (λ l. l ++ spaced (map decimal rest)) (sym same)
+
+-- no numbers, and no text
+pub prices-none : (prices : List ℕ) → (length prices == 0) ≡ true → spaced (map decimal prices) ≡ []
+prices-none [] none = refl
+prices-none (price ∷ prices) none = let nothing = eqb-true (length (price ∷ prices)) 0 none in absurd (omega arith)
 
 -- no word is left
 pub spaced-end : {X : Type 0} (text : X → List ℕ) (words : List X) (index : ℕ) → length words ≤ index → spaced (map text (drop index words)) ≡ []

@@ -1,6 +1,7 @@
 //! What the lines of `rbc steps` and of a session say, and how replies are printed.
 #![tactic(auto)]
 
+mod gathered;
 mod line_words;
 mod price_table;
 mod printing;

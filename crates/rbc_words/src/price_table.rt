@@ -1,10 +1,11 @@
 //! Tables of prices, printed.
 
-ghost use Rattle.std.specs.Prelude.{◌≡◌, false, ◌∷◌, map, codes, decimal};
+ghost use Rattle.std.specs.Prelude.{◌≡◌, ◌≤◌, false, ◌∷◌, map, codes, decimal, length};
 ghost use Rattle.rbc_model.specs.Sessions.{Prints};
 ghost use Rattle.rbc_model.specs.Words.{line_of};
 ghost use Rattle.rbc_words.specs.PriceText.{spaced, prices_text};
 
+use crate::gathered::Gathered;
 use crate::print_number;
 use rbc_streams::{Sink, WriteFailed, put};
 
@@ -38,24 +39,33 @@ fn print_row<W: Sink>(number: u64, row: &[u64], writer: &mut W) -> Result<(), Wr
     put(writer, b"\n")
 }
 
+/// How many prices are written at once.
+const PIECE: usize = 6;
+
 /// Writes prices, each behind a space.
 fn print_prices<W: Sink>(prices: &[u64], writer: &mut W) -> Result<(), WriteFailed>
     requires { W.failed writer.old ≡ false }
     ensures { Prints (W.written writer.old) (W.written writer.new) (W.failed writer.new)
         (spaced (map decimal prices.now)) result }
 {
-    for price in prices {
-        print_price(*price, writer)?;
+    let mut rest = prices;
+    while !rest.is_empty() {
+        let (piece, more) = rest.split_at(rest.len().min(PIECE));
+        put(writer, gathered(piece).bytes())?;
+        rest = more;
     }
     Ok(())
 }
 
-/// Writes a price behind a space.
-fn print_price<W: Sink>(price: u64, writer: &mut W) -> Result<(), WriteFailed>
-    requires { W.failed writer.old ≡ false }
-    ensures { Prints (W.written writer.old) (W.written writer.new) (W.failed writer.new)
-        (32 ∷ decimal price) result }
+/// A few prices, each behind a space.
+fn gathered(prices: &[u64]) -> Gathered
+    requires { length prices.now ≤ 6 }
+    ensures { result ≡ spaced (map decimal prices.now) }
 {
-    put(writer, b" ")?;
-    print_number(price, writer)
+    let mut text = Gathered::new();
+    for i in (0..prices.len()).rev() {
+        text.number(prices[i]);
+        text.byte(b' ');
+    }
+    text
 }

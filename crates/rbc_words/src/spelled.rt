@@ -1,14 +1,12 @@
 //! The two kinds of level, speeds and gradients, as words of a line.
 
-ghost use Rattle.std.specs.Prelude.{◌≡◌, false, refl};
+ghost use Rattle.std.specs.Prelude.{◌≡◌, ◌+◌, ◌≤◌, ◌++◌, length, refl};
 ghost use Rattle.rbc_model.specs.Kinds.{Kind, speed_kind, grade_kind};
-ghost use Rattle.rbc_model.specs.Sessions.{Prints};
 ghost use Rattle.rbc_words.specs.Values.{value_in};
 
+use crate::gathered::Gathered;
 use crate::words::{integer, number};
-use crate::{print_number, print_signed};
 use rbc_steps::{Grade, Level, Speed};
-use rbc_streams::{Sink, WriteFailed};
 
 /// How a kind of level stands in a line of text.
 pub trait Spelled: Level {
@@ -23,14 +21,11 @@ pub trait Spelled: Level {
     fn read(word: &[u8]) -> Option<Self>
         ensures { result ≡ value_in kind word.now };
 
-    /// Writes the level as a word.
-    ///
-    /// # Errors
-    ///
-    /// `WriteFailed`, where the writer fails. Then a part of the word stands, from its start.
-    fn print<W: Sink>(self, writer: &mut W) -> Result<(), WriteFailed>
-        requires { W.failed writer.old ≡ false }
-        ensures { Prints (W.written writer.old) (W.written writer.new) (W.failed writer.new) (kind.print self) result };
+    /// Puts the level as a word before a text.
+    fn gather(self, text: &mut Gathered)
+        requires { length text.old + 21 ≤ 128 }
+        ensures text { text.new ≡ kind.print self ++ text.old }
+        ensures length { length text.new ≤ length text.old + 21 };
 
     /// The text is of these levels.
     ghost same_levels: { kind.levels ≡ Self.levels };
@@ -48,8 +43,8 @@ impl Spelled for Speed {
         Speed::new(u16::try_from(number(word)?).ok()?)
     }
 
-    fn print<W: Sink>(self, writer: &mut W) -> Result<(), WriteFailed> {
-        print_number(u64::from(self.kmh()), writer)
+    fn gather(self, text: &mut Gathered) {
+        text.number(u64::from(self.kmh()));
     }
 
     ghost same_levels = { refl };
@@ -67,8 +62,8 @@ impl Spelled for Grade {
         Grade::new(i16::try_from(integer(word)?).ok()?)
     }
 
-    fn print<W: Sink>(self, writer: &mut W) -> Result<(), WriteFailed> {
-        print_signed(i64::from(self.per_mille()), writer)
+    fn gather(self, text: &mut Gathered) {
+        text.signed(i64::from(self.per_mille()));
     }
 
     ghost same_levels = { refl };

@@ -7,7 +7,8 @@ ghost use Rattle.rbc_model.specs.StepsReply.{fault_words, refusal_words, refusal
 ghost use Rattle.rbc_model.specs.StepsReply.{profile_line, packet_lines};
 ghost use Rattle.rbc_words.specs.Replies.{runs_text, track_text, certified_text};
 
-use crate::{Spelled, print_hex, print_number, print_table};
+use crate::gathered::Gathered;
+use crate::{Spelled, print_hex, print_table};
 use rbc_model::{LineFault, StepsRefusal};
 use rbc_steps::{Profile, Runs};
 use rbc_streams::{Sink, WriteFailed, put};
@@ -83,8 +84,10 @@ pub fn print_last<W: Sink>(name: &[u8], number: u64, writer: &mut W) -> Result<(
         (name.now ++ (decimal number ++ 10 ∷ [])) result }
 {
     put(writer, name)?;
-    print_number(number, writer)?;
-    put(writer, b"\n")
+    let mut text = Gathered::new();
+    text.byte(b'\n');
+    text.number(number);
+    put(writer, text.bytes())
 }
 
 /// Writes a certificate and its packet.
@@ -131,8 +134,10 @@ fn print_command<V: Spelled, W: Sink>(limit: usize, writer: &mut W) -> Result<()
         (V.kind.command ++ (32 ∷ decimal limit)) result }
 {
     put(writer, V::command())?;
-    put(writer, b" ")?;
-    print_number(limit as u64, writer)
+    let mut text = Gathered::new();
+    text.number(limit as u64);
+    text.byte(b' ');
+    put(writer, text.bytes())
 }
 
 /// Writes the line of a profile, with what it loses, summed over all metres: km/h, or per mille.
@@ -195,8 +200,10 @@ fn print_run<V: Spelled, W: Sink>(start: u32, value: V, writer: &mut W) -> Resul
     ensures { Prints (W.written writer.old) (W.written writer.new) (W.failed writer.new)
         (32 ∷ (decimal start ++ 58 ∷ V.kind.print value)) result }
 {
-    put(writer, b" ")?;
-    print_number(u64::from(start), writer)?;
-    put(writer, b":")?;
-    value.print(writer)
+    let mut text = Gathered::new();
+    value.gather(&mut text);
+    text.byte(b':');
+    text.number(u64::from(start));
+    text.byte(b' ');
+    put(writer, text.bytes())
 }

@@ -1,6 +1,6 @@
 //! A line of `rbc steps`: the request that it says, or its first fault.
 
-ghost use Rattle.std.specs.Prelude.{◌≡◌, nat_le, IfOk, IsOk, IsErrOf, length};
+ghost use Rattle.std.specs.Prelude.{◌≡◌, ◌∷◌, IfOk, IsOk, IsErrOf};
 ghost use Rattle.std.specs.Result.{IsOkAnd};
 ghost use Rattle.rbc_model.specs.declared.places.Format.TheVariants.{Far};
 ghost use Rattle.rbc_model.specs.declared.refusals.LineFault.TheVariants.{Number};
@@ -12,7 +12,7 @@ ghost use Rattle.rbc_model.specs.StepsText.{run_in_word, runs_in, request_in, wo
 ghost use Rattle.rbc_words.specs.StepsLines.{request_view, line_view, IsRequest, IsLineInRange};
 
 use crate::spelled::Spelled;
-use crate::words::{around, next_word, number_at, request_text};
+use crate::words::{around, next_word, number_at, request_text, take_word};
 use rbc_model::limits::{FARTHEST_END_IN_TENS, LONGEST_TRACK, MOST_STEPS};
 use rbc_model::scales::is_expressible;
 use rbc_model::{Format, LineFault, OrMemory};
@@ -90,44 +90,30 @@ pub fn request_in<V: Spelled>(
     ensures grammar { AnswersAs request_view result (request_in V.kind Far (words_of words.now)) }
     ensures memory { IsErrOf result OrMemory.Memory → IsOk (request_in V.kind Far (words_of words.now)) }
 {
-    match next_word(words) {
-        Some((limit, rest)) if has_words(rest, 3) => {
-            let limit = number_at(2, limit, 1, MOST_STEPS as u32)?;
-            runs_in(alloc, limit as usize, rest)
-        }
-        _ => Err(OrMemory::Refused(LineFault::Words)),
-    }
+    let (limit, rest) = take_word(words)?;
+    let (first, rest) = take_word(rest)?;
+    let (second, rest) = take_word(rest)?;
+    let (_third, _) = take_word(rest)?;
+    let limit = number_at(2, limit, 1, MOST_STEPS as u32)?;
+    runs_in(alloc, limit as usize, first, second, rest)
 }
 
-/// Whether a text has so many words, or more.
-fn has_words(text: &[u8], count: usize) -> bool
-    ensures { result ≡ nat_le count (length (words_of text.now)) }
-{
-    let mut rest = text;
-    for _ in 0..count {
-        match next_word(rest) {
-            Some((_, more)) => rest = more,
-            None => return false,
-        }
-    }
-    true
-}
-
-/// The request whose words from the third on these are: runs, the word `end`, and the end.
+/// The request whose words from the third on are these two and those behind them: runs, the word `end`, and the end.
 fn runs_in<V: Spelled>(
     alloc: Global,
     limit: usize,
+    first: &[u8],
+    second: &[u8],
     words: &[u8],
 ) -> Result<StepsRequest<V>, OrMemory<LineFault>>
-    ensures grammar { AnswersAs request_view result (runs_in V.kind Far limit 3 (words_of words.now)) }
-    ensures memory { IsErrOf result OrMemory.Memory → IsOk (runs_in V.kind Far limit 3 (words_of words.now)) }
+    ensures grammar { AnswersAs request_view result
+        (runs_in V.kind Far limit 3 (first.now ∷ second.now ∷ words_of words.now)) }
+    ensures memory { IsErrOf result OrMemory.Memory
+        → IsOk (runs_in V.kind Far limit 3 (first.now ∷ second.now ∷ words_of words.now)) }
 {
-    let Some((mut word, rest)) = next_word(words) else {
-        return Err(OrMemory::Refused(LineFault::Words));
-    };
-    let Some((mut next, mut rest)) = next_word(rest) else {
-        return Err(OrMemory::Refused(LineFault::Words));
-    };
+    let mut word = first;
+    let mut next = second;
+    let mut rest = words;
     let mut runs = Vec::new(alloc);
     let mut refused = false;
     let mut index = 3;

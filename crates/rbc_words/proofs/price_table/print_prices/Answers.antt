@@ -1,29 +1,26 @@
-use Rattle.std.proofs.Common.{Ok}
-use Rattle.std.specs.Prelude.{decimal}
-use Rattle.rbc_words.proofs.SpacedLemmas.{prices_left-next, spaced-end}
+use Rattle.std.proofs.Common.{Ok, sym, ◌∙◌}
+use Rattle.rbc_words.proofs.SpacedLemmas.{prices-split, prices-none}
 use Rattle.rbc_words.proofs.PrintingLemmas.{prints_nothing, prints_then, prints_stopped}
 use Rattle.rbc_words.proofs.price_table.print_prices.Goals as goal
 
-pub returns-in_err-print_price : goal.returns-in_err-print_price
-returns-in_err-print_price g c =
-    let price = c.in_err-print_price.ensures in
-    let loop = c.loop-price in
-    let next = prices_left-next c.args.prices.now loop.price-index c.loop-price-test.true in
-    loop.invariant.whole _ _ _ (prints_stopped _ _ _ _ _ _ _ price.text price.failed next c.from_residual.ensures.0)
+pub returns-in_err-put : goal.returns-in_err-put
+returns-in_err-put g c =
+    let put = c.in_err-put.ensures in
+    let pieces = prices-split _ _ _ _ _ c.split_at.ensures.front c.split_at.ensures.back (c.bytes.ensures ∙ c.gathered.ensures) in
+    c.loop-rest.invariant.whole _ _ _
+    (prints_stopped _ _ _ _ _ _ _ put.text put.failed pieces c.from_residual.ensures.0)
 
-pub loop-price-preserved : goal.loop-price-preserved
-loop-price-preserved g c =
-    let price = c.in_ok-print_price.ensures in
-    let loop = c.loop-price in
-    let next = prices_left-next c.args.prices.now loop.price-index c.loop-price-test.true in
+pub loop-rest-preserved : goal.loop-rest-preserved
+loop-rest-preserved g c =
+    let put = c.in_ok-put.ensures in
+    let pieces = prices-split _ _ _ _ _ c.split_at.ensures.front c.split_at.ensures.back (c.bytes.ensures ∙ c.gathered.ensures) in
     record {
-      going = price.failed;
-      whole = λ end failed r rest. loop.invariant.whole end failed r
-          (prints_then _ _ end failed _ _ _ r price.text next rest);
+      going = put.failed;
+      whole = λ end failed r rest. c.loop-rest.invariant.whole end failed r
+          (prints_then _ _ end failed _ _ _ r put.text pieces rest);
     }
 
 pub returns : goal.returns
 returns g c =
-    let loop = c.loop-price in
-    let none_left = spaced-end decimal c.args.prices.now loop.price-index c.loop-price-test.false in
-    loop.invariant.whole _ _ (Ok tt) (prints_nothing _ _ _ none_left loop.invariant.going)
+    let none_left = prices-none c.loop-rest.rest.now (sym c.is_empty.ensures ∙ c.loop-rest-test.false) in
+    c.loop-rest.invariant.whole _ _ (Ok tt) (prints_nothing _ _ _ none_left c.loop-rest.invariant.going)

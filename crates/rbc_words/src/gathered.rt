@@ -1,0 +1,82 @@
+//! Short texts that are gathered before they are written.
+
+ghost use Rattle.std.specs.Prelude.{◌≡◌, ◌+◌, ◌<◌, ◌≤◌, [], ◌∷◌, ◌++◌, length, decimal};
+ghost use Rattle.std.specs.Fmt.{signed_decimal};
+
+use itoa::write_digits;
+use std::marker::Model;
+
+/// How many bytes a gathered text may have.
+const ROOM: usize = 128;
+
+/// A short text that is gathered from its end to its start, so that no digit is moved, and is then written at once.
+#[derive(Drop)]
+pub struct Gathered {
+    bytes: [u8; ROOM],
+    start: usize,
+}
+
+impl Model for Gathered {
+    ghost use Rattle.std.specs.Prelude.{◌≤◌, ℕ, List, drop};
+
+    ghost Value = { List ℕ };
+
+    ghost view = { λ text. drop text.start text.bytes };
+
+    ghost invariant = { λ text. text.start ≤ 128 };
+}
+
+impl Gathered {
+    /// An empty text.
+    #[inline(always)]
+    pub fn new() -> Gathered
+        ensures { result ≡ [] }
+    {
+        Gathered {
+            bytes: [0; ROOM],
+            start: ROOM,
+        }
+    }
+
+    /// Puts a byte before the text.
+    #[inline(always)]
+    pub fn byte(&mut self, byte: u8)
+        requires { length self.old < 128 }
+        ensures text { self.new ≡ byte ∷ self.old }
+        ensures length { length self.new ≡ length self.old + 1 }
+    {
+        self.start -= 1;
+        self.bytes[self.start] = byte;
+    }
+
+    /// Puts a number in base 10 before the text.
+    #[inline(always)]
+    pub fn number(&mut self, number: u64)
+        requires { length self.old + 20 ≤ 128 }
+        ensures text { self.new ≡ decimal number ++ self.old }
+        ensures length { length self.new ≤ length self.old + 20 }
+    {
+        self.start = write_digits(number, &mut self.bytes, self.start);
+    }
+
+    /// Puts a number in base 10 before the text, with a `-` before its digits if it is below 0.
+    #[inline(always)]
+    pub fn signed(&mut self, number: i64)
+        requires { length self.old + 21 ≤ 128 }
+        ensures text { self.new ≡ signed_decimal number ++ self.old }
+        ensures length { length self.new ≤ length self.old + 21 }
+    {
+        self.number(number.unsigned_abs());
+        if number < 0 {
+            self.byte(b'-');
+        }
+    }
+
+    /// The bytes of the text.
+    #[inline(always)]
+    pub fn bytes(&self) -> &[u8]
+        ensures { result.now ≡ self.now }
+    {
+        &self.bytes[self.start..]
+    }
+}
