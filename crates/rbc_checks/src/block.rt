@@ -1,6 +1,6 @@
 //! The block of lines that is open: a certificate that is being read.
 
-ghost use Rattle.std.specs.Prelude.{◌≡◌, [], ◌∷◌, ◌++◌, IfSome};
+ghost use Rattle.std.specs.Prelude.{◌≡◌, true, [], ◌∷◌, ◌++◌, IfSome};
 ghost use Rattle.rbc_model.specs.CheckText.{CheckLine as Said, part_of, is_head, goes_on};
 ghost use Rattle.rbc_checks.specs.Lines.{line_view, IsSaid};
 ghost use Rattle.rbc_checks.specs.Blocks.{block_lines};
@@ -8,6 +8,7 @@ ghost use Rattle.rbc_checks.specs.Blocks.{block_lines};
 use crate::CheckLine;
 use rbc_model::Part;
 use std::alloc::Global;
+use std::mem;
 
 /// The lines of the block that is open.
 #[derive(Drop)]
@@ -44,6 +45,22 @@ impl Block {
                 rows.push(line).ok()?;
                 Some(Block::Profile(head, profile, rows))
             }
+        }
+    }
+
+    /// Puts a line behind the block, and answers whether there was memory for it.
+    pub fn add(&mut self, alloc: Global, line: CheckLine) -> bool
+        ensures { result ≡ true → block_lines self.new ≡ block_lines self.old ++ line_view line ∷ [] }
+    {
+        if let Block::Profile(_, _, rows) = self {
+            return rows.push(line).is_ok();
+        }
+        match mem::replace(self, Block::None).with_line(alloc, line) {
+            Some(block) => {
+                *self = block;
+                true
+            }
+            None => false,
         }
     }
 }

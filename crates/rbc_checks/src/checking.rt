@@ -64,6 +64,9 @@ impl Checker {
         ensures said { AnswersBlock self.old.block (said_text result) (is_bad result) }
         ensures closed { self.new ≡ record { block = []; refused = self.old.refused || is_bad result } }
     {
+        if matches!(self.block, Block::None) {
+            return None;
+        }
         let said = judge(self.alloc, mem::replace(&mut self.block, Block::None));
         self.refused = self.refused || said.is_some_and(Verdict::is_refusal);
         said
@@ -73,13 +76,12 @@ impl Checker {
     fn keep(&mut self, read: Result<CheckLine, Part>) -> bool
         ensures { Keeps self.old read result self.new }
     {
-        let block = mem::replace(&mut self.block, Block::None);
         if let Ok(line) = read
-            && let Some(block) = block.with_line(self.alloc, line)
+            && self.block.add(self.alloc, line)
         {
-            self.block = block;
             return false;
         }
+        self.block = Block::None;
         self.refused = true;
         true
     }

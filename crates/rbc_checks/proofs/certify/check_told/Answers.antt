@@ -1,11 +1,8 @@
-use Rattle.std.proofs.Common.{◌≡◌, ap, ◌∙◌, ◌%◌, ◌==◌, min}
+use Rattle.std.proofs.Common.{◌≡◌, ap, ◌∙◌, ◌==◌, min}
 use Rattle.rbc_model.specs.CheckText.{with_loss}
 use Rattle.rbc_model.specs.PriceChecks.{last_price}
 use Rattle.rbc_model.specs.PriceTables.{table_at}
-use Rattle.rbc_model.specs.Scales.{unit_of}
-use Rattle.rbc_price.specs.Columns.{stretches_of}
 use Rattle.rbc_table_laws.specs.PriceRows.{prices_of}
-use Rattle.rbc_checks.proofs.VerdictLemmas.{no_table}
 use Rattle.rbc_checks.proofs.certify.check_told.Goals as goal
 
 pub returns : goal.returns
