@@ -14,5 +14,7 @@ pub use lines::{CheckLine, ToldProfile, parse_check};
 pub use rbc_model::{Part, Reason};
 pub use rbc_steps::{Grade, Level, Speed};
 pub use rbc_streams::{Answers, SessionFault, converse};
-pub use rbc_words::{StepsRequest, is_text, next_word, print_number, print_signed, without_return};
+pub use rbc_words::{
+    StepsRequest, integer, is_text, next_word, number, print_number, print_signed, without_return,
+};
 pub use verdict::{Verdict, judge, print_said};

@@ -3,3 +3,4 @@ mod FigureLemmas
 mod MarkLemmas
 mod PageLemmas
 mod ShowLemmas
+mod StripLemmas

@@ -112,7 +112,7 @@ legend_shapes measure end limit loss =
     Line (codes "track") (at 70 20) (at 110 20)
     ∷ Count (codes "behind") (at 118 24) (codes "track of ") end (codes " m")
     ∷ Line (codes "steps") (at 330 20) (at 370 20)
-    ∷ Count (codes "behind") (at 378 24) (codes "at most ") limit (codes " steps")
+    ∷ Count (codes "behind") (at 378 24) (codes "steps, at most ") limit []
     ∷ Line (codes "shade") (at 590 20) (at 630 20)
     ∷ Count (codes "behind") (at 638 24) (codes "loss ") loss (loss_text measure)
     ∷ []
@@ -129,19 +129,18 @@ label_text look place before number after = joined (
     codes "<text class='" ∷ look ∷ codes "' x='" ∷ decimal place.x ∷ codes "' y='" ∷ decimal place.y ∷ codes "'>"
     ∷ before ∷ number ∷ after ∷ codes "</text>\n" ∷ [])
 
--- a shape as an element of SVG; a stair is a path, which goes across to each corner and then up or down, and so is an area, by two stairs
+-- a stair as the steps of a path: from where it begins, across to each corner and then up or down, and so to where it ends
+abbrev pub way_text : Point → List Point → Point → List ℕ
+way_text from turns to = joined (decimal from.x ∷ codes " " ∷ decimal from.y ∷ []) ++ (flat_map corner_text turns ++ corner_text to)
+
+-- a shape as an element of SVG: a stair is a path, and an area the path of its two stairs
 abbrev pub shape_text : Shape → List ℕ
 shape_text (Line look from to) = joined (
     codes "<line class='" ∷ look ∷ codes "' x1='" ∷ decimal from.x ∷ codes "' y1='" ∷ decimal from.y
     ∷ codes "' x2='" ∷ decimal to.x ∷ codes "' y2='" ∷ decimal to.y ∷ codes "'/>\n" ∷ [])
 shape_text (Area look from first second to) = joined (
-    codes "<path class='" ∷ look ∷ codes "' d='M" ∷ decimal from.x ∷ codes " " ∷ decimal from.y
-    ∷ flat_map corner_text first ∷ codes "H" ∷ decimal to.x ∷ codes "V" ∷ decimal to.y
-    ∷ codes "ZM" ∷ decimal from.x ∷ codes " " ∷ decimal from.y
-    ∷ flat_map corner_text second ∷ codes "H" ∷ decimal to.x ∷ codes "V" ∷ decimal to.y ∷ codes "Z'/>\n" ∷ [])
-shape_text (Stair look from turns to) = joined (
-    codes "<path class='" ∷ look ∷ codes "' d='M" ∷ decimal from.x ∷ codes " " ∷ decimal from.y
-    ∷ flat_map corner_text turns ∷ codes "H" ∷ decimal to.x ∷ codes "V" ∷ decimal to.y ∷ codes "'/>\n" ∷ [])
+    codes "<path class='" ∷ look ∷ codes "' d='M" ∷ way_text from first to ∷ codes "ZM" ∷ way_text from second to ∷ codes "Z'/>\n" ∷ [])
+shape_text (Stair look from turns to) = joined (codes "<path class='" ∷ look ∷ codes "' d='M" ∷ way_text from turns to ∷ codes "'/>\n" ∷ [])
 shape_text (Label look place value unit) = label_text look place [] (signed_decimal value) unit
 shape_text (Count look place before number after) = label_text look place before (decimal number) after
 

@@ -3,4 +3,5 @@ pub mod Figures
 pub mod Pages
 pub mod Pieces
 pub mod Shapes
+pub mod Strips
 pub mod Texts

@@ -10,6 +10,7 @@ use Rattle.rbc_checks.specs.declared.verdict.Verdict.{Verdict}
 use Rattle.rbc_checks.specs.declared.verdict.Verdict.TheVariants.{Memory}
 use Rattle.rbc_draw.specs.Texts.{joined, escaped}
 use Rattle.rbc_draw.specs.Figures.{drawn_text}
+use Rattle.rbc_draw.specs.Strips.{stripped_text}
 
 -- ---- a block
 
@@ -41,9 +42,10 @@ is_grant text = is_text text && begins_granted (words_of text)
 abbrev pub titled : List ℕ → List ℕ
 titled text = joined (codes "<h2>" ∷ escaped text ∷ codes "</h2>\n" ∷ [])
 
--- the heading that a line has: a grant has one
+-- the heading that a line has: a grant has one, and behind it its strip, if it is in form
 abbrev pub heading_text : List ℕ → List ℕ
-heading_text line = if is_grant (without_return line) then titled (without_return line) else []
+heading_text line =
+    if is_grant (without_return line) then titled (without_return line) ++ stripped_text (words_of (without_return line)) else []
 
 -- ---- the page
 
@@ -53,10 +55,11 @@ head_text = joined (
     ∷ codes "<meta name='viewport' content='width=device-width, initial-scale=1'>\n<title>Certificates</title>\n<style>\n"
     ∷ codes "body{max-width:60rem;margin:1rem auto;padding:0 1rem;font-family:sans-serif}\n"
     ∷ codes "svg{width:100%;break-inside:avoid;break-after:avoid;margin-top:2rem}\n"
-    ∷ codes "line,path{fill:none;stroke:#000;stroke-width:1.5}\ntext{font-size:14px}\n@media(max-width:40rem){text{font-size:18px}svg{min-width:36rem}}\n.before{text-anchor:end}\n"
+    ∷ codes "line,path{fill:none;stroke:#000;stroke-width:1.5}\ntext{font-size:14px}\n@media(max-width:40rem){text{font-size:20px}svg{min-width:28rem}}\n.before{text-anchor:end}\n"
     ∷ codes ".loss{fill:#f2c14e;fill-rule:evenodd;stroke:none}\n.shade{stroke:#f2c14e;stroke-width:14}\n"
     ∷ codes ".steps{stroke:#0b4f8a;stroke-width:4}\n.axis{stroke:#777;stroke-width:1}\n.end{stroke-dasharray:6 3}\n"
-    ∷ codes "p{margin:0 0 1rem;font-weight:bold;break-before:avoid}\npre{white-space:pre-wrap}\nh2{margin:2rem 0 0;font-size:1.1rem;break-after:avoid}\n"
+    ∷ codes ".way{stroke:#0b4f8a;stroke-width:8}\n.front{stroke-width:4}\n.obstacle{stroke:#a11;stroke-width:36}\n"
+    ∷ codes "p{margin:0 0 1rem;font-weight:bold;break-before:avoid}\npre{white-space:pre-wrap}\nh2{margin:2rem 0 0;font-size:1.1rem;break-after:avoid}\nh2+svg{margin-top:.5rem}\n"
     ∷ codes "</style>\n</head>\n<body>\n<h1>Certificates</h1>\n" ∷ [])
 
 abbrev pub foot_text : List ℕ

@@ -1,10 +1,13 @@
--- Shapes and figures as they are held, and the open block.
+-- Shapes, figures and grants as they are held.
+use Rattle.rbc_model.specs.Words.{words_of}
 use Rattle.rbc_checks.specs.Blocks.{lines_view}
 use Rattle.rbc_draw.specs.declared.figure.Figure.{Figure as HeldFigure}
+use Rattle.rbc_draw.specs.declared.strip.Grant.{Grant as HeldGrant}
 use Rattle.rbc_draw.specs.declared.shapes.Shape.{Shape as HeldShape}
 use Rattle.rbc_draw.specs.declared.shapes.Shape.TheVariants.{Line as HeldLine, Area as HeldArea, Stair as HeldStair, Label as HeldLabel, Count as HeldCount}
 use Rattle.rbc_draw.specs.Charts.{value_of}
 use Rattle.rbc_draw.specs.Figures.{Figure, Shape, Line, Area, Stair, Label, Count, first_point, last_point, corners}
+use Rattle.rbc_draw.specs.Strips.{Grant}
 
 -- a shape as it is drawn
 abbrev pub shape_view : HeldShape → Shape
@@ -25,3 +28,7 @@ figure_view figure = record {
   loss = figure.loss;
   rows = lines_view figure.rows.now;
 }
+
+-- a grant
+abbrev pub grant_view : HeldGrant → Grant
+grant_view grant = record { train = grant.train; from = grant.from; end = grant.end; obstacle = words_of grant.obstacle.now }

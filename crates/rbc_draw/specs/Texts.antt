@@ -22,6 +22,13 @@ escape byte =
 abbrev pub escaped : List ℕ → List ℕ
 escaped text = flat_map escape text
 
+-- words that were read, each behind a space
+abbrev pub word_text : List ℕ → List ℕ
+word_text word = codes " " ++ escaped word
+
+abbrev pub words_text : List (List ℕ) → List ℕ
+words_text words = flat_map word_text words
+
 -- a corner of a stair, as a step of a path: across, and then up or down
 abbrev pub corner_text : Point → List ℕ
 corner_text corner = joined (codes "H" ∷ decimal corner.x ∷ codes "V" ∷ decimal corner.y ∷ [])

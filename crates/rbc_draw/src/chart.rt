@@ -2,6 +2,7 @@
 
 ghost use Rattle.std.specs.Prelude.{◌≡◌, ℕ, ℤ};
 ghost use Rattle.rbc_draw.specs.Charts.{least_of, greatest_of, base_of, height_of, across, down, value_of, lowest, highest, chart_of};
+ghost use Rattle.rbc_draw.specs.Figures.{first_point, last_point};
 
 /// The left side of a chart, in pixels from the left.
 pub const LEFT: u64 = 70;
@@ -134,6 +135,26 @@ impl Chart {
         let below = u64::from(self.high.saturating_sub(height));
         let range = u64::from(self.high.saturating_sub(self.low).max(1));
         TOP + below * DEPTH / range
+    }
+
+    /// Where a stair begins: at metre 0, at the value 0.
+    pub(crate) fn first(self) -> Point
+        ensures { result ≡ first_point self }
+    {
+        Point {
+            x: self.across(0),
+            y: self.down(self.measure.base()),
+        }
+    }
+
+    /// Where a stair ends: at the end, at the value 0.
+    pub(crate) fn last(self) -> Point
+        ensures { result ≡ last_point self }
+    {
+        Point {
+            x: self.across(self.end),
+            y: self.down(self.measure.base()),
+        }
     }
 }
 

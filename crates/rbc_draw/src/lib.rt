@@ -6,6 +6,7 @@ mod figure;
 mod page;
 mod pieces;
 mod shapes;
+mod strip;
 
 pub use chart::{Chart, Measure, Place, Point};
 pub use page::draw;

@@ -20,6 +20,7 @@ ghost use Rattle.rbc_draw.specs.Pages.{is_memory, is_silent, AnswersDraw, begins
 
 use crate::figure::{Figure, figure_in, print_figure};
 use crate::pieces::{Atom, print_atoms};
+use crate::strip::{grant_in, print_strip};
 use rbc_checks::{
     Block, CheckLine, Part, Verdict, is_head, is_text, judge, next_word, parse_check, part_read,
     print_said, without_return,
@@ -282,14 +283,15 @@ fn print_titled<W: Sink>(text: &[u8], writer: &mut W) -> Result<(), WriteFailed>
     print_atoms(&heading, writer)
 }
 
-/// Writes the heading that a line has, if it has one.
+/// Writes the heading that a line has, if it has one, and the strip of a grant behind it.
 fn print_heading<W: Sink>(line: &[u8], writer: &mut W) -> Result<(), WriteFailed>
     requires { W.failed writer.old ≡ false }
     ensures { Prints (W.written writer.old) (W.written writer.new) (W.failed writer.new) (heading_text line.now) result }
 {
     let text = without_return(line);
     if is_grant(text) {
-        return print_titled(text, writer);
+        print_titled(text, writer)?;
+        return print_strip(grant_in(text), writer);
     }
     Ok(())
 }
@@ -358,7 +360,7 @@ fn print_head<W: Sink>(writer: &mut W) -> Result<(), WriteFailed>
         ),
         Atom::Text(b"svg{width:100%;break-inside:avoid;break-after:avoid;margin-top:2rem}\n"),
         Atom::Text(
-            b"line,path{fill:none;stroke:#000;stroke-width:1.5}\ntext{font-size:14px}\n@media(max-width:40rem){text{font-size:18px}svg{min-width:36rem}}\n.before{text-anchor:end}\n",
+            b"line,path{fill:none;stroke:#000;stroke-width:1.5}\ntext{font-size:14px}\n@media(max-width:40rem){text{font-size:20px}svg{min-width:28rem}}\n.before{text-anchor:end}\n",
         ),
         Atom::Text(
             b".loss{fill:#f2c14e;fill-rule:evenodd;stroke:none}\n.shade{stroke:#f2c14e;stroke-width:14}\n",
@@ -367,7 +369,10 @@ fn print_head<W: Sink>(writer: &mut W) -> Result<(), WriteFailed>
             b".steps{stroke:#0b4f8a;stroke-width:4}\n.axis{stroke:#777;stroke-width:1}\n.end{stroke-dasharray:6 3}\n",
         ),
         Atom::Text(
-            b"p{margin:0 0 1rem;font-weight:bold;break-before:avoid}\npre{white-space:pre-wrap}\nh2{margin:2rem 0 0;font-size:1.1rem;break-after:avoid}\n",
+            b".way{stroke:#0b4f8a;stroke-width:8}\n.front{stroke-width:4}\n.obstacle{stroke:#a11;stroke-width:36}\n",
+        ),
+        Atom::Text(
+            b"p{margin:0 0 1rem;font-weight:bold;break-before:avoid}\npre{white-space:pre-wrap}\nh2{margin:2rem 0 0;font-size:1.1rem;break-after:avoid}\nh2+svg{margin-top:.5rem}\n",
         ),
         Atom::Text(b"</style>\n</head>\n<body>\n<h1>Certificates</h1>\n"),
     ];

@@ -2,13 +2,15 @@
 
 ghost use Rattle.std.specs.Prelude.{◌≡◌, false, ℕ, List, flat_map};
 ghost use Rattle.rbc_model.specs.Sessions.{Prints};
+ghost use Rattle.rbc_model.specs.Words.{words_of};
 ghost use Rattle.rbc_checks.specs.Lines.{line_view};
-ghost use Rattle.rbc_draw.specs.Texts.{corner_text, place_text, price_text, row_line, row_text, escape};
+ghost use Rattle.rbc_draw.specs.Texts.{corner_text, place_text, price_text, row_line, row_text, escape, word_text, words_text};
 ghost use Rattle.rbc_draw.specs.Charts.{corner_at};
+ghost use Rattle.rbc_draw.specs.Figures.{way_text, first_point, last_point, corners};
 ghost use Rattle.rbc_draw.specs.Pieces.{atom_text, piece_text};
 
-use crate::{Chart, Measure, Place};
-use rbc_checks::{CheckLine, print_number, print_signed};
+use crate::{Chart, Measure, Place, Point};
+use rbc_checks::{CheckLine, next_word, print_number, print_signed};
 use rbc_streams::{Sink, WriteFailed, put};
 
 /// What is printed as text, on the ground of a `C`.
@@ -52,8 +54,12 @@ pub(crate) enum Atom<'a> {
     Number(u64),
     /// The value at a height.
     Value(Measure, u32),
+    /// A number, perhaps below 0.
+    Signed(i64),
     /// Text that was read, escaped.
     Escaped(&'a [u8]),
+    /// The words of a text that was read, each behind a space, escaped.
+    Words(&'a [u8]),
     /// Prices, each behind a space.
     Prices(&'a [u64]),
 }
@@ -66,7 +72,9 @@ impl Printed<()> for Atom<'_> {
             Atom::Text(text) => put(writer, text),
             Atom::Number(number) => print_number(*number, writer),
             Atom::Value(measure, height) => print_signed(measure.value(*height), writer),
+            Atom::Signed(number) => print_signed(*number, writer),
             Atom::Escaped(text) => print_each(&(), text, writer),
+            Atom::Words(text) => print_words(text, writer),
             Atom::Prices(prices) => print_each(&(), prices, writer),
         }
     }
@@ -81,6 +89,29 @@ pub(crate) fn print_atoms<W: Sink>(atoms: &[Atom], writer: &mut W) -> Result<(),
     print_each(&(), atoms, writer)
 }
 
+/// Writes the words of a text, each behind a space, escaped.
+fn print_words<W: Sink>(text: &[u8], writer: &mut W) -> Result<(), WriteFailed>
+    requires { W.failed writer.old ≡ false }
+    ensures { Prints (W.written writer.old) (W.written writer.new) (W.failed writer.new)
+        (words_text (words_of text.now)) result }
+{
+    let mut rest = text;
+    while let Some((word, more)) = next_word(rest) {
+        print_word(word, writer)?;
+        rest = more;
+    }
+    Ok(())
+}
+
+/// Writes a word behind a space, escaped.
+fn print_word<W: Sink>(word: &[u8], writer: &mut W) -> Result<(), WriteFailed>
+    requires { W.failed writer.old ≡ false }
+    ensures { Prints (W.written writer.old) (W.written writer.new) (W.failed writer.new) (word_text word.now) result }
+{
+    put(writer, b" ")?;
+    print_each(&(), word, writer)
+}
+
 /// A piece of a page.
 #[derive(Clone, Copy)]
 pub(crate) enum Piece<'a> {
@@ -88,8 +119,8 @@ pub(crate) enum Piece<'a> {
     Text(&'a [u8]),
     /// A number.
     Number(u64),
-    /// The corners of a stair, as the steps of a path.
-    Corners(Chart, &'a [Place]),
+    /// The stair of these places, as the steps of a path.
+    Way(Chart, &'a [Place]),
     /// Places as words, each a metre, a colon and a value.
     Places(Measure, &'a [Place]),
     /// Rows of prices, each a line.
@@ -103,11 +134,40 @@ impl Printed<()> for Piece<'_> {
         match self {
             Piece::Text(text) => put(writer, text),
             Piece::Number(number) => print_number(*number, writer),
-            Piece::Corners(chart, places) => print_each(chart, places, writer),
+            Piece::Way(chart, places) => print_way(*chart, places, writer),
             Piece::Places(measure, places) => print_each(measure, places, writer),
             Piece::Rows(rows) => print_each(&(), rows, writer),
         }
     }
+}
+
+/// Writes a stair as the steps of a path: from where it begins, around its corners, to where it ends.
+fn print_way<W: Sink>(chart: Chart, places: &[Place], writer: &mut W) -> Result<(), WriteFailed>
+    requires { W.failed writer.old ≡ false }
+    ensures { Prints (W.written writer.old) (W.written writer.new) (W.failed writer.new)
+        (way_text (first_point chart) (corners chart places.now) (last_point chart)) result }
+{
+    let (from, to) = (chart.first(), chart.last());
+    print_atoms(
+        &[Atom::Number(from.x), Atom::Text(b" "), Atom::Number(from.y)],
+        writer,
+    )?;
+    print_each(&chart, places, writer)?;
+    print_corner(to, writer)
+}
+
+/// Writes a corner of a stair: across to it, and then up or down.
+fn print_corner<W: Sink>(corner: Point, writer: &mut W) -> Result<(), WriteFailed>
+    requires { W.failed writer.old ≡ false }
+    ensures { Prints (W.written writer.old) (W.written writer.new) (W.failed writer.new) (corner_text corner) result }
+{
+    let corner = [
+        Atom::Text(b"H"),
+        Atom::Number(corner.x),
+        Atom::Text(b"V"),
+        Atom::Number(corner.y),
+    ];
+    print_atoms(&corner, writer)
 }
 
 /// Writes pieces, one behind another.
@@ -148,13 +208,11 @@ impl Printed<Chart> for Place {
     ghost text = { λ chart place. corner_text (corner_at chart place) };
 
     fn print<W: Sink>(&self, chart: &Chart, writer: &mut W) -> Result<(), WriteFailed> {
-        let corner = [
-            Atom::Text(b"H"),
-            Atom::Number(chart.across(self.start)),
-            Atom::Text(b"V"),
-            Atom::Number(chart.down(self.height)),
-        ];
-        print_atoms(&corner, writer)
+        let corner = Point {
+            x: chart.across(self.start),
+            y: chart.down(self.height),
+        };
+        print_corner(corner, writer)
     }
 }
 

@@ -90,28 +90,13 @@ fn print_area<'a, W: Sink>(
     ensures { Prints (W.written writer.old) (W.written writer.new) (W.failed writer.new)
         (shape_text (AreaOf look.now (first_point chart) (corners chart first.now) (corners chart second.now) (last_point chart))) result }
 {
-    let (from, to) = (chart.first(), chart.last());
     let area = [
         Piece::Text(b"<path class='"),
         Piece::Text(look),
         Piece::Text(b"' d='M"),
-        Piece::Number(from.x),
-        Piece::Text(b" "),
-        Piece::Number(from.y),
-        Piece::Corners(chart, first),
-        Piece::Text(b"H"),
-        Piece::Number(to.x),
-        Piece::Text(b"V"),
-        Piece::Number(to.y),
+        Piece::Way(chart, first),
         Piece::Text(b"ZM"),
-        Piece::Number(from.x),
-        Piece::Text(b" "),
-        Piece::Number(from.y),
-        Piece::Corners(chart, second),
-        Piece::Text(b"H"),
-        Piece::Number(to.x),
-        Piece::Text(b"V"),
-        Piece::Number(to.y),
+        Piece::Way(chart, second),
         Piece::Text(b"Z'/>\n"),
     ];
     print_pieces(&area, writer)
@@ -127,19 +112,11 @@ fn print_stair<'a, W: Sink>(
     ensures { Prints (W.written writer.old) (W.written writer.new) (W.failed writer.new)
         (shape_text (StairOf look.now (first_point chart) (corners chart places.now) (last_point chart))) result }
 {
-    let (from, to) = (chart.first(), chart.last());
     let stair = [
         Piece::Text(b"<path class='"),
         Piece::Text(look),
         Piece::Text(b"' d='M"),
-        Piece::Number(from.x),
-        Piece::Text(b" "),
-        Piece::Number(from.y),
-        Piece::Corners(chart, places),
-        Piece::Text(b"H"),
-        Piece::Number(to.x),
-        Piece::Text(b"V"),
-        Piece::Number(to.y),
+        Piece::Way(chart, places),
         Piece::Text(b"'/>\n"),
     ];
     print_pieces(&stair, writer)
@@ -172,28 +149,6 @@ fn print_label<'a, W: Sink>(
         Atom::Text(b"</text>\n"),
     ];
     print_atoms(&text, writer)
-}
-
-impl Chart {
-    /// Where a stair begins: at metre 0, at the value 0.
-    fn first(self) -> Point
-        ensures { result ≡ first_point self }
-    {
-        Point {
-            x: self.across(0),
-            y: self.down(self.measure.base()),
-        }
-    }
-
-    /// Where a stair ends: at the end, at the value 0.
-    fn last(self) -> Point
-        ensures { result ≡ last_point self }
-    {
-        Point {
-            x: self.across(self.end),
-            y: self.down(self.measure.base()),
-        }
-    }
 }
 
 /// The unit of values, in the text of the page.
@@ -299,7 +254,7 @@ pub(crate) fn print_legend<W: Sink>(
         Shape::Line(b"track", Point { x: 70, y: 20 }, Point { x: 110, y: 20 }),
         Shape::Count(b"behind", known, b"track of ", metres, b" m"),
         Shape::Line(b"steps", Point { x: 330, y: 20 }, Point { x: 370, y: 20 }),
-        Shape::Count(b"behind", allowed, b"at most ", limit as u64, b" steps"),
+        Shape::Count(b"behind", allowed, b"steps, at most ", limit as u64, b""),
         Shape::Line(b"shade", Point { x: 590, y: 20 }, Point { x: 630, y: 20 }),
         Shape::Count(b"behind", lost, b"loss ", loss, loss_text(measure)),
     ];
