@@ -13,4 +13,5 @@ pub use Rattle.rbc_snap.specs.Later
 pub use Rattle.rbc_snap.specs.Present
 pub use Rattle.rbc_snap.specs.Records
 pub use Rattle.rbc_snap.specs.SameViews
+pub use Rattle.rbc_snap.specs.Sights
 pub use Rattle.rbc_snap.specs.Steps

@@ -176,6 +176,45 @@ impl<L: DeskName> Desk<L> {
         answer
     }
 
+    /// Why what is told is not entered, where its caller has no memory for it: what refuses it at once, or `Memory`. The seat
+    /// is told the history that this speaks of, and has no new receipt.
+    pub fn event_in_vain<R: Wait>(
+        &self,
+        rt: &R,
+        seat: &mut Seat<L>,
+        told: &Told,
+    ) -> OrMemory<ApplyFault>
+        requires { IsOfTrack L.opened.track told.now }
+        ensures since { IsToldThen seat.old.told seat.new.told told.now (Err result) }
+        ensures later { IsLater seat.old.told seat.new.told }
+        ensures receipts { seat.new.receipts ≡ seat.old.receipts }
+    {
+        let shared = self.shared.lock(rt);
+        let fault = (*shared).event_in_vain(rt, seat, told);
+        // As above.
+        MutexGuard::unlock(shared);
+        fault
+    }
+
+    /// Why a train that asks is granted nothing, where its caller has no memory for it: `UnknownTrain` or `Memory`. The seat
+    /// is told the history that this speaks of, and has no new receipt.
+    pub fn ask_in_vain<R: Wait>(
+        &self,
+        rt: &R,
+        seat: &mut Seat<L>,
+        train: u32,
+    ) -> OrMemory<AskFault>
+        ensures since { IsAnsweredThen seat.old.told seat.new.told train (Err result) }
+        ensures later { IsLater seat.old.told seat.new.told }
+        ensures receipts { seat.new.receipts ≡ seat.old.receipts }
+    {
+        let shared = self.shared.lock(rt);
+        let fault = (*shared).ask_in_vain(rt, seat, train);
+        // As above.
+        MutexGuard::unlock(shared);
+        fault
+    }
+
     /// Grants a train that asks the authority that is best for what it is shown, and gives the seat the receipt. It is
     /// shown by the seat's eye, and the gate computes, both without the lock. Where the train is shown another view
     /// meanwhile, it is done again, and the fourth time under the lock; so is it where the eye is behind. The seat is told

@@ -21,7 +21,7 @@ pub use granted::Granted;
 pub use name::DeskName;
 pub use rbc_model::{Memory, OrMemory, Told};
 pub use rbc_snap::{
-    ApplyFault, Candidate, CommitFault, Entry, HistoryName, Receipt, Record, Scene, Train, View,
-    candidate,
+    ApplyFault, Candidate, CommitFault, Entry, HistoryName, Receipt, Record, Scene, Sight, Train,
+    View, candidate,
 };
 pub use seat::Seat;

@@ -2,10 +2,11 @@
 
 ghost use Rattle.std.specs.Prelude.{◌≡◌, [], length};
 ghost use Rattle.rbc_snap.specs.Later.{IsLater};
+ghost use Rattle.rbc_snap.specs.Sights.{seen_of};
 ghost use Rattle.rbc_desk.specs.Seats.{seated};
 
 use crate::DeskName;
-use rbc_snap::{Eye, Receipt};
+use rbc_snap::{Eye, Receipt, Sight};
 use std::alloc::Global;
 use std::marker::Model;
 use std::sync::ledger::Share;
@@ -53,6 +54,13 @@ impl<L: DeskName> Seat<L> {
         ensures heard { IsLater other.now.told self.new.told }
     {
         self.eye.hear(&other.eye);
+    }
+
+    /// What the seat was told, as a moment of the desk's history.
+    pub fn sight(&self) -> Sight
+        ensures { result ≡ seen_of L.book self.now.told }
+    {
+        self.eye.sight()
     }
 
     /// The receipts of what was entered from this seat, in order.

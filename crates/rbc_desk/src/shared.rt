@@ -211,6 +211,45 @@ impl<L: DeskName> Shared<L> {
         Ok(receipt)
     }
 
+    /// Why what is told is not entered, where there is no memory for it: what refuses it at once, or that memory does. The
+    /// seat is told all that the record has.
+    pub(crate) fn event_in_vain<R: Wait>(
+        &self,
+        rt: &R,
+        seat: &mut Seat<L>,
+        told: &Told,
+    ) -> OrMemory<ApplyFault>
+        requires { IsOfTrack L.opened.track told.now }
+        ensures told { IsToldThen seat.old.told seat.new.told told.now (Err result) }
+        ensures later { IsLater seat.old.told seat.new.told }
+        ensures receipts { seat.new.receipts ≡ seat.old.receipts }
+    {
+        self.bring(rt, seat);
+        match self.log.refusal(told) {
+            Some(fault) => OrMemory::Refused(fault),
+            None => OrMemory::Memory,
+        }
+    }
+
+    /// Why a train that asks is granted nothing, where there is no memory for it: it is not there, or memory is refused. The
+    /// seat is told all that the record has.
+    pub(crate) fn ask_in_vain<R: Wait>(
+        &self,
+        rt: &R,
+        seat: &mut Seat<L>,
+        train: u32,
+    ) -> OrMemory<AskFault>
+        ensures answered { IsAnsweredThen seat.old.told seat.new.told train (Err result) }
+        ensures later { IsLater seat.old.told seat.new.told }
+        ensures receipts { seat.new.receipts ≡ seat.old.receipts }
+    {
+        self.bring(rt, seat);
+        if self.log.has_train(train) {
+            return OrMemory::Memory;
+        }
+        OrMemory::Refused(AskFault::UnknownTrain)
+    }
+
     /// What the train is shown, and the version of the history.
     fn look(&self, alloc: Global, train: u32) -> Result<(View, u64), OrMemory<AskFault>>
         ensures shown { AnswersAs (λ seen. seen.0) result (shown self.now.log train) }

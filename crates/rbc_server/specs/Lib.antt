@@ -1,10 +1,14 @@
 pub mod Answered
 pub mod Changes
 pub mod Connections
+pub mod Keeping
 pub mod SeatChanges
 pub mod SeatSessions
 pub mod SeatAnswers
 pub mod SeatTurns
 pub mod Shown
 pub mod Serving
+pub use Rattle.rbc_sweep.specs.Later
 pub use Rattle.rbc_sweep.specs.Records
+pub use Rattle.rbc_sweep.specs.Seats
+pub use Rattle.rbc_sweep.specs.Sights

@@ -8,6 +8,7 @@ mod connections;
 mod counter;
 mod demand;
 mod histories;
+mod keeping;
 mod outcomes;
 mod serving;
 mod sessions;
@@ -16,9 +17,12 @@ mod telling;
 pub use asking::{commit, stopped};
 pub use demand::{demand_in, looked_up};
 pub use histories::print_history;
+pub use keeping::{Keeper, NoJournal, NotKept};
 pub use rbc_port::{Client, Clients, Ends, Port, PortFailed, Terms};
 pub use rbc_streams::SessionFault;
-pub use rbc_sweep::{Blank, Candidate, Desk, DeskName, Record, View, candidate};
+pub use rbc_sweep::{
+    Blank, Candidate, Desk, DeskName, Receipt, Record, Seat, Sight, View, candidate,
+};
 pub use serving::{ServeFault, Served, serve};
 pub use sessions::{run, session};
 pub use telling::{in_vain, tell};

@@ -6,6 +6,7 @@ ghost use Rattle.rbc_model.specs.Histories.{IsLegal};
 ghost use Rattle.rbc_snap.specs.Knowing.{knower};
 ghost use Rattle.rbc_snap.specs.Later.{IsLater};
 ghost use Rattle.rbc_snap.specs.Looks.{IsSeenIn};
+ghost use Rattle.rbc_snap.specs.Sights.{seen_of};
 
 use crate::rule::{Known, OneHistory, Sees};
 use crate::{EyeFault, HistoryName, Published, Sight};
@@ -183,6 +184,13 @@ impl<J: HistoryName> Eye<J> {
             let _longer = other.told.version();
             self.told = other.told.again();
         }
+    }
+
+    /// What its seat was told.
+    pub fn sight(&self) -> Sight
+        ensures { result ≡ seen_of J.book self.now }
+    {
+        self.told.again()
     }
 
     /// How many entries its seat was told.

@@ -58,20 +58,12 @@ later_after a b c ab bc =
     let all = begins_still a b c ab (begins_later b c bc) in
     record { track = all.track; legal = bc.legal; opening = all.opening }
 
-grown : {X : Type 0} (xs : List X) (x : X) → take (length xs) (xs ++ x ∷ []) ≡ xs
-grown [] x = refl
-grown (y ∷ xs) x = ap (λ ys. y ∷ ys) (grown xs x)
-
-begins_after : (before : HistoryOnTrack) (answer : Asked) → Begins before (after_answer before answer)
-begins_after before (Ok grant) = record { track = refl; opening = grown before.entries grant.receipt.entry }
-begins_after before (Err fault) = begins_itself before
-
 pub told_asked : (had has : Seated) (train : ℕ) (answer : Answer) (desk : Asked) → asked answer ≡ desk → IsAnsweredThen had.told has.told train desk
     → IsTold had has (record { train = train; answer = answer })
 told_asked had has train answer desk is since = record {
   history = since.before;
   later = since.later;
-  told = subst (Begins since.before) (sym since.told) (begins_after since.before desk);
+  told = subst (λ (a : Asked). Begins (after_answer since.before a) has.told) (sym is) (subst (λ (h : HistoryOnTrack). Begins h has.told) since.told (begins_itself has.told));
   answered = subst (IsAnswered since.before train) (sym is) since.answered;
 }
 
@@ -80,7 +72,7 @@ pub told_wider : (first had has last : Seated) (outcome : Outcome) → Begins fi
 told_wider first had has last outcome less more t = record {
   history = t.history;
   later = later_after first.told had.told t.history less t.later;
-  told = begins_still t.history has.told last.told t.told more;
+  told = begins_still (after_answer t.history (asked outcome.answer)) has.told last.told t.told more;
   answered = t.answered;
 }
 

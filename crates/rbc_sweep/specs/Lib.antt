@@ -13,6 +13,7 @@ pub use Rattle.rbc_desk.specs.Later
 pub use Rattle.rbc_desk.specs.Records
 pub use Rattle.rbc_desk.specs.SameViews
 pub use Rattle.rbc_desk.specs.Seats
+pub use Rattle.rbc_desk.specs.Sights
 pub use Rattle.rbc_desk.specs.Steps
 pub use Rattle.rbc_desk.specs.Telling
 pub use Rattle.rbc_desk.specs.Trains

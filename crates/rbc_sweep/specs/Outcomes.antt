@@ -9,7 +9,7 @@ use Rattle.rbc_desk.specs.declared.faults.AskFault.TheVariants.{UnknownTrain, Bl
 use Rattle.rbc_desk.specs.declared.granted.Granted.{Granted as Grant}
 use Rattle.rbc_desk.specs.Later.{IsLater}
 use Rattle.rbc_desk.specs.Seats.{Seated}
-use Rattle.rbc_desk.specs.Asking.{IsAnswered}
+use Rattle.rbc_desk.specs.Asking.{IsAnswered, after_answer}
 use Rattle.rbc_desk.specs.Trains.{numbers_of}
 use Rattle.rbc_sweep.specs.declared.outcome.Answer.{Answer}
 use Rattle.rbc_sweep.specs.declared.outcome.Answer.TheVariants.{Granted, Blocked, Gone, Full, Memory}
@@ -66,11 +66,12 @@ AreTrainsOfFirst [] has trains = ⊥
 AreTrainsOfFirst (one ∷ had) [] trains = ⊥
 AreTrainsOfFirst (one ∷ had) (other ∷ has) trains = AreTrainsTold one other trains
 
--- The outcome is what its train is answered after a legal history that goes on from what the seat had been told. The seat is told it from then on.
+-- The outcome is what its train is answered after a legal history that goes on from what the seat had been told. The seat is told it from then on, with
+-- what was granted.
 pub record IsTold (had has : Seated) (outcome : Outcome) : Type 0 where
   pub history : HistoryOnTrack
   pub later : IsLater had.told history
-  pub told : Begins history has.told
+  pub told : Begins (after_answer history (asked outcome.answer)) has.told
   pub answered : IsAnswered history outcome.train (asked outcome.answer)
 
 -- this is so of one of the seats
