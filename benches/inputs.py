@@ -63,6 +63,12 @@ def ten_trains(reports, seed=2):
     return track, "".join(f"{line}\n" for line in lines).encode()
 
 
+def messages(replies, count=10_000):
+    """So many messages of those among the replies of `rbc run`, which come again and again."""
+    lines = [line for line in replies.splitlines(True) if line.startswith(b"message ")]
+    return b"".join((lines * (count // len(lines) + 1))[:count])
+
+
 def far_asks(asks, sections=1_200, metres=60, seed=3):
     """A track of one line of many short sections, and a session in which its train reports a metre further each time, and asks."""
     chance = random.Random(seed)

@@ -2,9 +2,8 @@
 use Rattle.std.proofs.Common.{◌≡◌, ℕ, ◌||◌, Bool, true, false, List, [], ◌∷◌, ◌++◌, codes, decimal, pos, negsuc, ℤ, Option, Some, None, refl, sym, ap, ◌∙◌, append_assoc}
 use Rattle.std.specs.Fmt.{signed_decimal}
 use Rattle.json.specs.Print.{escape, quoted, escape_byte}
-use Rattle.serde_json.specs.Data.{Data, object, member, array, string, Members, no_members}
+use Rattle.serde_json.specs.Data.{Data, member, array, string, Members, no_members}
 use Rattle.serde_json.specs.Written.{compact_text, comma_if, items_text, members_text}
-use Rattle.rbc_model.specs.Messages.{width_of}
 use Rattle.rbc_model.specs.declared.messages.Fault.{Fault}
 use Rattle.rbc_model.specs.declared.messages.Fault.TheVariants.{Short, Number, Length, Field, Padding, Extra}
 use Rattle.rbc_model.specs.declared.messages.FieldName.{FieldName}
@@ -16,10 +15,10 @@ use Rattle.rbc_fields.specs.declared.fields.Place.TheVariants.{Field as AtField,
 use Rattle.rbc_fields.specs.declared.said.Said.{Said}
 use Rattle.rbc_fields.specs.declared.said.Said.TheVariants.{Time, Country, Group, Nominal, End, Grade, Speed}
 use Rattle.rbc_fields.specs.Parts.{parts_text, always}
-use Rattle.rbc_fields.specs.Readings.{Reading}
+use Rattle.rbc_fields.specs.Readings.{Reading, read_as}
 use Rattle.rbc_fields.specs.Said.{all_said, with_said, said_in}
 use Rattle.rbc_fields.specs.Texts.{name_text, direction_text, fault_text, place_text, measure_text}
-use Rattle.rbc_fields.specs.JsonText.{counted, whole, field_data, field_items, packet_data, grade_data, speed_data, grade_items, speed_items, with_others, with_words, found_data, with_outcome, kind_text, fields_member, json_text}
+use Rattle.rbc_fields.specs.JsonText.{counted, whole, field_data, field_items, grade_data, speed_data, grade_items, speed_items, with_others, with_words, found_data, with_outcome, kind_text, fields_member, json_text}
 use Rattle.rbc_fields.specs.JsonParts.{field_part, member_part, other_part, if_said, is_grade, grade_part, is_speed, speed_part, array_part, others_part, words_part, outcome_part}
 use Rattle.rbc_fields.proofs.PartsLemmas.{parts_text-flat}
 
@@ -80,16 +79,6 @@ quoted-plain : (text rest : List ℕ) → escape text ≡ text → quoted text +
 quoted-plain text rest same = ap (λ t. 34 ∷ ((t ++ 34 ∷ []) ++ rest)) same ∙ ap (λ l. 34 ∷ l) (append_assoc text (34 ∷ []) rest)
 
 -- ---- elements
-
--- a field
-pub field_text : (comma packet : List ℕ) (name : FieldName) (value : ℕ) (data_of : Data) → packet ≡ compact_text data_of
-    → comma ++ (codes "{\"packet\":" ++ (packet ++ (codes ",\"name\":\"" ++ (name_text name ++ (codes "\",\"bits\":" ++ (decimal (width_of name) ++ (codes ",\"value\":" ++ (decimal value ++ (codes "}" ++ [])))))))))
-    ≡ comma ++ compact_text (object (member (codes "packet") data_of (member (codes "name") (string (name_text name)) (member (codes "bits") (counted (width_of name)) (member (codes "value") (counted value) no_members)))))
-unfolding escape_byte
-field_text comma packet name value data_of same =
-    let rest : List ℕ = codes ",\"bits\":" ++ (decimal (width_of name) ++ (codes ",\"value\":" ++ (decimal value ++ codes "}"))) in
-    ap (λ p. comma ++ (codes "{\"packet\":" ++ (p ++ (codes ",\"name\":\"" ++ (name_text name ++ (34 ∷ rest)))))) same
-    ∙ ap (λ l. comma ++ (codes "{\"packet\":" ++ (compact_text data_of ++ (codes ",\"name\":" ++ l)))) (sym (quoted-plain (name_text name) rest (escape-name name)))
 
 whole_text : (z : ℤ) → signed_decimal z ≡ compact_text (whole z)
 whole_text (pos n) = refl
@@ -272,26 +261,12 @@ json_whole packet reading =
     ∙ ap (λ l. head ++ (outcome ++ (l ++ 125 ∷ 10 ∷ []))) (sym (fields_array reading.items))
 
 -- the same by what the code printed
-pub json_by_parts : (packet : Bool) (reading : Reading) (kind : List ℕ) (found : Option Found) → kind ≡ 123 ∷ (quoted (codes "kind") ++ 58 ∷ quoted (kind_text packet)) → found ≡ reading.found
-    → json_text packet reading
-    ≡ kind ++ (outcome_part reading.items found ++ ((codes ",\"fields\":[" ++ (parts_text always field_part false reading.items ++ 93 ∷ [])) ++ codes "}\n"))
-json_by_parts packet reading kind found named same =
-    let fields : List ℕ = (codes ",\"fields\":[" ++ (parts_text always field_part false reading.items ++ 93 ∷ [])) ++ codes "}\n" in
-    json_whole packet reading
-    ∙ ap (λ k. k ++ (outcome_part reading.items reading.found ++ fields)) (sym named)
-    ∙ ap (λ f. kind ++ (outcome_part reading.items f ++ fields)) (sym same)
-
-pub field_by_parts : (later : Bool) (item : Item) (comma packet name : List ℕ) (width : ℕ) → comma ≡ comma_if later → packet ≡ compact_text (packet_data item.row)
-    → name ≡ name_text item.name → width ≡ width_of item.name
-    → comma ++ (codes "{\"packet\":" ++ (packet ++ (codes ",\"name\":\"" ++ (name ++ (codes "\",\"bits\":" ++ (decimal width ++ (codes ",\"value\":" ++ (decimal item.value ++ (codes "}" ++ [])))))))))
-    ≡ field_part later item
-field_by_parts later item comma packet name width a b c d =
-    let rest : List ℕ → ℕ → List ℕ =
-    λ n w. codes ",\"name\":\"" ++ (n ++ (codes "\",\"bits\":" ++ (decimal w ++ (codes ",\"value\":" ++ (decimal item.value ++ (codes "}" ++ [])))))) in
-    ap (λ k. k ++ (codes "{\"packet\":" ++ (packet ++ rest name width))) a
-    ∙ ap (λ n. comma_if later ++ (codes "{\"packet\":" ++ (packet ++ rest n width))) c
-    ∙ ap (λ w. comma_if later ++ (codes "{\"packet\":" ++ (packet ++ rest (name_text item.name) w))) d
-    ∙ field_text (comma_if later) packet item.name item.value (packet_data item.row) b
+pub json_by_parts : (packet : Bool) (items : List Item) (found : Option Found) (kind : List ℕ) → kind ≡ 123 ∷ (quoted (codes "kind") ++ 58 ∷ quoted (kind_text packet))
+    → json_text packet (read_as items found)
+    ≡ kind ++ (outcome_part items found ++ ((codes ",\"fields\":[" ++ (parts_text always field_part false items ++ 93 ∷ [])) ++ codes "}\n"))
+json_by_parts packet items found kind named =
+    let fields : List ℕ = (codes ",\"fields\":[" ++ (parts_text always field_part false items ++ 93 ∷ [])) ++ codes "}\n" in
+    json_whole packet (read_as items found) ∙ ap (λ k. k ++ (outcome_part items found ++ fields)) (sym named)
 
 pub found_by_parts : (found : Found) (fault place measure : List ℕ) → fault ≡ fault_text found.fault → place ≡ place_text found.place → measure ≡ measure_text found.place
     → codes ",\"refused\":{\"fault\":\"" ++ (fault ++ (codes "\",\"name\":\"" ++ (place ++ (codes "\",\"bit\":" ++ (decimal found.bit

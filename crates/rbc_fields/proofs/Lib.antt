@@ -1,8 +1,9 @@
 pub mod DigitLemmas
 pub mod RestLemmas
-pub mod PrintedLemmas
+pub mod ListLemmas
 pub mod PartsLemmas
 pub mod JsonLemmas
+pub mod LineLemmas
 pub mod DecodedLemmas
 pub mod AgreementLemmas
 pub mod MessageAgreementLemmas

@@ -31,6 +31,20 @@ pub parts_text-words : (items : List Item) → parts_text always (λ before item
 parts_text-words items = parts_text-flat (λ item. said_line (said_in item)) false items ∙ lines_words items
 
 -- the first of those that are left, and those behind it
+pub parts_text-next : (told : Item → Bool) (text : Bool → Item → List ℕ) (later : Bool) (items : List Item) (index : ℕ) (item : Item) → index < length items
+    → parts_text told text later (drop index items)
+    ≡ text later (get_or items index item) ++ parts_text told text (later || told (get_or items index item)) (drop (index + 1) items)
+parts_text-next told text later items index item inside =
+    let first = get_or items index item in
+    ap (parts_text told text later) (drop-cons items index item inside)
+    ∙ ap (λ i. text later first ++ parts_text told text (later || told first) (drop i items)) (sym (add-one index))
+
+-- none is left
+pub parts_text-end : (told : Item → Bool) (text : Bool → Item → List ℕ) (later : Bool) (items : List Item) (index : ℕ) → length items ≤ index
+    → parts_text told text later (drop index items) ≡ []
+parts_text-end told text later items index past = at_drop_all (parts_text told text later) items index past
+
+-- the first of those that are left, and those behind it
 pub flat_map-next : {X : Type 0} (text : X → List ℕ) (xs : List X) (index : ℕ) (x : X) → index < length xs
     → flat_map text (drop index xs) ≡ text (get_or xs index x) ++ flat_map text (drop (index + 1) xs)
 flat_map-next text xs index x inside =

@@ -1,16 +1,18 @@
 -- The line of JSON as the code prints it, piece by piece.
 use Rattle.std.specs.Prelude.{ℕ, Bool, true, false, List, [], ◌∷◌, ◌++◌, Option, Some, None, codes, decimal}
-use Rattle.std.specs.Fmt.{signed_decimal}
 use Rattle.std.specs.List.{flat_map}
+use Rattle.rbc_model.specs.declared.messages.FieldName.{FieldName}
+use Rattle.rbc_model.specs.Messages.{width_of}
+use Rattle.rbc_fields.specs.declared.row.Row.{Row}
 use Rattle.rbc_fields.specs.declared.fields.Found.{Found}
 use Rattle.rbc_fields.specs.declared.fields.Item.{Item}
 use Rattle.rbc_fields.specs.declared.json_line.Piece.{Piece}
-use Rattle.rbc_fields.specs.declared.json_line.Piece.TheVariants.{Text, Number, Count, Signed}
+use Rattle.rbc_fields.specs.declared.json_line.Piece.TheVariants.{Text, Number, Count}
 use Rattle.rbc_fields.specs.declared.said.Said.{Said}
 use Rattle.rbc_fields.specs.declared.said.Said.TheVariants.{Time, Country, Group, Nominal, End, Grade, Speed}
 use Rattle.rbc_fields.specs.Said.{all_said, said_in}
-use Rattle.rbc_fields.specs.JsonText.{field_data, grade_data, speed_data, grade_items, speed_items, counted, found_data}
-use Rattle.rbc_fields.specs.Texts.{direction_text}
+use Rattle.rbc_fields.specs.JsonText.{packet_data, field_data, grade_data, speed_data, grade_items, speed_items, counted, found_data}
+use Rattle.rbc_fields.specs.Texts.{name_text, direction_text}
 use Rattle.serde_json.specs.Data.{Data, string, array, Items}
 use Rattle.serde_json.specs.Written.{compact_text, comma_if}
 use Rattle.json.specs.Print.{quoted}
@@ -19,10 +21,17 @@ abbrev pub piece_text : Piece → List ℕ
 piece_text (Text text) = text.now
 piece_text (Number number) = decimal number
 piece_text (Count count) = decimal count
-piece_text (Signed number) = signed_decimal number
 
 abbrev pub pieces_text : List Piece → List ℕ
 pieces_text pieces = flat_map piece_text pieces
+
+-- a field up to the packet that it stands in
+abbrev pub packet_start : Row → List ℕ
+packet_start row = codes "{\"packet\":" ++ compact_text (packet_data row)
+
+-- the members of a field behind that, up to its value
+abbrev pub name_members : FieldName → List ℕ
+name_members name = codes ",\"name\":" ++ (quoted (name_text name) ++ (codes ",\"bits\":" ++ (decimal (width_of name) ++ codes ",\"value\":")))
 
 -- a field among others
 abbrev pub field_part : Bool → Item → List ℕ

@@ -19,6 +19,10 @@ pub record Reading : Type 0 where
   pub items : List Item
   pub found : Option Found
 
+-- these fields were read, and this was found
+abbrev pub read_as : List Item → Option Found → Reading
+read_as items found = record { items = items; found = found }
+
 -- nothing more is read
 abbrev pub stopped : Option Found → Reading
 stopped found = record { items = []; found = found }

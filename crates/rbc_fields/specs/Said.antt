@@ -1,5 +1,5 @@
 -- What the fields of a message say, in metres, per mille and km/h, and what its authority says.
-use Rattle.std.specs.Prelude.{ℕ, ◌*◌, Bool, List, [], ◌∷◌, ◌++◌, map, ℤ, Option, Some, None, ◌==◌, if◌then◌else◌}
+use Rattle.std.specs.Prelude.{ℕ, ◌*◌, List, [], ◌∷◌, ◌++◌, map, ℤ, Option, Some, None, ◌==◌, if◌then◌else◌}
 use Rattle.rbc_model.specs.declared.limits.TheConstants.{SPEED_STEP}
 use Rattle.rbc_model.specs.declared.messages.FieldName.{FieldName}
 use Rattle.rbc_model.specs.declared.messages.FieldName.TheVariants.{T_TRAIN, NID_C, NID_BG, Q_DIR, L_ENDSECTION, G_A, V_STATIC}

@@ -2,6 +2,8 @@
 -- found where they end.
 use Rattle.std.specs.Prelude.{ℕ, Bool, List, [], ◌∷◌, ◌++◌, Option, Some, None, ◌==◌, if◌then◌else◌, codes, decimal}
 use Rattle.std.specs.Fmt.{signed_decimal}
+-- in base 10, where the code has numbers in its texts
+pub use Rattle.std.specs.Fmt.{digits}
 use Rattle.std.specs.List.{flat_map}
 use Rattle.rbc_model.specs.declared.messages.FieldName.{FieldName}
 use Rattle.rbc_model.specs.declared.messages.FieldName.TheVariants.{NID_MESSAGE, L_MESSAGE, T_TRAIN, M_ACK, NID_C, NID_BG, NID_PACKET, Q_DIR, L_PACKET, Q_SCALE, V_LOA, T_LOA, N_ITER, L_ENDSECTION, Q_SECTIONTIMER, Q_ENDTIMER, Q_DANGERPOINT, Q_OVERLAP, D_GRADIENT, Q_GDIR, G_A, D_STATIC, V_STATIC, Q_FRONT}
@@ -48,6 +50,10 @@ name_text G_A = codes "G_A"
 name_text D_STATIC = codes "D_STATIC"
 name_text V_STATIC = codes "V_STATIC"
 name_text Q_FRONT = codes "Q_FRONT"
+
+-- the line of a field up to its value
+abbrev pub field_start : FieldName → List ℕ
+field_start name = codes "  " ++ (name_text name ++ (32 ∷ (decimal (width_of name) ++ codes " ")))
 
 -- the line of a field
 abbrev pub field_line : FieldName → ℕ → List ℕ

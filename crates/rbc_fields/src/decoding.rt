@@ -6,15 +6,15 @@ ghost use Rattle.rbc_model.specs.declared.limits.TheConstants.{LONGEST_CHECK_LIN
 ghost use Rattle.rbc_model.specs.declared.sessions.SessionFault.TheVariants.{Read, Write, Memory as NoMemory};
 ghost use Rattle.rbc_model.specs.Sessions.{Prints};
 ghost use Rattle.rbc_model.specs.Talks.{IsTalk};
-ghost use Rattle.rbc_fields.specs.Readings.{reading_of};
-ghost use Rattle.rbc_fields.specs.DecodeText.{is_hex, bytes_in, start_of, reading_kind, digits_reply, are_refused, told_reply, is_told_refused, told_view, IsToldInHex};
+ghost use Rattle.rbc_fields.specs.Readings.{read_as};
+ghost use Rattle.rbc_fields.specs.DecodeText.{is_hex, bytes_in, digits_reply, are_refused, told_reply, is_told_refused, told_view, IsToldInHex};
 ghost use Rattle.rbc_fields.specs.DecodeText.{AnswersDecode, DecodesAll, Printing, outcome_of};
 
-use crate::fields::{Fields, Found};
+use crate::fields::{Found, Item};
 use crate::json_line::print_json;
 use crate::line::{Digits, digits_in};
+use crate::listing::{MOST_FIELDS, NO_FIELD, list_fields};
 use crate::text::print_reading;
-use crate::walk::Walk;
 use rbc_model::limits::{LONGEST_CHECK_LINE, LONGEST_LINE};
 use rbc_streams::{Answers, Sink, Source, WriteFailed, converse, put};
 use rbc_words::SessionFault;
@@ -24,38 +24,25 @@ use std::thread::Threads;
 /// How many bytes a message or packet may have here.
 const MOST_BYTES: usize = LONGEST_LINE / 2;
 
-/// What is found where the fields of these bytes end, if that is a fault.
-#[tactic(auto, unfolding(crate::specs::Readings::reading_of))]
-fn find(start: &Walk, bytes: &[u8]) -> Option<Found>
-    requires { length bytes.now ≤ 4096 }
-    ensures { result ≡ (reading_of start.now bytes.now).found }
-{
-    let mut fields = Fields::new(start, bytes);
-    while let Some(_) = fields.next() {}
-    fields.found()
-}
-
 /// How a message or a packet alone is printed.
 pub trait Form {
     /// What is printed of one, and of what is too long.
     ghost printing: { Printing };
 
-    /// Writes what these bytes tell, where this is found.
+    /// Writes what was read: these fields, and what was found where they end.
     ///
     /// # Errors
     ///
     /// `WriteFailed`, where the writer fails. Then a part of the text stands, from its start.
     fn print_reading<W: Sink>(
         is_packet: bool,
-        bytes: &[u8],
+        items: &[Item],
         found: Option<Found>,
         writer: &mut W,
     ) -> Result<(), WriteFailed>
-        requires going { W.failed writer.old ≡ false }
-        requires short { length bytes.now ≤ 4096 }
-        requires found { found ≡ (reading_kind is_packet bytes.now).found }
+        requires { W.failed writer.old ≡ false }
         ensures { Prints (W.written writer.old) (W.written writer.new) (W.failed writer.new)
-            (printing.told is_packet (reading_kind is_packet bytes.now)) result };
+            (printing.told is_packet (read_as items.now found)) result };
 
     /// Writes the reply to what is too long.
     ///
@@ -76,12 +63,12 @@ impl Form for Plain {
     ghost printing = { plain };
 
     fn print_reading<W: Sink>(
-        is_packet: bool,
-        bytes: &[u8],
+        _is_packet: bool,
+        items: &[Item],
         found: Option<Found>,
         writer: &mut W,
     ) -> Result<(), WriteFailed> {
-        print_reading(&start_of(is_packet, bytes), bytes, found, writer)
+        print_reading(items, found, writer)
     }
 
     fn print_overlong<W: Sink>(writer: &mut W) -> Result<(), WriteFailed> {
@@ -99,11 +86,11 @@ impl Form for Json {
 
     fn print_reading<W: Sink>(
         is_packet: bool,
-        bytes: &[u8],
+        items: &[Item],
         found: Option<Found>,
         writer: &mut W,
     ) -> Result<(), WriteFailed> {
-        print_json(is_packet, &start_of(is_packet, bytes), bytes, found, writer)
+        print_json(is_packet, items, found, writer)
     }
 
     fn print_overlong<W: Sink>(writer: &mut W) -> Result<(), WriteFailed> {
@@ -111,10 +98,13 @@ impl Form for Json {
     }
 }
 
-/// Whether a message or packet was refused so far.
+/// Reads messages and packets.
 #[derive(Drop)]
 struct Decoder {
+    /// Whether one was refused so far.
     refused: bool,
+    /// Room for the fields of one.
+    items: [Item; MOST_FIELDS],
 }
 
 impl Decoder {
@@ -157,9 +147,9 @@ impl Decoder {
         let mut room = [0; MOST_BYTES];
         let bytes = &mut room[..digits.len() / 2];
         decode_digits(digits, bytes);
-        let found = find(&start_of(is_packet, bytes), bytes);
+        let (count, found) = list_fields(is_packet, bytes, &mut self.items);
         self.refused = self.refused || found.is_some();
-        F::print_reading(is_packet, bytes, found, writer)
+        F::print_reading(is_packet, &self.items[..count], found, writer)
     }
 }
 
@@ -170,17 +160,6 @@ fn decode_digits(digits: &[u8], bytes: &mut [u8])
     ensures { bytes.new ≡ bytes_in digits.now }
 {
     hex::decode_to_slice(digits, bytes).unwrap();
-}
-
-/// At the first field of these bytes.
-fn start_of(is_packet: bool, bytes: &[u8]) -> Walk
-    ensures { result ≡ start_of is_packet bytes.now }
-{
-    if is_packet {
-        Walk::over_packet(bytes)
-    } else {
-        Walk::over_message(bytes.len())
-    }
 }
 
 impl<F: Form> Answers<F> for Decoder {
@@ -270,7 +249,10 @@ pub fn decode<F: Form, R: Source, W: Sink>(
     // And it was handed on, unless the writer failed.
     ensures handed_on { W.failed writer.new ≡ false → W.held_back writer.old ≡ [] → W.held_back writer.new ≡ [] }
 {
-    let mut decoder = Decoder { refused: false };
+    let mut decoder = Decoder {
+        refused: false,
+        items: [NO_FIELD; MOST_FIELDS],
+    };
     converse(rt, alloc, reader, writer, &mut decoder, form)?;
     Ok(!decoder.refused)
 }

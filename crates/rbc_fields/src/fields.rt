@@ -12,15 +12,15 @@ use rbc_packet::width_of;
 
 /// A field that was read.
 #[derive(Clone, Copy)]
-pub(crate) struct Item {
+pub struct Item {
     /// The walk that came to it.
-    pub(crate) walk: Walk,
+    pub walk: Walk,
     /// The row in which it stands.
-    pub(crate) row: Row,
+    pub row: Row,
     /// Its name.
-    pub(crate) name: FieldName,
+    pub name: FieldName,
     /// Its value.
-    pub(crate) value: u32,
+    pub value: u32,
 }
 
 /// What was found where a walk came to a fault.

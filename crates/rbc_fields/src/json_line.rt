@@ -1,13 +1,13 @@
 //! What is printed of a message, or of a packet alone, as a line of JSON.
 
-ghost use Rattle.std.specs.Prelude.{◌≡◌, ◌≤◌, ◌++◌, ◌∷◌, ℕ, List, [], Bool, true, false, length, decimal, codes};
+ghost use Rattle.std.specs.Prelude.{◌≡◌, ◌<◌, ◌≤◌, ◌++◌, ◌∷◌, ℕ, List, [], Bool, true, false, length, decimal, codes};
 ghost use Rattle.std.specs.Fmt.{signed_decimal};
 ghost use Rattle.rbc_model.specs.Sessions.{Prints};
-ghost use Rattle.rbc_fields.specs.JsonParts.{piece_text, pieces_text, field_part, member_part, other_part, is_grade, grade_part};
+ghost use Rattle.rbc_fields.specs.JsonParts.{piece_text, pieces_text, packet_start, member_part, other_part, is_grade, grade_part};
 ghost use Rattle.rbc_fields.specs.JsonParts.{is_speed, speed_part, outcome_part, words_part, array_part};
-ghost use Rattle.rbc_fields.specs.JsonText.{json_text, found_data, grade_data, packet_data, speed_data, kind_text};
+ghost use Rattle.rbc_fields.specs.JsonText.{json_text, found_data, grade_data, speed_data, kind_text};
 ghost use Rattle.rbc_fields.specs.Parts.{parts_text};
-ghost use Rattle.rbc_fields.specs.Readings.{reading_of};
+ghost use Rattle.rbc_fields.specs.Readings.{read_as};
 ghost use Rattle.rbc_fields.specs.Said.{said_in};
 ghost use Rattle.rbc_fields.specs.Texts.{direction_text};
 ghost use Rattle.json.specs.Print.{quoted};
@@ -15,14 +15,13 @@ ghost use Rattle.serde_json.specs.Data.{string};
 ghost use Rattle.serde_json.specs.Written.{compact_text, comma_if};
 
 use crate::fields::{Found, Item};
+use crate::names::name_members;
 use crate::parts::{Part, print_parts};
-use crate::row::{Row, packet_number};
+use crate::row::Row;
 use crate::said::{Said, said_in};
-use crate::text::{fault_text, measure_text, name_text, place_text};
-use crate::walk::Walk;
-use rbc_packet::width_of;
+use crate::text::{fault_text, measure_text, place_text};
 use rbc_streams::{Sink, WriteFailed, put};
-use rbc_words::{print_number, print_signed};
+use rbc_words::{Gathered, print_number};
 
 /// A piece of a line.
 #[derive(Clone, Copy)]
@@ -33,8 +32,6 @@ pub(crate) enum Piece<'line> {
     Number(u32),
     /// A large number.
     Count(u64),
-    /// A number with a `-` if it is below 0.
-    Signed(i64),
 }
 
 /// Writes pieces, one behind another.
@@ -58,15 +55,17 @@ fn print_piece<W: Sink>(piece: &Piece, writer: &mut W) -> Result<(), WriteFailed
         Piece::Text(text) => put(writer, text),
         Piece::Number(number) => print_number(u64::from(*number), writer),
         Piece::Count(count) => print_number(*count, writer),
-        Piece::Signed(number) => print_signed(*number, writer),
     }
 }
 
-/// What stands between an element and the one before it, if there is one.
-fn comma_if(later: bool) -> &'static [u8]
-    ensures { result.now ≡ comma_if later }
+/// Puts what stands between an element and the one before it, if there is one, before the element.
+fn put_comma(element: &mut Gathered, later: bool)
+    requires { length element.old < 128 }
+    ensures { element.new ≡ comma_if later ++ element.old }
 {
-    if later { b"," } else { b"" }
+    if later {
+        element.byte(b',');
+    }
 }
 
 /// The fields, as elements.
@@ -85,29 +84,27 @@ impl Part for FieldElements {
     }
 
     fn print<W: Sink>(item: &Item, later: bool, writer: &mut W) -> Result<(), WriteFailed> {
-        let pieces = [
-            Piece::Text(comma_if(later)),
-            Piece::Text(b"{\"packet\":"),
-            packet_piece(item.row),
-            Piece::Text(b",\"name\":\""),
-            Piece::Text(name_text(item.name)),
-            Piece::Text(b"\",\"bits\":"),
-            Piece::Number(width_of(item.name)),
-            Piece::Text(b",\"value\":"),
-            Piece::Number(item.value),
-            Piece::Text(b"}"),
-        ];
-        print_pieces(&pieces, writer)
+        let mut element = Gathered::new();
+        element.byte(b'}');
+        element.number(u64::from(item.value));
+        element.text(name_members(item.name));
+        element.text(packet_start(item.row));
+        put_comma(&mut element, later);
+        put(writer, element.bytes())
     }
 }
 
-/// The packet that a field stands in, none for the header.
-fn packet_piece<'line>(row: Row) -> Piece<'line>
-    ensures { piece_text result ≡ compact_text (packet_data row) }
+/// A field up to the packet that it stands in, none for the header.
+#[tactic(auto, unfolding(json::specs::Print::escape_byte, crate::specs::Texts::digits))]
+fn packet_start(row: Row) -> &'static [u8]
+    ensures text { result.now ≡ packet_start row }
+    ensures short { length result.now ≤ 20 }
 {
     match row {
-        Row::Header => Piece::Text(b"null"),
-        _ => Piece::Number(packet_number(row)),
+        Row::Header => b"{\"packet\":null",
+        Row::Authority => b"{\"packet\":15",
+        Row::GradientHead | Row::GradientStep | Row::GradientEnd => b"{\"packet\":21",
+        Row::SpeedHead | Row::SpeedStep | Row::SpeedEnd => b"{\"packet\":27",
     }
 }
 
@@ -218,15 +215,14 @@ fn print_grade<W: Sink>(
     ensures { Prints (W.written writer.old) (W.written writer.new) (W.failed writer.new)
         (comma_if later ++ compact_text (grade_data from per_mille)) result }
 {
-    let pieces = [
-        Piece::Text(comma_if(later)),
-        Piece::Text(b"{\"from\":"),
-        Piece::Count(from),
-        Piece::Text(b",\"per_mille\":"),
-        Piece::Signed(per_mille),
-        Piece::Text(b"}"),
-    ];
-    print_pieces(&pieces, writer)
+    let mut element = Gathered::new();
+    element.byte(b'}');
+    element.signed(per_mille);
+    element.text(b",\"per_mille\":");
+    element.number(from);
+    element.text(b"{\"from\":");
+    put_comma(&mut element, later);
+    put(writer, element.bytes())
 }
 
 /// The speeds that are said, as elements.
@@ -269,44 +265,40 @@ fn print_speed<W: Sink>(later: bool, from: u64, kmh: u64, writer: &mut W) -> Res
     ensures { Prints (W.written writer.old) (W.written writer.new) (W.failed writer.new)
         (comma_if later ++ compact_text (speed_data from kmh)) result }
 {
-    let pieces = [
-        Piece::Text(comma_if(later)),
-        Piece::Text(b"{\"from\":"),
-        Piece::Count(from),
-        Piece::Text(b",\"km_per_hour\":"),
-        Piece::Count(kmh),
-        Piece::Text(b"}"),
-    ];
-    print_pieces(&pieces, writer)
+    let mut element = Gathered::new();
+    element.byte(b'}');
+    element.number(kmh);
+    element.text(b",\"km_per_hour\":");
+    element.number(from);
+    element.text(b"{\"from\":");
+    put_comma(&mut element, later);
+    put(writer, element.bytes())
 }
 
 /// Writes elements as an array, behind its name and up to its closing bracket.
 fn print_array<P: Part, W: Sink>(
     name: &[u8],
-    start: &Walk,
-    bytes: &[u8],
+    items: &[Item],
     writer: &mut W,
 ) -> Result<(), WriteFailed>
-    requires going { W.failed writer.old ≡ false }
-    requires short { length bytes.now ≤ 4096 }
+    requires { W.failed writer.old ≡ false }
     ensures { Prints (W.written writer.old) (W.written writer.new) (W.failed writer.new)
-        (name.now ++ (parts_text P.told P.text false (reading_of start.now bytes.now).items ++ 93 ∷ [])) result }
+        (name.now ++ (parts_text P.told P.text false items.now ++ 93 ∷ [])) result }
 {
     put(writer, name)?;
-    print_parts::<P, W>(start, bytes, writer)?;
+    print_parts::<P, W>(items, writer)?;
     put(writer, b"]")
 }
 
 /// Writes the members of the words.
-fn print_words<W: Sink>(start: &Walk, bytes: &[u8], writer: &mut W) -> Result<(), WriteFailed>
-    requires going { W.failed writer.old ≡ false }
-    requires short { length bytes.now ≤ 4096 }
+fn print_words<W: Sink>(items: &[Item], writer: &mut W) -> Result<(), WriteFailed>
+    requires { W.failed writer.old ≡ false }
     ensures { Prints (W.written writer.old) (W.written writer.new) (W.failed writer.new)
-        (words_part (reading_of start.now bytes.now).items) result }
+        (words_part items.now) result }
 {
-    print_parts::<OtherMembers, W>(start, bytes, writer)?;
-    print_array::<GradeElements, W>(b",\"grades\":[", start, bytes, writer)?;
-    print_array::<SpeedElements, W>(b",\"speeds\":[", start, bytes, writer)
+    print_parts::<OtherMembers, W>(items, writer)?;
+    print_array::<GradeElements, W>(b",\"grades\":[", items, writer)?;
+    print_array::<SpeedElements, W>(b",\"speeds\":[", items, writer)
 }
 
 /// Writes what was found where the fields ended, as a member.
@@ -333,18 +325,16 @@ fn print_found<W: Sink>(found: &Found, writer: &mut W) -> Result<(), WriteFailed
 
 /// Writes the members of the words, or of what was found where the fields end.
 fn print_outcome<W: Sink>(
-    start: &Walk,
-    bytes: &[u8],
+    items: &[Item],
     found: Option<Found>,
     writer: &mut W,
 ) -> Result<(), WriteFailed>
-    requires going { W.failed writer.old ≡ false }
-    requires short { length bytes.now ≤ 4096 }
+    requires { W.failed writer.old ≡ false }
     ensures { Prints (W.written writer.old) (W.written writer.new) (W.failed writer.new)
-        (outcome_part (reading_of start.now bytes.now).items found) result }
+        (outcome_part items.now found) result }
 {
     match found {
-        None => print_words(start, bytes, writer),
+        None => print_words(items, writer),
         Some(found) => print_found(&found, writer),
     }
 }
@@ -361,22 +351,19 @@ fn kind_start(is_packet: bool) -> &'static [u8]
     }
 }
 
-/// Writes what these bytes tell as a line of JSON, where this is found.
+/// Writes what was read as a line of JSON: these fields, and what was found where they end.
 pub(crate) fn print_json<W: Sink>(
     is_packet: bool,
-    start: &Walk,
-    bytes: &[u8],
+    items: &[Item],
     found: Option<Found>,
     writer: &mut W,
 ) -> Result<(), WriteFailed>
-    requires going { W.failed writer.old ≡ false }
-    requires short { length bytes.now ≤ 4096 }
-    requires found { found ≡ (reading_of start.now bytes.now).found }
+    requires { W.failed writer.old ≡ false }
     ensures { Prints (W.written writer.old) (W.written writer.new) (W.failed writer.new)
-        (json_text is_packet (reading_of start.now bytes.now)) result }
+        (json_text is_packet (read_as items.now found)) result }
 {
     put(writer, kind_start(is_packet))?;
-    print_outcome(start, bytes, found, writer)?;
-    print_array::<FieldElements, W>(b",\"fields\":[", start, bytes, writer)?;
+    print_outcome(items, found, writer)?;
+    print_array::<FieldElements, W>(b",\"fields\":[", items, writer)?;
     put(writer, b"}\n")
 }

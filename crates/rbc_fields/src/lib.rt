@@ -8,6 +8,8 @@ mod decoding;
 mod fields;
 mod json_line;
 mod line;
+mod listing;
+mod names;
 mod parts;
 mod row;
 mod said;
@@ -15,7 +17,7 @@ mod text;
 mod walk;
 
 pub use decoding::{Form, Json, Plain, decode};
-pub use fields::{Found, Place};
+pub use fields::{Found, Item, Place};
 pub use row::Row;
 pub use said::Said;
 pub use walk::Walk;

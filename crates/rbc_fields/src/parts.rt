@@ -1,13 +1,11 @@
 //! The fields of a message, printed one after another.
 
-ghost use Rattle.std.specs.Prelude.{◌≡◌, ◌≤◌, ◌||◌, ℕ, List, Bool, false, length};
+ghost use Rattle.std.specs.Prelude.{◌≡◌, ◌||◌, ℕ, List, Bool, false};
 ghost use Rattle.rbc_model.specs.Sessions.{Prints};
 ghost use Rattle.rbc_fields.specs.declared.fields.Item.{Item};
 ghost use Rattle.rbc_fields.specs.Parts.{parts_text};
-ghost use Rattle.rbc_fields.specs.Readings.{reading_of};
 
-use crate::fields::{Fields, Item};
-use crate::walk::Walk;
+use crate::fields::Item;
 use rbc_streams::{Sink, WriteFailed};
 
 /// What is printed of a field.
@@ -28,23 +26,19 @@ pub(crate) trait Part {
         ensures { Prints (W.written writer.old) (W.written writer.new) (W.failed writer.new) (text later item.now) result };
 }
 
-/// Writes of each field of these bytes what is printed of it, up to the last or to the first at fault.
-#[tactic(auto, unfolding(crate::specs::Readings::reading_of))]
+/// Writes of each field what is printed of it.
 pub(crate) fn print_parts<P: Part, W: Sink>(
-    start: &Walk,
-    bytes: &[u8],
+    items: &[Item],
     writer: &mut W,
 ) -> Result<(), WriteFailed>
-    requires going { W.failed writer.old ≡ false }
-    requires short { length bytes.now ≤ 4096 }
+    requires { W.failed writer.old ≡ false }
     ensures { Prints (W.written writer.old) (W.written writer.new) (W.failed writer.new)
-        (parts_text P.told P.text false (reading_of start.now bytes.now).items) result }
+        (parts_text P.told P.text false items.now) result }
 {
-    let mut fields = Fields::new(start, bytes);
     let mut later = false;
-    while let Some(item) = fields.next() {
-        P::print(&item, later, writer)?;
-        later = either(later, P::is_told(&item));
+    for item in items {
+        P::print(item, later, writer)?;
+        later = either(later, P::is_told(item));
     }
     Ok(())
 }

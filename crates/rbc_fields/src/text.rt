@@ -1,24 +1,23 @@
 //! What is printed of the fields of a message.
 
-ghost use Rattle.std.specs.Prelude.{◌≡◌, ◌≤◌, ◌++◌, false, decimal, codes, length};
+ghost use Rattle.std.specs.Prelude.{◌≡◌, ◌≤◌, ◌++◌, ◌∷◌, [], false, decimal, codes, length};
 ghost use Rattle.rbc_model.specs.Sessions.{Prints};
-ghost use Rattle.rbc_fields.specs.declared.said.Said.TheVariants.{Nominal, Grade};
+ghost use Rattle.rbc_fields.specs.declared.said.Said.TheVariants.{Nominal, Grade, Speed};
 ghost use Rattle.rbc_fields.specs.Parts.{parts_text};
-ghost use Rattle.rbc_fields.specs.Readings.{reading_of};
+ghost use Rattle.rbc_fields.specs.Readings.{read_as};
 ghost use Rattle.rbc_fields.specs.Said.{said_in};
-ghost use Rattle.rbc_fields.specs.Texts.{name_text, field_line, packet_line, row_text, head_text, item_text, said_text};
-ghost use Rattle.rbc_fields.specs.Texts.{direction_text, fault_text, place_text, measure_text, found_line, said_line};
+ghost use Rattle.rbc_fields.specs.Texts.{name_text, field_start, field_line, row_text, head_text, item_text, said_text};
+ghost use Rattle.rbc_fields.specs.Texts.{fault_text, place_text, measure_text, found_line, said_line};
 ghost use Rattle.rbc_fields.specs.Texts.{outcome_text, reading_text};
 
 use crate::fields::{Found, Item, Place};
+use crate::names::{field_start, name_text};
 use crate::parts::{Part, print_parts};
-use crate::row::{Row, packet_number};
+use crate::row::Row;
 use crate::said::{Said, said_in};
-use crate::walk::Walk;
 use rbc_model::{Fault, FieldName};
-use rbc_packet::width_of;
 use rbc_streams::{Sink, WriteFailed, put};
-use rbc_words::{Word, print_last, print_line, print_number};
+use rbc_words::{Gathered, Word, print_last, print_line, print_number};
 
 /// The fields, a line each.
 struct FieldLines;
@@ -64,42 +63,37 @@ impl Part for Words {
     }
 }
 
-/// Writes what stands behind the fields of these bytes: their words, or what was found where they end.
+/// Writes what stands behind the fields: their words, or what was found where they end.
 fn print_outcome<W: Sink>(
-    start: &Walk,
-    bytes: &[u8],
+    items: &[Item],
     found: Option<Found>,
     writer: &mut W,
 ) -> Result<(), WriteFailed>
-    requires going { W.failed writer.old ≡ false }
-    requires short { length bytes.now ≤ 4096 }
+    requires { W.failed writer.old ≡ false }
     ensures { Prints (W.written writer.old) (W.written writer.new) (W.failed writer.new)
-        (outcome_text (reading_of start.now bytes.now).items found) result }
+        (outcome_text items.now found) result }
 {
     match found {
         None => {
-            print_parts::<Words, W>(start, bytes, writer)?;
+            print_parts::<Words, W>(items, writer)?;
             put(writer, b"done\n")
         }
         Some(found) => print_found(&found, writer),
     }
 }
 
-/// Writes what these bytes tell, where this is found.
+/// Writes what was read: these fields, and what was found where they end.
 pub(crate) fn print_reading<W: Sink>(
-    start: &Walk,
-    bytes: &[u8],
+    items: &[Item],
     found: Option<Found>,
     writer: &mut W,
 ) -> Result<(), WriteFailed>
-    requires going { W.failed writer.old ≡ false }
-    requires short { length bytes.now ≤ 4096 }
-    requires found { found ≡ (reading_of start.now bytes.now).found }
+    requires { W.failed writer.old ≡ false }
     ensures { Prints (W.written writer.old) (W.written writer.new) (W.failed writer.new)
-        (reading_text (reading_of start.now bytes.now)) result }
+        (reading_text (read_as items.now found)) result }
 {
-    print_parts::<FieldLines, W>(start, bytes, writer)?;
-    print_outcome(start, bytes, found, writer)
+    print_parts::<FieldLines, W>(items, writer)?;
+    print_outcome(items, found, writer)
 }
 
 /// Writes a field, behind the line of what begins with it.
@@ -126,18 +120,21 @@ fn print_row<W: Sink>(row: Row, writer: &mut W) -> Result<(), WriteFailed>
     requires { W.failed writer.old ≡ false }
     ensures { Prints (W.written writer.old) (W.written writer.new) (W.failed writer.new) (row_text row) result }
 {
-    match row {
-        Row::Header => put(writer, b"message\n"),
-        Row::Authority | Row::GradientHead | Row::SpeedHead => print_packet(row, writer),
-        _ => Ok(()),
-    }
+    put(writer, row_text(row))
 }
 
-fn print_packet<W: Sink>(row: Row, writer: &mut W) -> Result<(), WriteFailed>
-    requires { W.failed writer.old ≡ false }
-    ensures { Prints (W.written writer.old) (W.written writer.new) (W.failed writer.new) (packet_line row) result }
+/// The line of the message or packet that begins with this row, if one does.
+#[tactic(auto, unfolding(crate::specs::Texts::digits))]
+fn row_text(row: Row) -> &'static [u8]
+    ensures { result.now ≡ row_text row }
 {
-    print_line(b"packet", &[Word::Number(packet_number(row))], writer)
+    match row {
+        Row::Header => b"message\n",
+        Row::Authority => b"packet 15\n",
+        Row::GradientHead => b"packet 21\n",
+        Row::SpeedHead => b"packet 27\n",
+        _ => b"",
+    }
 }
 
 /// Writes the line of a field: its name, its width in bits, and its value.
@@ -145,12 +142,11 @@ fn print_field<W: Sink>(name: FieldName, value: u32, writer: &mut W) -> Result<(
     requires { W.failed writer.old ≡ false }
     ensures { Prints (W.written writer.old) (W.written writer.new) (W.failed writer.new) (field_line name value) result }
 {
-    let words = [
-        Word::Text(name_text(name)),
-        Word::Number(width_of(name)),
-        Word::Number(value),
-    ];
-    print_line(b" ", &words, writer)
+    let mut line = Gathered::new();
+    line.byte(b'\n');
+    line.number(u64::from(value));
+    line.text(field_start(name));
+    put(writer, line.bytes())
 }
 
 /// Writes what is said in words.
@@ -159,15 +155,13 @@ fn print_said<W: Sink>(said: &Said, writer: &mut W) -> Result<(), WriteFailed>
     ensures { Prints (W.written writer.old) (W.written writer.new) (W.failed writer.new) (said_text said.now) result }
 {
     match *said {
-        Said::Time(time) => print_line(b"time", &[Word::Number(time)], writer),
+        Said::Time(time) => print_last(b"time ", u64::from(time), writer),
         Said::Country(country) => print_country(country, writer),
         Said::Group(number) => print_last(b"/", u64::from(number), writer),
-        Said::Nominal(nominal) => print_direction(nominal, writer),
-        Said::End(metres) => print_line(b"end", &[Word::Count(metres)], writer),
+        Said::Nominal(nominal) => put(writer, direction_line(nominal)),
+        Said::End(metres) => print_last(b"end ", metres, writer),
         Said::Grade(from, per_mille) => print_grade(from, per_mille, writer),
-        Said::Speed(from, kmh) => {
-            print_line(b"speed", &[Word::Count(from), Word::Count(kmh)], writer)
-        }
+        Said::Speed(from, kmh) => print_speed(from, kmh, writer),
     }
 }
 
@@ -180,12 +174,14 @@ fn print_country<W: Sink>(country: u32, writer: &mut W) -> Result<(), WriteFaile
     print_number(u64::from(country), writer)
 }
 
-fn print_direction<W: Sink>(nominal: bool, writer: &mut W) -> Result<(), WriteFailed>
-    requires { W.failed writer.old ≡ false }
-    ensures { Prints (W.written writer.old) (W.written writer.new) (W.failed writer.new)
-        (said_text (Nominal nominal)) result }
+fn direction_line(nominal: bool) -> &'static [u8]
+    ensures { result.now ≡ said_text (Nominal nominal) }
 {
-    print_line(b"direction", &[Word::Text(direction_text(nominal))], writer)
+    if nominal {
+        b"direction nominal\n"
+    } else {
+        b"direction reverse\n"
+    }
 }
 
 fn print_grade<W: Sink>(from: u64, per_mille: i64, writer: &mut W) -> Result<(), WriteFailed>
@@ -193,17 +189,27 @@ fn print_grade<W: Sink>(from: u64, per_mille: i64, writer: &mut W) -> Result<(),
     ensures { Prints (W.written writer.old) (W.written writer.new) (W.failed writer.new)
         (said_text (Grade from per_mille)) result }
 {
-    print_line(
-        b"grade",
-        &[Word::Count(from), Word::Distance(per_mille)],
-        writer,
-    )
+    let mut line = Gathered::new();
+    line.byte(b'\n');
+    line.signed(per_mille);
+    line.byte(b' ');
+    line.number(from);
+    line.text(b"grade ");
+    put(writer, line.bytes())
 }
 
-pub(crate) fn direction_text(nominal: bool) -> &'static [u8]
-    ensures { result.now ≡ direction_text nominal }
+fn print_speed<W: Sink>(from: u64, kmh: u64, writer: &mut W) -> Result<(), WriteFailed>
+    requires { W.failed writer.old ≡ false }
+    ensures { Prints (W.written writer.old) (W.written writer.new) (W.failed writer.new)
+        (said_text (Speed from kmh)) result }
 {
-    if nominal { b"nominal" } else { b"reverse" }
+    let mut line = Gathered::new();
+    line.byte(b'\n');
+    line.number(kmh);
+    line.byte(b' ');
+    line.number(from);
+    line.text(b"speed ");
+    put(writer, line.bytes())
 }
 
 /// Writes what was found where the fields ended.
@@ -252,36 +258,5 @@ pub(crate) fn fault_text(fault: Fault) -> &'static [u8]
         Fault::Field(_) => b"Field",
         Fault::Padding => b"Padding",
         Fault::Extra => b"Extra",
-    }
-}
-
-pub(crate) fn name_text(name: FieldName) -> &'static [u8]
-    ensures { result.now ≡ name_text name }
-{
-    match name {
-        FieldName::NID_MESSAGE => b"NID_MESSAGE",
-        FieldName::L_MESSAGE => b"L_MESSAGE",
-        FieldName::T_TRAIN => b"T_TRAIN",
-        FieldName::M_ACK => b"M_ACK",
-        FieldName::NID_C => b"NID_C",
-        FieldName::NID_BG => b"NID_BG",
-        FieldName::NID_PACKET => b"NID_PACKET",
-        FieldName::Q_DIR => b"Q_DIR",
-        FieldName::L_PACKET => b"L_PACKET",
-        FieldName::Q_SCALE => b"Q_SCALE",
-        FieldName::V_LOA => b"V_LOA",
-        FieldName::T_LOA => b"T_LOA",
-        FieldName::N_ITER => b"N_ITER",
-        FieldName::L_ENDSECTION => b"L_ENDSECTION",
-        FieldName::Q_SECTIONTIMER => b"Q_SECTIONTIMER",
-        FieldName::Q_ENDTIMER => b"Q_ENDTIMER",
-        FieldName::Q_DANGERPOINT => b"Q_DANGERPOINT",
-        FieldName::Q_OVERLAP => b"Q_OVERLAP",
-        FieldName::D_GRADIENT => b"D_GRADIENT",
-        FieldName::Q_GDIR => b"Q_GDIR",
-        FieldName::G_A => b"G_A",
-        FieldName::D_STATIC => b"D_STATIC",
-        FieldName::V_STATIC => b"V_STATIC",
-        FieldName::Q_FRONT => b"Q_FRONT",
     }
 }

@@ -72,6 +72,18 @@ impl Gathered {
         }
     }
 
+    /// Puts a text before the text.
+    #[inline(always)]
+    pub fn text(&mut self, text: &[u8])
+        requires { length text.now + length self.old ≤ 128 }
+        ensures text { self.new ≡ text.now ++ self.old }
+        ensures length { length self.new ≡ length text.now + length self.old }
+    {
+        let end = self.start;
+        self.start -= text.len();
+        self.bytes[self.start..end].copy_from_slice(text);
+    }
+
     /// The bytes of the text.
     #[inline(always)]
     pub fn bytes(&self) -> &[u8]

@@ -12,6 +12,7 @@ mod steps_reply;
 mod steps_request;
 mod words;
 
+pub use gathered::Gathered;
 pub use line_words::{Word, leg_word, print_line, print_words, section_word};
 pub use price_table::print_table;
 pub use printing::{print_hex, print_number, print_signed};

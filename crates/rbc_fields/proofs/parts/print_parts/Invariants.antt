@@ -1,9 +1,7 @@
-use Rattle.std.proofs.Common.{◌≡◌, ℕ, false, Bool, List, length, Option, Result}
+use Rattle.std.proofs.Common.{◌≡◌, false, Bool, drop, Option, List, ℕ, Result}
 use Rattle.rbc_model.specs.Sessions.{Prints}
 use Rattle.rbc_streams.specs.declared.streams.WriteFailed.{WriteFailed}
 use Rattle.rbc_fields.specs.Parts.{parts_text}
-use Rattle.rbc_fields.specs.Readings.{reading_of, IsCounted}
-use Rattle.rbc_fields.proofs.RestLemmas.{Rest}
 use Rattle.rbc_fields.proofs.parts.print_parts.Given as goal
 
 -- to print what is left is to print all
@@ -14,11 +12,7 @@ invariant-loop-item g l =
     let text = g.P.Part.text in
     record {
       going : g.W.Sink.failed l.writer ≡ false;
-      counted : IsCounted l.fields;
-      rest : Rest l.fields (λ reading. (end : Option (List ℕ)) (failed : Bool) (r : Result (Unit {0}) WriteFailed)
-          → Prints (written l.writer) end failed (parts_text told text l.later reading.items) r
-          → Prints (written l.fn.writer) end failed (parts_text told text false (reading_of l.fn.start l.fn.bytes).items) r);
+      whole : (end : Option (List ℕ)) (failed : Bool) (r : Result (Unit {0}) WriteFailed)
+          → Prints (written l.writer) end failed (parts_text told text l.later (drop l.item-index l.items)) r
+          → Prints (written l.fn.writer) end failed (parts_text told text false l.items) r;
     }
-
-abbrev pub decreases-loop-item : goal.decreases-loop-item
-decreases-loop-item g l = length l.fields.bits

@@ -1,0 +1,18 @@
+use Rattle.std.proofs.Common.{◌≡◌, ◌≤◌, length, take}
+use Rattle.rbc_fields.specs.DecodeText.{reading_kind}
+use Rattle.rbc_fields.specs.Readings.{IsCounted}
+use Rattle.rbc_fields.proofs.ListLemmas.{IsRest}
+use Rattle.rbc_fields.proofs.RestLemmas.{Rest}
+use Rattle.rbc_fields.proofs.listing.list_fields.Given as goal
+
+-- those in the list in front of those that are left are all
+abbrev pub invariant-loop-item : goal.invariant-loop-item
+invariant-loop-item l = record {
+  counted : IsCounted l.fields;
+  within : l.count ≤ 252;
+  long : length l.items ≡ 252;
+  rest : Rest l.fields (IsRest (take l.count l.items) (reading_kind l.is_packet l.bytes));
+}
+
+abbrev pub decreases-loop-item : goal.decreases-loop-item
+decreases-loop-item l = length l.fields.bits

@@ -1,0 +1,65 @@
+//! The fields of a message or packet, in a list.
+
+ghost use Rattle.std.specs.Prelude.{◌≡◌, ◌≤◌, length, take};
+ghost use Rattle.rbc_fields.specs.DecodeText.{start_of, reading_kind};
+
+use crate::fields::{Fields, Found, Item};
+use crate::row::Row;
+use crate::walk::Walk;
+use rbc_model::FieldName;
+
+/// How many fields there are at most: 6 of the header, 12 of packet 15, and 101 and 133 of packets 21 and 27 with 31
+/// steps each.
+pub(crate) const MOST_FIELDS: usize = 252;
+
+/// What stands in a list behind its fields.
+pub(crate) const NO_FIELD: Item = Item {
+    walk: Walk {
+        row: None,
+        index: 0,
+        is_alone: false,
+        bytes: 0,
+        direction: None,
+        scale: None,
+        end: None,
+        said: 0,
+        later: 0,
+        from: 0,
+        uphill: 0,
+    },
+    row: Row::Header,
+    name: FieldName::NID_MESSAGE,
+    value: 0,
+};
+
+/// Puts the fields of a packet alone or of a message into a list, up to the last or to the first at fault. Answers how
+/// many these are, and what was found where they end, if that is a fault.
+pub(crate) fn list_fields(
+    is_packet: bool,
+    bytes: &[u8],
+    items: &mut [Item; MOST_FIELDS],
+) -> (usize, Option<Found>)
+    requires { length bytes.now ≤ 4096 }
+    ensures items { take result.0 items.new ≡ (reading_kind is_packet bytes.now).items }
+    ensures count { result.0 ≤ 252 }
+    ensures found { result.1 ≡ (reading_kind is_packet bytes.now).found }
+{
+    let mut fields = Fields::new(&start_of(is_packet, bytes), bytes);
+    let mut count = 0;
+    while let Some(item) = fields.next() {
+        items[count] = item;
+        count += 1;
+    }
+    (count, fields.found())
+}
+
+/// At the first field of these bytes.
+fn start_of(is_packet: bool, bytes: &[u8]) -> Walk
+    ensures { result ≡ start_of is_packet bytes.now }
+{
+    if is_packet {
+        Walk::over_packet(bytes)
+    } else {
+        Walk::over_message(bytes.len())
+    }
+}
