@@ -11,7 +11,7 @@ use Rattle.rbc_model.specs.Tracks.{Track}
 use Rattle.rbc_model.specs.SoundTracks.{IsInForm}
 use Rattle.rbc_model.specs.Histories.{Entry}
 use Rattle.rbc_model.specs.HistoryText.{entry_line}
-use Rattle.rbc_model.specs.SessionText.{parse_session}
+use Rattle.rbc_model.specs.SessionText.{SessionLine, parse_session}
 use Rattle.rbc_model.specs.SessionReply.{BadLine, Memory, refused_reply}
 use Rattle.rbc_server.proofs.CentreLemmas.{line_comes}
 use Rattle.rbc_server.specs.Changes.{Comes, Goes}
@@ -44,6 +44,13 @@ pub same_adds : (track : Track) (before : List Entry) (line text : List ℕ) (en
 unfolding line_answer
 same_adds track before line text entry says adds =
     ap (λ read. (demand_answer track before (result_map_both (λ said. said) BadLine read >>= looked_up track)).added) says ∙ adds
+
+-- a line adds what the request in it does
+pub adds_said : (track : Track) (before : List Entry) (line : List ℕ) (said : SessionLine) (entry : Entry) → parse_session line ≡ Ok said
+    → (demand_answer track before (looked_up track said)).added ≡ Some entry → Adds track before line entry
+unfolding line_answer
+adds_said track before line said entry read adds =
+    ap (λ r. (demand_answer track before (result_map_both (λ x. x) BadLine r >>= looked_up track)).added) read ∙ adds
 
 longer : (entries : List Entry) → length entries < length (entries ++ []) → ⊥
 longer entries more = let same = length-append entries (let none : List Entry = [] in none) in absurd (omega (arith, more, same))

@@ -1,9 +1,9 @@
-mod TellingLemmas
+pub mod TellingLemmas
 mod BetweenLemmas
-mod AddingLemmas
+pub mod AddingLemmas
 mod SayingLemmas
 mod KeepingLemmas
 mod TalkLemmas
 mod GateLemmas
 mod EndLemmas
-mod TreatingLemmas
+pub mod TreatingLemmas

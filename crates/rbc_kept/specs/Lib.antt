@@ -6,4 +6,10 @@ pub mod Advances
 pub mod Laws
 pub mod Ends
 pub mod Sessions
+pub use Rattle.rbc_server.specs.Keeping
+pub use Rattle.rbc_server.specs.Later
+pub use Rattle.rbc_server.specs.Records
+pub use Rattle.rbc_server.specs.Seats
+pub use Rattle.rbc_server.specs.Sights
 pub use Rattle.rbc_server.specs.declared.serving.ServeFault
+pub use Rattle.rbc_words.specs.SessionLines

@@ -16,7 +16,7 @@ ghost use Rattle.rbc_kept.specs.Kept.{IsGoing};
 ghost use Rattle.rbc_kept.specs.Advances.{Advances, RestsOnly};
 
 use crate::Kept;
-use crate::line_text::line_text;
+use crate::entry_line::line_text;
 use rbc_journal::Device;
 use rbc_model::limits::LONGEST_LINE;
 use rbc_model::{LineFault, Memory, Told};

@@ -4,7 +4,7 @@ ghost use Rattle.std.specs.Prelude.{◌≡◌, ◌<◌, [], false, not, is_some,
 ghost use Rattle.rbc_journal.specs.Device.{Only, LeavesOnly};
 ghost use Rattle.rbc_journal.specs.Journal.{recovered};
 ghost use Rattle.rbc_session_laws.specs.Retelling.{IsRetold};
-ghost use Rattle.rbc_kept.specs.Kept.{IsReady};
+ghost use Rattle.rbc_kept.specs.Kept.{IsKept, IsReady};
 
 use crate::KeptFault;
 use crate::replaying::replay;
@@ -89,5 +89,20 @@ impl<D: Device> Kept<D> {
             return None;
         }
         Some(&self.history)
+    }
+
+    /// The record and its journal, between two sessions.
+    pub fn into_parts(self) -> (Record, Journal<D>)
+        requires { IsReady D.seen D.may_leave self }
+        ensures history { result.0 ≡ self.history }
+        ensures journal { result.1 ≡ self.journal }
+        ensures kept { IsKept D.seen D.may_leave result.0 result.1 }
+    {
+        let Kept {
+            history,
+            journal,
+            ..
+        } = self;
+        (history, journal)
     }
 }

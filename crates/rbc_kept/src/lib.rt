@@ -2,17 +2,19 @@
 #![tactic(auto)]
 
 mod answering;
+mod entry_line;
 mod fault;
 mod kept;
 mod laws;
-mod line_text;
 mod replaying;
 mod saying;
 mod sessions;
 mod text;
 
+pub use entry_line::line_text;
 pub use fault::{KeptFault, RunFault};
 pub use kept::Kept;
 pub use laws::files_tell_one_history;
 pub use rbc_server as server;
+pub use rbc_words::Request;
 pub use sessions::run;

@@ -4,6 +4,7 @@ mod bits;
 mod faults;
 mod journals;
 mod messages;
+mod scribes;
 mod sessions;
 
 /// Time 1000, group 17 of country 5, nominal direction, up to 1,000 m, at 100 km/h on a gradient of -5 per mille.

@@ -11,7 +11,7 @@ use std::{fs, io};
 
 /// What was asked of a file: an offset and the bytes that were written there; a length; or a sync.
 #[derive(Drop)]
-enum Call {
+pub(super) enum Call {
     Write(usize, Vec<u8>),
     Cut(usize),
     Sync,
@@ -19,10 +19,10 @@ enum Call {
 
 /// A file that remembers what it was asked, and fails at the call of a number.
 #[derive(Drop)]
-struct Noted {
-    alloc: Global,
-    calls: Vec<Call>,
-    fails_at: usize,
+pub(super) struct Noted {
+    pub(super) alloc: Global,
+    pub(super) calls: Vec<Call>,
+    pub(super) fails_at: usize,
 }
 
 impl Noted {
@@ -85,7 +85,7 @@ fn apply(
 }
 
 /// The lines that count, each with a line feed.
-fn lines_in(alloc: Global, image: &[u8]) -> Result<Vec<u8>, AllocError> {
+pub(super) fn lines_in(alloc: Global, image: &[u8]) -> Result<Vec<u8>, AllocError> {
     let mut lines = Vec::new(alloc);
     let mut rest = image;
     for _ in 0..image.len() {
@@ -146,7 +146,7 @@ fn with_lines(alloc: Global, image: &[u8], lines: &[&[u8]]) -> Result<Vec<u8>, A
 }
 
 /// What a file holds by these calls, and no further one.
-fn image_of(alloc: Global, start: &[u8], calls: &[Call]) -> Result<Vec<u8>, AllocError> {
+pub(super) fn image_of(alloc: Global, start: &[u8], calls: &[Call]) -> Result<Vec<u8>, AllocError> {
     let mut image = start.to_vec(alloc)?;
     for call in calls {
         apply(&mut image, call, usize::MAX, None)?;

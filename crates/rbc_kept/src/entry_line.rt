@@ -14,7 +14,7 @@ use std::alloc::Global;
 /// # Errors
 ///
 /// `Memory`, where there is none for it.
-pub(crate) fn line_text(alloc: Global, request: &Request) -> Result<Vec<u8>, Memory>
+pub fn line_text(alloc: Global, request: &Request) -> Result<Vec<u8>, Memory>
     ensures { IfOk result (λ text. text.items ≡ said_line (request_view request.now)) }
 {
     let mut text = Text::new(alloc);

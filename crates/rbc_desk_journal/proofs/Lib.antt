@@ -1,0 +1,4 @@
+mod LaterLemmas
+mod LineLemmas
+mod OpeningLemmas
+mod LastingLemmas
