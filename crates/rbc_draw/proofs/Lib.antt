@@ -2,5 +2,6 @@ mod EachLemmas
 mod FigureLemmas
 mod MarkLemmas
 mod PageLemmas
-mod ShowLemmas
+pub mod ShowLemmas
 mod StripLemmas
+pub use Rattle.rbc_checks.proofs.PrintingLemmas

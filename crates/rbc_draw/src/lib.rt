@@ -10,4 +10,6 @@ mod strip;
 
 pub use chart::{Chart, Measure, Place, Point};
 pub use page::draw;
-pub use rbc_checks::{SessionFault, check};
+pub use pieces::{Printed, print_each};
+pub use rbc_checks::{SessionFault, check, print_number, print_signed};
+pub use shapes::Shape;

@@ -14,7 +14,7 @@ use rbc_checks::{CheckLine, next_word, print_number, print_signed};
 use rbc_streams::{Sink, WriteFailed, put};
 
 /// What is printed as text, on the ground of a `C`.
-pub(crate) trait Printed<C> {
+pub trait Printed<C> {
     /// Its text.
     ghost text: { C → Self → List ℕ };
 
@@ -30,7 +30,7 @@ pub(crate) trait Printed<C> {
 }
 
 /// Writes each of these, one behind another.
-pub(crate) fn print_each<C, P: Printed<C>, W: Sink>(
+pub fn print_each<C, P: Printed<C>, W: Sink>(
     ground: &C,
     parts: &[P],
     writer: &mut W,

@@ -13,7 +13,7 @@ use rbc_streams::{Sink, WriteFailed};
 
 /// A shape. Its look is the name under which the page's style has it.
 #[derive(Clone, Copy)]
-pub(crate) enum Shape<'a> {
+pub enum Shape<'a> {
     /// A line from a point to another.
     Line(&'a [u8], Point, Point),
     /// The area between two stairs.

@@ -1,0 +1,5 @@
+mod FigureLemmas
+mod MetreLemmas
+mod TrainLemmas
+mod WayLemmas
+pub use Rattle.rbc_draw.proofs.ShowLemmas

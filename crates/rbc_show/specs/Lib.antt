@@ -1,0 +1,6 @@
+pub mod Held
+pub mod Marks
+pub mod Pages
+pub mod Pieces
+pub mod Strips
+pub mod Words

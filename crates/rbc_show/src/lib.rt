@@ -1,0 +1,17 @@
+//! A scene, shown: a page with a figure for each train.
+#![tactic(auto)]
+
+mod bars;
+mod marks;
+mod page;
+mod parts;
+mod phrases;
+mod pieces;
+mod strip;
+mod way;
+mod words;
+
+pub use page::{ShowFault, print_foot, print_head, show_scene};
+pub use rbc_draw::{check, draw};
+pub use rbc_scene::Scene;
+pub use rbc_streams::{Answers, converse};

@@ -1,0 +1,112 @@
+//! The legs of a train's way, as its strip has them.
+
+ghost use Rattle.std.specs.Prelude.{◌≡◌, ◌≤◌, ◌<◌, ◌+◌, ◌^◌, length, IfOk, None};
+ghost use Rattle.rbc_model.specs.declared.limits.TheConstants.{LONGEST_TRACK};
+ghost use Rattle.rbc_model.specs.Obstacles.{is_locked};
+ghost use Rattle.rbc_model.specs.Tracks.{metres_of};
+ghost use Rattle.rbc_show.specs.Strips.{first_height, next_height, part_of, parts_along};
+
+use rbc_model::{Leg, Memory};
+use rbc_scene::{Line, Locks};
+use rbc_track::Track;
+use std::alloc::Global;
+
+/// How many pixels from the top the first name stands.
+const FIRST_HEIGHT: u64 = 20;
+
+/// A leg of a train's way. A place is so many metres from the start of the train's line.
+#[derive(Clone, Copy)]
+pub struct Part {
+    /// The leg.
+    pub leg: Leg,
+    /// How many pixels from the top its name stands.
+    pub height: u64,
+    /// The place at which it begins.
+    pub begin: u32,
+    /// The place at which it ends.
+    pub end: u32,
+    /// How many metres its section has.
+    pub metres: u32,
+    /// Whether it is locked behind the leg before.
+    pub locked: bool,
+}
+
+/// How many metres the leg has: 1 to 100,000.
+pub(crate) fn metres_of(track: &Track, leg: &Leg) -> u32
+    requires { leg.now.section < length track.now.sections }
+    ensures metres { result ≡ metres_of track.now leg.now.section }
+    ensures at_most { result ≤ LONGEST_TRACK }
+{
+    track.section_at(leg.section).length()
+}
+
+/// Whether the leg is locked in its direction, and behind the leg before if there is one.
+fn is_locked(locks: &Locks, before: Option<Leg>, leg: &Leg) -> bool
+    ensures { result ≡ is_locked locks.now before leg.now }
+{
+    match locks.row(leg.section) {
+        Some(lock) => {
+            lock.direction == leg.direction && (before.is_none() || lock.before == before)
+        }
+        None => false,
+    }
+}
+
+/// A leg that begins at a place, behind another if there is one.
+fn part_of(
+    track: &Track,
+    locks: &Locks,
+    before: Option<Leg>,
+    height: u64,
+    begin: u32,
+    leg: &Leg,
+) -> Part
+    requires of_track { leg.now.section < length track.now.sections }
+    requires fits { begin + metres_of track.now leg.now.section < 2 ^ 32 }
+    ensures { result ≡ part_of track.now locks.now before height begin leg.now }
+{
+    let metres = metres_of(track, leg);
+    Part {
+        leg: *leg,
+        height,
+        begin,
+        end: begin + metres,
+        metres,
+        locked: is_locked(locks, before, leg),
+    }
+}
+
+/// The height at which the next name stands: four by turns.
+fn next_height(height: u64) -> u64
+    ensures { result ≡ next_height height }
+{
+    if height < 74 {
+        height + 18
+    } else {
+        FIRST_HEIGHT
+    }
+}
+
+/// The legs of a way.
+///
+/// # Errors
+///
+/// `Memory`, where the allocator refuses room for them.
+pub(crate) fn parts_of(alloc: Global, locks: &Locks, way: &Line) -> Result<Vec<Part>, Memory>
+    ensures { IfOk result (λ parts. parts.items ≡ parts_along way.now.track locks.now None first_height 0 way.now.legs) }
+{
+    let track = way.track();
+    let legs = way.legs();
+    let _metres = way.length();
+    let mut parts = Vec::new(alloc);
+    let mut before = None;
+    let mut height = FIRST_HEIGHT;
+    let mut begin = 0;
+    for leg in legs {
+        parts.push(part_of(track, locks, before, height, begin, leg))?;
+        before = Some(*leg);
+        height = next_height(height);
+        begin += metres_of(track, leg);
+    }
+    Ok(parts)
+}
