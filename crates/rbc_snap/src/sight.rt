@@ -35,6 +35,7 @@ impl Sight {
         requires { seen.log ≡ log.now ∷ [] }
         ensures { result ≡ seen_of seen.book log.now }
     {
+        log.known();
         Sight {
             count: 1,
             version: log.version(),
