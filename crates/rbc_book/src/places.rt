@@ -20,15 +20,6 @@ struct LegPlace {
     metres: u32,
 }
 
-/// How many metres the leg has: 1 to 100,000.
-fn metres_of(track: &Track, leg: Leg) -> u32
-    requires { leg.section < length track.now.sections }
-    ensures metres { result ≡ metres_of track.now leg.section }
-    ensures at_most { result ≤ LONGEST_TRACK }
-{
-    track.section_at(leg.section).length()
-}
-
 /// The leg of the section, if it is one of these, which begin at place 0.
 fn leg_among(track: &Track, legs: &[Leg], section: SectionId) -> Option<LegPlace>
     requires of_track { All (λ leg. leg.section < length track.now.sections) legs.now }
@@ -38,7 +29,7 @@ fn leg_among(track: &Track, legs: &[Leg], section: SectionId) -> Option<LegPlace
 {
     let mut begin = 0;
     for leg in legs {
-        let metres = metres_of(track, *leg);
+        let metres = track.metres_of(leg);
         if leg.section == section {
             return Some(LegPlace {
                 leg: *leg,
@@ -56,7 +47,7 @@ fn leg_place(line: &Line, section: SectionId) -> Option<LegPlace>
     ensures place { result ≡ leg_place line.now.track line.now.legs section }
     ensures fits { IfSome result (λ place. place.begin + place.metres < 2 ^ 32) }
 {
-    let _metres = line.length();
+    line.known();
     leg_among(line.track(), line.legs(), section)
 }
 
@@ -118,6 +109,7 @@ fn meets(train: &Train, begin: u32, end: u32) -> bool
 pub(crate) fn stands_on(train: &Train, section: SectionId) -> bool
     ensures { result ≡ stands_on train.now.track section train.now.train }
 {
+    train.known();
     match leg_place(train.line(), section) {
         Some(place) => meets(train, place.begin, place.begin + place.metres),
         None => false,

@@ -119,6 +119,7 @@ impl<L: DeskName> Desk<L> {
     {
         let Blank { ledger, journal } = blank;
         let (entries, mut rest) = ledger.open::<L>();
+        log.known();
         let start = log.version();
         let (press, eyes) = Press::<L>::new(rt, alloc, journal, &log, seats)?;
         let made = match seats_with(alloc, &mut rest, eyes) {
@@ -198,12 +199,7 @@ impl<L: DeskName> Desk<L> {
 
     /// Why a train that asks is granted nothing, where its caller has no memory for it: `UnknownTrain` or `Memory`. The seat
     /// is told the history that this speaks of, and has no new receipt.
-    pub fn ask_in_vain<R: Wait>(
-        &self,
-        rt: &R,
-        seat: &mut Seat<L>,
-        train: u32,
-    ) -> OrMemory<AskFault>
+    pub fn ask_in_vain<R: Wait>(&self, rt: &R, seat: &mut Seat<L>, train: u32) -> OrMemory<AskFault>
         ensures since { IsAnsweredThen seat.old.told seat.new.told train (Err result) }
         ensures later { IsLater seat.old.told seat.new.told }
         ensures receipts { seat.new.receipts ≡ seat.old.receipts }
@@ -323,7 +319,7 @@ impl<L: DeskName> Desk<L> {
             IsAnsweredThen seat.old.told seat.new.told train (Ok granted))) }
         ensures denied { IfErr result (λ fault. IsAnsweredThen seat.old.told seat.new.told train (Err fault)) }
     {
-        let _version = seat.version();
+        seat.known();
         for _try in 0..TRIES {
             let Some((view, version)) = look(waiting, alloc, seat, train)? else {
                 return Ok(None);

@@ -67,14 +67,6 @@ fn is_there(log: &Record, candidate: &Candidate) -> bool
     log.has_train(candidate.view().train())
 }
 
-/// Each candidate is best for its view, with the profiles that the rules choose.
-fn is_best(candidate: &Candidate)
-    ensures best { IsCandidateOf candidate.now.view candidate.now.grant }
-    ensures chosen { HasChosenProfiles candidate.now.view candidate.now.grant }
-{
-    let _view = candidate.view();
-}
-
 /// Enters what the candidate would grant.
 fn committed(
     log: &mut Record,
@@ -157,7 +149,7 @@ impl<L: DeskName> Shared<L> {
     fn goes_on(&self)
         ensures { IsLater L.opened self.now.log }
     {
-        let _version = self.log.version();
+        self.log.known();
     }
 
     /// Tells the seat all that the record has.
@@ -285,7 +277,7 @@ impl<L: DeskName> Shared<L> {
             IsAnsweredThen seat.old.told seat.new.told candidate.view.train (Err fault)) }
         ensures current { shown self.old.log candidate.view.train ≡ Ok candidate.view → result ≢ Ok None }
     {
-        is_best(&candidate);
+        candidate.known();
         match self.commit_now(rt, alloc, seat, &candidate)? {
             Some(receipt) => Ok(Some(Granted { receipt, candidate })),
             None => Ok(None),
@@ -402,7 +394,7 @@ impl<L: DeskName> Shared<L> {
             mut entries,
             mut rest,
         } = self;
-        let _version = log.version();
+        log.known();
         let misplaced = find_seats(&log, start, &mut found, seats.as_slice());
         merge_all(rt, &press, &mut rest, seats);
         press.end(rt);

@@ -9,7 +9,7 @@ ghost use Rattle.rbc_model.specs.declared.limits.TheConstants.{FARTHEST_REPORT, 
 ghost use Rattle.rbc_model.specs.declared.limits.TheConstants.{MOST_DOUBT, MOST_SECTIONS};
 ghost use Rattle.rbc_model.specs.Tracks.{leg_eq, metres_of};
 
-use rbc_line::Line;
+use rbc_line::{Line, is_same_leg};
 use rbc_model::{BaliseGroup, Direction, Leg, Report};
 use rbc_track::{Track, reverse};
 
@@ -26,13 +26,6 @@ pub(crate) fn leg_told(group: &BaliseGroup, report: &Report) -> Leg
     } else {
         reverse(nominal)
     }
-}
-
-/// Whether the two legs are the same.
-pub(crate) fn is_same_leg(a: &Leg, b: &Leg) -> bool
-    ensures { result ≡ leg_eq a.now b.now }
-{
-    a == b
 }
 
 /// The index of the leg among these.
@@ -53,14 +46,6 @@ pub(crate) fn legs_before(legs: &[Leg], leg: Leg) -> usize
     }
 }
 
-/// How many metres the leg has.
-pub(crate) fn metres_of(track: &Track, leg: &Leg) -> u32
-    requires { leg.now.section < length track.now.sections }
-    ensures { result ≡ metres_of track.now leg.now.section }
-{
-    track.section_at(leg.section).length()
-}
-
 /// How many metres of the leg lie beyond the group, which stands on its section.
 pub(crate) fn metres_beyond(track: &Track, group: &BaliseGroup, leg: &Leg) -> u32
     requires of_track { leg.now.section < length track.now.sections }
@@ -68,7 +53,7 @@ pub(crate) fn metres_beyond(track: &Track, group: &BaliseGroup, leg: &Leg) -> u3
     ensures { metres_to_group track.now group.now leg.now + result ≡ metres_of track.now leg.now.section }
 {
     match leg.direction {
-        Direction::Rising => metres_of(track, leg) - group.offset,
+        Direction::Rising => track.metres_of(leg) - group.offset,
         Direction::Falling => group.offset,
     }
 }

@@ -36,7 +36,7 @@ impl Course {
         ensures { IfOk result (λ course. course ≡ line) }
     {
         // The track of a line is sound.
-        let _track = line.track();
+        line.known();
         let sections = SectionSet::of(alloc, &line)?;
         Ok(Course { line, sections })
     }
@@ -46,7 +46,7 @@ impl Course {
         ensures line { result.now ≡ self.now }
         ensures is_line { IsLine self.now.track self.now.legs }
     {
-        let _legs = self.line.legs();
+        self.line.known();
         &self.line
     }
 

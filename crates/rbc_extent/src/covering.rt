@@ -11,22 +11,12 @@ ghost use Rattle.rbc_model.specs.declared.refusals.Refusal.TheVariants.{Offline}
 ghost use Rattle.rbc_scene_laws.specs.Good.{IsGoodLocks};
 ghost use Rattle.rbc_extent.specs.PlacingSteps.{found_or, rear_step, front_step, covering_step};
 
-use crate::counting::{
-    has_rear_from, is_same_leg, leg_told, legs_before, metres_ahead, origin_on, rear_from,
-};
+use crate::counting::{has_rear_from, leg_told, legs_before, metres_ahead, origin_on, rear_from};
 use crate::course::Course;
-use rbc_line::Line;
+use rbc_line::{Line, is_same_leg};
 use rbc_locks::Locks;
 use rbc_model::{BaliseGroup, Leg, OrMemory, Refusal, Report};
 use std::alloc::Global;
-
-/// How many sections the line's track has.
-fn sections_of(line: &Line) -> usize
-    ensures count { result ≡ length line.now.track.sections }
-    ensures sound { IsSound line.now.track }
-{
-    line.track().section_count()
-}
 
 /// The line, continued along the locks as far as needed to have the leg.
 ///
@@ -49,7 +39,8 @@ fn continued_to(
     if line.has_leg(leg) {
         return Ok(line);
     }
-    let sections = sections_of(&line);
+    line.known();
+    let sections = line.section_count();
     let mut course = Course::new(alloc, line)?;
     for _added in 0..sections {
         if !course.lengthen_ahead(locks)? {
@@ -121,7 +112,8 @@ fn lengthened_to_rear(
     if has_rear_from(origin, report) {
         return Ok(line);
     }
-    let sections = sections_of(&line);
+    line.known();
+    let sections = line.section_count();
     let mut course = Course::new(alloc, line)?;
     for _added in 0..sections {
         let before = course.line().length();
@@ -162,7 +154,8 @@ fn lengthened_to_front(
     if front <= line.length() {
         return Ok(line);
     }
-    let sections = sections_of(&line);
+    line.known();
+    let sections = line.section_count();
     let mut course = Course::new(alloc, line)?;
     for _added in 0..sections {
         if !course.lengthen_ahead(locks)? {

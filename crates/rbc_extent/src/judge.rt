@@ -12,11 +12,9 @@ ghost use Rattle.rbc_model.specs.SoundTracks.{is_good_group};
 ghost use Rattle.rbc_model.specs.Tracks.{leg_eq};
 ghost use Rattle.rbc_scene_laws.specs.Good.{IsGoodLocks};
 
-use crate::counting::{
-    has_rear_from, is_same_leg, leg_told, metres_ahead, metres_beyond, origin_on, rear_from,
-};
+use crate::counting::{has_rear_from, leg_told, metres_ahead, metres_beyond, origin_on, rear_from};
 use crate::walk::Walk;
-use rbc_line::Line;
+use rbc_line::{Line, is_same_leg};
 use rbc_locks::Locks;
 use rbc_model::{BaliseGroup, Leg, Refusal, Report};
 use rbc_track::Track;

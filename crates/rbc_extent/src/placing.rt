@@ -93,7 +93,7 @@ fn group_of(track: &Track, report: &Report) -> Option<BaliseGroup>
     ensures sound { IsSound track.now }
 {
     // A track is sound: its groups stand on its sections.
-    let _sections = track.section_count();
+    track.known();
     track.group(report.group())
 }
 

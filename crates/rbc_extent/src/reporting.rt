@@ -64,7 +64,10 @@ fn line_of(known: Option<&Train>) -> Option<&Line>
     ensures good { IfSome known.entry (λ train. IsGoodTrain train.now.track train.now.train) }
 {
     match known {
-        Some(train) => Some(train.line()),
+        Some(train) => {
+            train.known();
+            Some(train.line())
+        }
         None => None,
     }
 }

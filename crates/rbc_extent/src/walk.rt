@@ -10,7 +10,6 @@ ghost use Rattle.rbc_model.specs.Tracks.{metres_of};
 ghost use Rattle.rbc_model.specs.SoundTracks.{IsSound};
 ghost use Rattle.rbc_scene_laws.specs.Good.{IsGoodLocks};
 
-use crate::counting::metres_of;
 use rbc_line::Line;
 use rbc_locks::Locks;
 use rbc_model::{Leg, SectionId};
@@ -117,9 +116,9 @@ impl<'a> Walk<'a> {
         } }
     {
         // A track is sound and in form.
-        let _sections = track.section_count();
+        track.known();
         let none: &[Leg] = &[];
-        let metres = metres_of(track, &leg);
+        let metres = track.metres_of(&leg);
         Walk {
             track,
             locks,
@@ -138,6 +137,7 @@ impl<'a> Walk<'a> {
         requires { IsGoodLocks line.now.track locks.now }
         ensures { result ≡ record { line = line.now; locks = locks.now; behind = 0 } }
     {
+        line.known();
         let legs = line.legs();
         let known = legs.len() - 1;
         Walk {
@@ -199,7 +199,7 @@ impl<'a> Walk<'a> {
         ensures { (first : Leg) → first_leg self.now.line.legs ≡ Some first
             → result ≡ metres_of self.now.line.track first.section }
     {
-        metres_of(self.track, &self.first)
+        self.track.metres_of(&self.first)
     }
 
     /// Whether the section stands on the line.
@@ -230,7 +230,7 @@ impl<'a> Walk<'a> {
         if self.has_section(leg.section) {
             return false;
         }
-        self.metres += metres_of(self.track, &leg);
+        self.metres += self.track.metres_of(&leg);
         self.ahead += 1;
         self.last = leg;
         true
@@ -249,7 +249,7 @@ impl<'a> Walk<'a> {
         if self.has_section(leg.section) {
             return false;
         }
-        self.metres += metres_of(self.track, &leg);
+        self.metres += self.track.metres_of(&leg);
         self.behind += 1;
         self.first = leg;
         true
@@ -263,7 +263,7 @@ impl<'a> Walk<'a> {
         ensures none_behind { self.new.behind ≡ 0 }
         ensures legs { self.new.line.legs ≡ drop 1 self.old.line.legs }
     {
-        self.metres -= metres_of(self.track, &self.first);
+        self.metres -= self.track.metres_of(&self.first);
         if let Some((_, later)) = self.known.split_first() {
             self.known = later;
             self.first = head(later, self.turn);

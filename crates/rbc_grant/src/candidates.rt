@@ -37,11 +37,17 @@ impl Model for Candidate {
 }
 
 impl Candidate {
+    /// It is the best for its view, with the profiles that the rules choose. This does nothing.
+    pub fn known(&self)
+        ensures best { IsCandidateOf self.now.view self.now.grant }
+        ensures chosen { HasChosenProfiles self.now.view self.now.grant }
+    {
+        let _ = &self.view;
+    }
+
     /// The view that it is made for.
     pub fn view(&self) -> &View
         ensures view { result.now ≡ self.now.view }
-        ensures best { IsCandidateOf self.now.view self.now.grant }
-        ensures chosen { HasChosenProfiles self.now.view self.now.grant }
     {
         &self.view
     }
@@ -70,8 +76,6 @@ impl Candidate {
     /// The authority.
     pub fn authority(&self) -> &Authority
         ensures authority { result.now ≡ self.now.grant.authority }
-        ensures best { IsCandidateOf self.now.view self.now.grant }
-        ensures chosen { HasChosenProfiles self.now.view self.now.grant }
     {
         &self.authority
     }

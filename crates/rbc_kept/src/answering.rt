@@ -143,6 +143,7 @@ impl<D: Device> Kept<D> {
             × Prints (W.written writer.old) (W.written writer.new) (self.new.has_failed || W.failed writer.new) text result }
     {
         // The track is in form.
+        self.history.known();
         let before = self.history.version();
         let Ok(text) = self.make_room(alloc, request) else {
             let reply = in_vain(&self.history, told);
@@ -211,6 +212,7 @@ impl<D: Device> Kept<D> {
             → Advances D.seen D.may_leave D.moment D.left_since D.faults self.old line text self.new)
             × Prints (W.written writer.old) (W.written writer.new) (self.new.has_failed || W.failed writer.new) text result }
     {
+        self.history.known();
         let before = self.history.version();
         let Ok(text) = self.make_room(alloc, request) else {
             return self.say(&SessionReply::Refused(SessionRefusal::Memory), more, writer);

@@ -55,6 +55,7 @@ fn take(
     ensures added { IfOk result (λ is_added. MatchBool is_added (Gains history.old line.now history.new) (history.new ≡ history.old)) }
     ensures refused { OnErr result (history.new ≡ history.old) }
 {
+    history.known();
     let before = history.version();
     match demand_in(history.track(), line) {
         Ok(Demand::Event(told)) => {
@@ -85,6 +86,7 @@ fn grant(
     ensures added { IfOk result (λ is_added. MatchBool is_added (GainsGrant history.old shown.train history.new) (history.new ≡ history.old)) }
     ensures refused { OnErr result (history.new ≡ history.old) }
 {
+    history.known();
     let before = history.version();
     let Ok(candidate) = candidate(rt, alloc, shown, before) else {
         return Err(Memory);

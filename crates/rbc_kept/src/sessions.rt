@@ -73,7 +73,7 @@ pub fn run<R: Source, W: Sink, D: Device>(
     ensures handed_on { OnOk result (W.held_back writer.old ≡ [] → W.held_back writer.new ≡ []) }
 {
     // The record's track is in form.
-    let _version = kept.history.version();
+    kept.history.known();
     let ended = converse(rt, alloc, reader, writer, kept, &Centre);
     run_end(ended, kept.has_failed)
 }

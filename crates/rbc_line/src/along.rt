@@ -8,7 +8,6 @@ ghost use Rattle.rbc_model.specs.Lines.{line_length};
 ghost use Rattle.rbc_model.specs.Profiles.{rises_from_zero, runs_over, starts_of, value_at};
 ghost use Rattle.rbc_model.specs.Tracks.{metres_of};
 
-use crate::legs::metres_of;
 use crate::track_level::TrackLevel;
 use rbc_model::{Direction, Leg, Memory};
 use rbc_steps::{Level, Runs};
@@ -143,7 +142,7 @@ fn rows_along<V: TrackLevel>(
         if to <= begin {
             return Ok(rows);
         }
-        let end = begin + metres_of(track, leg);
+        let end = begin + track.metres_of(leg);
         let first = from.max(begin);
         let last = to.min(end);
         if first < last {

@@ -9,15 +9,6 @@ ghost use Rattle.rbc_model.specs.Tracks.{leg_eq, metre_of_leg, metres_of};
 use rbc_model::{BaliseGroup, Direction, Leg, Metre, SectionId};
 use rbc_track::Track;
 
-/// How many metres the leg has: 1 to 100,000.
-pub(crate) fn metres_of(track: &Track, leg: &Leg) -> u32
-    requires { leg.now.section < length track.now.sections }
-    ensures metres { result ≡ metres_of track.now leg.now.section }
-    ensures at_most { result ≤ LONGEST_TRACK }
-{
-    track.section_at(leg.section).length()
-}
-
 /// How many metres the legs have.
 pub(crate) fn length_of(track: &Track, legs: &[Leg]) -> u32
     requires of_track { All (λ leg. leg.section < length track.now.sections) legs.now }
@@ -26,7 +17,7 @@ pub(crate) fn length_of(track: &Track, legs: &[Leg]) -> u32
 {
     let mut metres = 0;
     for leg in legs {
-        metres += metres_of(track, leg);
+        metres += track.metres_of(leg);
     }
     metres
 }
@@ -39,7 +30,7 @@ pub(crate) fn has_section(legs: &[Leg], section: SectionId) -> bool
 }
 
 /// Whether the two legs are the same.
-fn is_same_leg(a: &Leg, b: &Leg) -> bool
+pub fn is_same_leg(a: &Leg, b: &Leg) -> bool
     ensures { result ≡ leg_eq a.now b.now }
 {
     a == b
@@ -60,7 +51,7 @@ fn metre_of_leg(track: &Track, leg: &Leg, before: u32) -> Metre
 {
     let offset = match leg.direction {
         Direction::Rising => before,
-        Direction::Falling => metres_of(track, leg) - 1 - before,
+        Direction::Falling => track.metres_of(leg) - 1 - before,
     };
     Metre {
         section: leg.section,
@@ -76,7 +67,7 @@ pub(crate) fn metre_at(track: &Track, legs: &[Leg], place: u32) -> Metre
 {
     let mut left = place;
     for leg in legs {
-        let metres = metres_of(track, leg);
+        let metres = track.metres_of(leg);
         if left < metres {
             return metre_of_leg(track, leg, left);
         }
@@ -94,7 +85,7 @@ fn metres_to_group(track: &Track, group: &BaliseGroup, leg: &Leg) -> u32
 {
     match leg.direction {
         Direction::Rising => group.offset,
-        Direction::Falling => metres_of(track, leg) - group.offset,
+        Direction::Falling => track.metres_of(leg) - group.offset,
     }
 }
 
@@ -121,7 +112,7 @@ pub(crate) fn place_of(
                 None
             };
         }
-        begin += metres_of(track, leg);
+        begin += track.metres_of(leg);
     }
     None
 }
@@ -134,7 +125,7 @@ pub(crate) fn ending_by(track: &Track, legs: &[Leg], place: u32) -> usize
 {
     let mut left = place;
     for (count, leg) in legs.iter().enumerate() {
-        let metres = metres_of(track, leg);
+        let metres = track.metres_of(leg);
         if left < metres {
             return count;
         }
@@ -154,7 +145,7 @@ pub(crate) fn begun_before(track: &Track, legs: &[Leg], place: u32) -> usize
         if left == 0 {
             return count;
         }
-        left = left.saturating_sub(metres_of(track, leg));
+        left = left.saturating_sub(track.metres_of(leg));
     }
     legs.len()
 }

@@ -7,6 +7,7 @@ mod line;
 mod section_set;
 mod track_level;
 
+pub use legs::is_same_leg;
 pub use line::Line;
 pub use rbc_model::Memory;
 pub use section_set::SectionSet;

@@ -47,8 +47,8 @@ impl Line {
         requires { leg.section < length (arc_value track.now).sections }
         ensures { IfOk result (λ line. line ≡ record { track = arc_value track.now; legs = leg ∷ [] }) }
     {
-        prove!(leg.section.index() < track.section_count());
-        let length = legs::metres_of(track, &leg);
+        track.known();
+        let length = track.metres_of(&leg);
         let mut legs = Vec::new(alloc);
         legs.push(leg)?;
         Ok(Line {
@@ -67,7 +67,7 @@ impl Line {
         requires { IsLine (arc_value track.now) legs.now }
         ensures { IfOk result (λ line. line ≡ record { track = arc_value track.now; legs = legs.now }) }
     {
-        let _sections = track.section_count();
+        track.known();
         let length = legs::length_of(track, legs);
         let legs = Vec::from_slice(alloc, legs)?;
         Ok(Line {
@@ -77,19 +77,35 @@ impl Line {
         })
     }
 
+    /// The track is in form and sound. Of the legs each is linked to the next, and none has the section of another. They have at
+    /// most 409,600,000 metres. This does nothing.
+    pub fn known(&self)
+        ensures form { IsInForm self.now.track }
+        ensures sound { IsSound self.now.track }
+        ensures line { IsLine self.now.track self.now.legs }
+        ensures at_most { line_length self.now.track self.now.legs ≤ MOST_SECTIONS * LONGEST_TRACK }
+    {
+        let _ = &self.legs;
+        let _ = self.length();
+    }
+
     /// The track that the line is of.
     pub fn track(&self) -> &Arc<Track>
         ensures track { arc_value result.now ≡ self.now.track }
-        ensures form { IsInForm self.now.track }
-        ensures sound { IsSound self.now.track }
     {
         &self.track
+    }
+
+    /// How many sections its track has: 1 to 4,096.
+    pub fn section_count(&self) -> usize
+        ensures { result ≡ length self.now.track.sections }
+    {
+        self.track.section_count()
     }
 
     /// The legs in the order in which a train runs along them.
     pub fn legs(&self) -> &[Leg]
         ensures legs { result.now ≡ self.now.legs }
-        ensures line { IsLine self.now.track self.now.legs }
     {
         self.legs.as_slice()
     }
@@ -178,7 +194,7 @@ impl Line {
         ensures { self.new
             ≡ (if is_ok result then record self.old { legs = self.old.legs ++ leg ∷ [] } else self.old) }
     {
-        let metres = legs::metres_of(&self.track, &leg);
+        let metres = self.track.metres_of(&leg);
         self.legs.push(leg)?;
         self.length += metres;
         Ok(())
@@ -196,7 +212,7 @@ impl Line {
         requires absent { has_section self.old.legs leg.section ≡ false }
         ensures { self.new ≡ (if is_ok result then record self.old { legs = leg ∷ self.old.legs } else self.old) }
     {
-        let metres = legs::metres_of(&self.track, &leg);
+        let metres = self.track.metres_of(&leg);
         self.legs.insert(0, leg)?;
         self.length += metres;
         Ok(())

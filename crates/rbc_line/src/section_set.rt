@@ -49,6 +49,7 @@ impl SectionSet {
         ensures sections { IfOk result (λ set.
             (section : ℕ) → is_in set section ≡ has_section line.now.legs section) }
     {
+        line.known();
         let mut set = SectionSet::new(alloc, line.track())?;
         let legs = line.legs();
         for leg in legs {

@@ -116,7 +116,7 @@ impl Locks {
             return Err(refusal);
         }
         // A track is sound: a route has each section once, and enters no two of them from one leg.
-        let _routes = track.route_count();
+        track.known();
         self.add_rows(route, asked);
         Ok(())
     }
@@ -140,10 +140,16 @@ impl Locks {
         Ok(())
     }
 
-    /// How many sections the track of these locks has. No two of them are locked behind the same leg.
+    /// No two sections are locked behind the same leg. This does nothing.
+    pub fn known(&self)
+        ensures one_behind { OneRowBehindEach self.now }
+    {
+        let _ = &self.rows;
+    }
+
+    /// How many sections the track of these locks has.
     pub fn section_count(&self) -> usize
         ensures count { result ≡ length self.now }
-        ensures one_behind { OneRowBehindEach self.now }
     {
         self.rows.len()
     }

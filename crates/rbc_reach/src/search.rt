@@ -32,6 +32,7 @@ pub fn view(alloc: Global, scene: &Scene, train: u32) -> Result<View, OrMemory<V
     ensures view { AnswersOrMemory result (view scene.now.track scene.now.scene train) }
     ensures unknown { train_numbered scene.now.scene train ≡ None → result ≡ Err (Refused UnknownTrain) }
 {
+    scene.known();
     match scene.book().get(train) {
         Some(known) => view_of(alloc, scene.locks(), scene.book(), known),
         None => Err(OrMemory::Refused(ViewFault::UnknownTrain)),
@@ -51,7 +52,7 @@ fn view_of(
         (view_of book.now.track (scene_of locks.now book.now.trains) train.now.train) }
 {
     let found = reach(alloc, locks, book, train)?;
-    let _line = train.line();
+    train.known();
     match found.greatest_end(train) {
         Some(end) => Ok(view_to(alloc, train, &found, end)?),
         None => {
@@ -89,7 +90,7 @@ fn view_to(alloc: Global, train: &Train, found: &Reach, end: u32) -> Result<View
     let line = found.line();
     let track = line.track();
     let origin = train.origin();
-    let _metres = line.length();
+    line.known();
     let parts = ViewParts {
         train: report.train(),
         group: report.group(),

@@ -1,5 +1,5 @@
 -- A record keeps what it keeps, when an entry is added that may follow.
-use Rattle.std.proofs.Common.{◌≡◌, ℕ, ◌<◌, Bool, cond, List, [], ◌∷◌, ◌++◌, true, false, Option, Some, None, length, map, take, Result, Ok, Err, refl, sym, ap, ◌∙◌, subst, arith, length-append}
+use Rattle.std.proofs.Common.{◌≡◌, ℕ, ◌<◌, Bool, cond, List, [], ◌∷◌, ◌++◌, true, false, Option, Some, None, length, map, Result, Ok, Err, refl, sym, ap, ◌∙◌, subst, arith, length-append}
 use Rattle.std.specs.Prelude.{IsTrue, is_ok, IfOk, option_map}
 use Rattle.std.proofs.lemmas.Bool.{leb-false}
 use Rattle.std.proofs.lemmas.List.{map-append}
@@ -31,7 +31,6 @@ use Rattle.rbc_record.specs.declared.faults.ApplyFault.{ApplyFault}
 use Rattle.rbc_record.specs.declared.faults.ApplyFault.TheVariants.{Full as FullToTold, Refused as RefusedByScene}
 use Rattle.rbc_record.specs.Entering.{is_just, is_shown, refused_at_once}
 use Rattle.rbc_record.specs.Records.{HistoryOnTrack, IsKept, history_on, is_full, scene_now}
-use Rattle.rbc_record.proofs.HistoryLemmas.{IsLegal-take}
 use Rattle.rbc_record.proofs.LeadingLemmas.{leads}
 
 -- ---- the empty history
@@ -158,23 +157,9 @@ module _ (before : SceneOnTrack) (entries : List Entry) (now : HistoryOnTrack) (
 
 -- ---- what each record shows
 
-pub best_of_kept : (scene : SceneOnTrack) (entries : List Entry) → IsKept scene entries → IsBestHistory scene.track entries
-best_of_kept scene entries kept = let k = kept in IsBestHistory-of_legal scene.track entries k.sound k.legal
-
-pub best_of_same : (scene after : SceneOnTrack) (items others : List EntryHeld) → IsKept scene (map entry_of items) → after ≡ scene → others ≡ items → IsBestHistory after.track (map entry_of others)
-best_of_same scene after items others kept same_scene same_items =
-    subst (λ es. IsBestHistory after.track (map entry_of es)) (sym same_items)
-    (subst (λ (s : SceneOnTrack). IsBestHistory s.track (map entry_of items)) (sym same_scene) (best_of_kept scene (map entry_of items) kept))
-
 module _ (scene : SceneOnTrack) (entries : List Entry) (now : HistoryOnTrack) (is : history_on scene.track entries ≡ now) (kept : IsKept scene entries) where
   pub legal_now : IsLegal now.track now.entries
   legal_now = let k = kept in subst (λ (h : HistoryOnTrack). IsLegal h.track h.entries) is k.legal
 
   pub best_now : IsBestHistory now.track now.entries
-  best_now = subst (λ (h : HistoryOnTrack). IsBestHistory h.track h.entries) is (best_of_kept scene entries kept)
-
-  pub beginning_now : (moment : ℕ) → IsBestHistory now.track (take moment now.entries)
-  beginning_now moment =
-      let k = kept in
-      subst (λ (h : HistoryOnTrack). IsBestHistory h.track (take moment h.entries)) is
-      (IsBestHistory-of_legal scene.track (take moment entries) k.sound (IsLegal-take scene.track entries moment k.legal))
+  best_now = let k = kept in subst (λ (h : HistoryOnTrack). IsBestHistory h.track h.entries) is (IsBestHistory-of_legal scene.track entries k.sound k.legal)

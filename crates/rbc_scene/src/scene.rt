@@ -8,7 +8,6 @@ ghost use Rattle.rbc_model.specs.declared.refusals.Refusal.TheVariants.{NotSafe,
 ghost use Rattle.rbc_model.specs.declared.reports.Told.TheVariants.{Report as ToldReport};
 ghost use Rattle.rbc_model.specs.Answers.{AnswersAs, AnswersOrMemory};
 ghost use Rattle.rbc_model.specs.Events.{after_free, after_give_back, after_grant, after_leave, after_lock, after_report, after_told, step, with_authority};
-ghost use Rattle.rbc_model.specs.Histories.{AuthoritiesAreApart, HeldAreLocked};
 ghost use Rattle.rbc_model.specs.Placing.{reported};
 ghost use Rattle.rbc_model.specs.Scenes.{empty_scene, train_numbered};
 ghost use Rattle.rbc_model.specs.Trains.{Train as KnownTrain};
@@ -80,7 +79,7 @@ impl Scene {
         ensures { IfOk result (λ scene.
             scene ≡ record { track = arc_value track; scene = empty_scene (arc_value track) }) }
     {
-        let _sections = track.section_count();
+        track.known();
         let locks = Locks::new(alloc, &track)?;
         let book = Book::new(alloc, track);
         Ok(Scene { locks, book })
@@ -93,10 +92,17 @@ impl Scene {
         self.book.track()
     }
 
+    /// The locks lead along the track, and each train stands on its line. No metre stands in the authorities of two trains, and
+    /// each metre of an authority is locked in the direction of its leg. This does nothing.
+    pub fn known(&self)
+        ensures { IsGoodScene self.now.track self.now.scene }
+    {
+        let _ = &self.locks;
+    }
+
     /// The locks.
     pub fn locks(&self) -> &Locks
         ensures locks { result.now ≡ self.now.scene.locks }
-        ensures good { IsGoodScene self.now.track self.now.scene }
     {
         &self.locks
     }
@@ -105,8 +111,6 @@ impl Scene {
     pub fn book(&self) -> &Book
         ensures track { result.now.track ≡ self.now.track }
         ensures trains { result.now.trains ≡ self.now.scene.trains }
-        ensures apart { AuthoritiesAreApart self.now.track self.now.scene }
-        ensures locked { HeldAreLocked self.now.track self.now.scene }
     {
         &self.book
     }
@@ -356,7 +360,7 @@ impl Scene {
             ≡ Ok (with_authority known g.line.legs g.from g.to)) }
     {
         let known = self.book.get(train).unwrap();
-        let _line = known.line();
+        known.known();
         granted_along(alloc, known, distance, legs)
     }
 

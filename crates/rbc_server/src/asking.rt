@@ -59,7 +59,7 @@ pub fn stopped(history: &Record, train: u32, fault: OrMemory<ViewFault>) -> Sess
     ensures whole { ReplyIsWhole history.now.track result }
 {
     // The track is sound, so what stands in the way is of the track.
-    let _sections = history.track().section_count();
+    history.track().known();
     match fault {
         OrMemory::Refused(ViewFault::UnknownTrain) => {
             SessionReply::Refused(SessionRefusal::BadEvent(Refusal::UnknownTrain(train)))
@@ -106,8 +106,8 @@ pub fn commit<'a>(alloc: Global, history: &mut Record, candidate: &'a Candidate)
     ensures whole { ReplyIsWhole history.old.track result }
 {
     // The track is sound, so what stands beyond the end is of the track.
-    let _sections = history.track().section_count();
-    let _version = history.version();
+    history.track().known();
+    history.known();
     match history.grant(alloc, candidate) {
         Ok(receipt) => SessionReply::Granted(told_of(candidate, receipt.place() + 1)),
         Err(OrMemory::Refused(CommitFault::Full)) => SessionReply::Refused(SessionRefusal::Full),
@@ -123,6 +123,7 @@ pub(crate) fn told_of(candidate: &Candidate, version: u64) -> Granted<'_>
     ensures best { IsCandidateOf candidate.now.view candidate.now.grant }
     ensures chosen { HasChosenProfiles candidate.now.view candidate.now.grant }
 {
+    candidate.known();
     let view = candidate.view();
     let prices = candidate.prices();
     let authority = candidate.authority();

@@ -46,8 +46,8 @@ impl<'a, L: DeskName, G: Gate, R: Wait> Counter<'a, L, G, R> {
         ensures whole { ReplyIsWhole L.opened.track result }
     {
         // What a refusal names is of the track, since the track is sound. What the seat was told is on it.
-        let _sections = self.track.section_count();
-        let _version = seat.version();
+        self.track.known();
+        seat.known();
         match self.desk.event(self.waiting, alloc, seat, told) {
             Ok(receipt) => SessionReply::Accepted(receipt.place() + 1),
             Err(fault) => SessionReply::Refused(refusal_of(fault)),
@@ -73,7 +73,7 @@ impl<'a, L: DeskName, G: Gate, R: Wait> Counter<'a, L, G, R> {
             × Prints (W.written writer.old) (W.written writer.new) (W.failed writer.new) reply result }
     {
         // What the seat was told is on the desk's track.
-        let _version = seat.version();
+        seat.known();
         let answer = self
             .desk
             .ask_by(rt, self.waiting, alloc, seat, train, self.gate);
@@ -94,7 +94,7 @@ pub(crate) fn reply_to<'a>(
         → ReplyIsWhole track.now result }
 {
     // The track is sound, so what stands beyond an end, or in the way, is of the track.
-    let _sections = track.section_count();
+    track.known();
     match answer {
         Ok(granted) => {
             let version = granted.receipt.place() + 1;
@@ -152,7 +152,7 @@ impl<'a, L: DeskName, G: Gate, R: Wait> Answers<Counter<'a, L, G, R>> for Seat<L
         writer: &mut W,
     ) -> Result<(), WriteFailed> {
         // What the seat was told is on the desk's track.
-        let _version = self.version();
+        self.known();
         match demand_in(counter.track, line) {
             Ok(Demand::Nothing) => print(counter.track, &SessionReply::Nothing, writer),
             Ok(Demand::Event(told)) => {
@@ -170,7 +170,7 @@ impl<'a, L: DeskName, G: Gate, R: Wait> Answers<Counter<'a, L, G, R>> for Seat<L
         writer: &mut W,
     ) -> Result<(), WriteFailed> {
         // As above.
-        let _version = self.version();
+        self.known();
         let overlong = SessionReply::Refused(SessionRefusal::BadLine(LineFault::Overlong));
         print(counter.track, &overlong, writer)
     }

@@ -97,7 +97,7 @@ fn are_on_track<L: DeskName>(seats: &[Seat<L>])
     ensures { All (λ seat. seat.told.track ≡ L.opened.track) seats.now }
 {
     for seat in seats {
-        let _version = seat.version();
+        seat.known();
     }
 }
 
@@ -141,7 +141,7 @@ fn attend<
         (W.written writer.old) (W.written writer.new)) }
 {
     // The track is sound, so what stands beyond an end, or in the way, is of the track.
-    let _sections = track.section_count();
+    track.known();
     let mut seats = seats;
     let workers = seats.split_off(connections)?;
     let visited = connect(rt, alloc, port, track, desk, seats, workers.len())?;

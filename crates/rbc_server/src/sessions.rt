@@ -70,7 +70,7 @@ pub fn run<R: Source, W: Sink>(
     ensures handed_on { W.failed writer.new ≡ false → W.held_back writer.old ≡ [] → W.held_back writer.new ≡ [] }
 {
     // The record's track is in form.
-    let _version = history.version();
+    history.known();
     converse(rt, alloc, reader, writer, history, &Centre)
 }
 
@@ -126,8 +126,8 @@ pub fn session<R: Source, W: Sink, L: DeskName, G: Gate, T: Threads + Wait + Syn
     ensures handed_on { W.failed writer.new ≡ false → W.held_back writer.old ≡ [] → W.held_back writer.new ≡ [] }
 {
     // The desk's track is in form, and what the seat was told is on it.
-    let _sections = track.section_count();
-    let _version = seat.version();
+    track.known();
+    seat.known();
     let counter = Counter {
         desk,
         track,

@@ -20,7 +20,7 @@ pub fn tell(alloc: Global, history: &mut Record, told: &Told) -> SessionReply<'s
     ensures whole { ReplyIsWhole history.old.track result }
 {
     // Every record is of a sound track.
-    let _sections = history.track().section_count();
+    history.track().known();
     match history.apply(alloc, told) {
         Ok(receipt) => SessionReply::Accepted(receipt.place() + 1),
         Err(fault) => SessionReply::Refused(refusal_of(fault)),
@@ -35,7 +35,7 @@ pub fn in_vain(history: &Record, told: &Told) -> SessionReply<'static>
     ensures whole { ReplyIsWhole history.now.track result }
 {
     // As above.
-    let _sections = history.track().section_count();
+    history.track().known();
     match history.refusal(told) {
         Some(fault) => SessionReply::Refused(refusal_of(OrMemory::Refused(fault))),
         None => SessionReply::Refused(SessionRefusal::Memory),

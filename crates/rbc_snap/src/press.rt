@@ -182,7 +182,7 @@ impl<J: HistoryName> Press<J> {
         requires opening { take (length self.old.entries) log.now.entries ≡ self.old.entries }
         ensures { self.new ≡ log.now }
     {
-        let _legal = log.version();
+        log.known();
         let Press {
             writer,
             head,

@@ -35,6 +35,7 @@ impl Sight {
         requires { seen.log ≡ log.now ∷ [] }
         ensures { result ≡ seen_of seen.book log.now }
     {
+        log.known();
         Sight {
             count: 1,
             version: log.version(),
@@ -53,10 +54,16 @@ impl Sight {
         }
     }
 
+    /// Its history is legal. This does nothing.
+    pub fn known(&self)
+        ensures { IsLegal self.now.history.track self.now.history.entries }
+    {
+        let _ = &self.version;
+    }
+
     /// How many entries it has.
     pub fn version(&self) -> u64
-        ensures count { result ≡ length self.now.history.entries }
-        ensures legal { IsLegal self.now.history.track self.now.history.entries }
+        ensures { result ≡ length self.now.history.entries }
     {
         self.version
     }

@@ -1,12 +1,12 @@
 //! A track, and what it is asked for.
 
 ghost use Rattle.std.specs.Prelude.{◌≡◌, ◌<◌, ◌≤◌, length, slice_get, option_map, Some, Err, IfSome, IfErr};
-ghost use Rattle.rbc_model.specs.Tracks.{section_named, route_named, group_named, is_linked};
+ghost use Rattle.rbc_model.specs.Tracks.{section_named, route_named, group_named, is_linked, metres_of};
 ghost use Rattle.rbc_model.specs.Scales.{farthest};
 ghost use Rattle.rbc_model.specs.SoundTracks.{IsInForm, IsSound};
 ghost use Rattle.rbc_model.specs.Answers.{AnswersAs, AnswersOrMemory};
 ghost use Rattle.rbc_model.specs.TrackParts.{track_of};
-ghost use Rattle.rbc_model.specs.declared.limits.TheConstants.{FARTHEST_END_IN_TENS, MOST_STEPS};
+ghost use Rattle.rbc_model.specs.declared.limits.TheConstants.{FARTHEST_END_IN_TENS, LONGEST_TRACK, MOST_STEPS};
 ghost use Rattle.rbc_model.specs.declared.memory.OrMemory.TheVariants.{Refused};
 ghost use Rattle.rbc_track.specs.Making.{made_of, later_tables};
 ghost use Rattle.rbc_track.specs.PartsView.{parts_view};
@@ -174,11 +174,17 @@ impl Track {
         self.format
     }
 
+    /// The track is in form and sound. This does nothing.
+    pub fn known(&self)
+        ensures form { IsInForm self.now }
+        ensures sound { IsSound self.now }
+    {
+        let _ = &self.sections;
+    }
+
     /// How many sections the track has: 1 to 4,096.
     pub fn section_count(&self) -> usize
         ensures count { result ≡ length self.now.sections }
-        ensures form { IsInForm self.now }
-        ensures sound { IsSound self.now }
     {
         self.sections.len()
     }
@@ -186,7 +192,6 @@ impl Track {
     /// How many routes the track has: up to 4,096.
     pub fn route_count(&self) -> usize
         ensures count { result ≡ length self.now.routes }
-        ensures sound { IsSound self.now }
     {
         self.routes.len()
     }
@@ -228,6 +233,15 @@ impl Track {
         ensures { slice_get self.now.sections section ≡ Some result.now }
     {
         &self.sections.as_slice()[section.index()]
+    }
+
+    /// How many metres the leg has: 1 to 100,000.
+    pub fn metres_of(&self, leg: &Leg) -> u32
+        requires { leg.now.section < length self.now.sections }
+        ensures metres { result ≡ metres_of self.now leg.now.section }
+        ensures at_most { result ≤ LONGEST_TRACK }
+    {
+        self.section_at(leg.section).length()
     }
 
     /// The route of this number.

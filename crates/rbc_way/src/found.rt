@@ -110,7 +110,7 @@ impl Reach {
             && is_expressible_end train.now.track train.now.train end) }
         ensures on_line { result ≡ true → end ≤ line_length self.now.track self.now.line }
     {
-        let _line = train.line();
+        train.known();
         may_end(train, self.place, end)
     }
 }

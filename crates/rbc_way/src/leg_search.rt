@@ -13,7 +13,7 @@ ghost use Rattle.rbc_way.specs.Reaches.{Trains, scene_of};
 ghost use Rattle.rbc_way.specs.Stretches.{IsTableOf, stretches_at};
 
 use crate::bounds::{limit_of, start_of};
-use crate::stretches::{Span, Stretch, Stretches, metres_of};
+use crate::stretches::{Span, Stretch, Stretches};
 use rbc_book::{Locks, Train};
 use rbc_model::{Direction, Leg, Obstacle, SectionId};
 
@@ -172,7 +172,7 @@ pub(crate) fn stop_on(
         stop.place < way_leg.now.begin + metres_of train.now.track way_leg.now.leg.section) }
 {
     let leg = &way_leg.leg;
-    let metres = metres_of(train.line().track(), *leg);
+    let metres = train.line().track().metres_of(leg);
     let stretches = stretches_at(others, leg.section);
     let locked = is_locked(locks, way_leg.before, *leg);
     let first = start_of(train).saturating_sub(way_leg.begin);

@@ -16,7 +16,7 @@ ghost use Rattle.rbc_way.specs.Stretches.{IsTableOf};
 
 use crate::found::Reach;
 use crate::leg_search::{Stop, WayLeg, stop_on};
-use crate::stretches::{Stretches, metres_of, stretches_of};
+use crate::stretches::{Stretches, stretches_of};
 use rbc_book::{Book, Line, Locks, SectionSet, Train};
 use rbc_model::{Leg, Memory, Obstacle};
 use std::alloc::Global;
@@ -33,7 +33,7 @@ fn stop_on_line(locks: &Locks, others: &Stretches, train: &Train) -> Option<Stop
 {
     let line = train.line();
     let legs = line.legs();
-    let _metres = line.length();
+    line.known();
     let mut before = None;
     let mut begin = 0;
     for leg in legs {
@@ -46,7 +46,7 @@ fn stop_on_line(locks: &Locks, others: &Stretches, train: &Train) -> Option<Stop
             return Some(found);
         }
         before = Some(*leg);
-        begin += metres_of(line.track(), *leg);
+        begin += line.track().metres_of(leg);
     }
     None
 }
@@ -73,14 +73,6 @@ fn end_stop(locks: &Locks, line: &Line) -> Stop
     }
 }
 
-/// How many sections the line's track has.
-fn sections_of(line: &Line) -> usize
-    ensures count { result ≡ length line.now.track.sections }
-    ensures sound { IsSound line.now.track }
-{
-    line.track().section_count()
-}
-
 /// The first obstacle ahead of the line, on which there is none. The line gains the legs up to there.
 fn stop_ahead(
     alloc: Global,
@@ -102,7 +94,8 @@ fn stop_ahead(
         ≡ lengthened_fully (length train.now.track.sections) (longer_ahead locks.now) line.old.legs)) }
 {
     let mut sections = SectionSet::of(alloc, line)?;
-    let count = sections_of(line);
+    line.known();
+    let count = line.section_count();
     for _added in 0..count {
         let last = &line.last();
         let leg = match locks.next(*last) {
@@ -119,7 +112,7 @@ fn stop_ahead(
             leg: *leg,
         };
         line.extend(*leg)?;
-        let _longer = line.length();
+        line.known();
         sections.insert(leg.section);
         if let Some(found) = stop_on(locks, others, train, &way_leg) {
             return Ok(found);

@@ -33,15 +33,6 @@ pub(crate) struct Stretch {
 /// For each section of a track what trains have of it, in their order.
 pub(crate) type Stretches = Vec<Vec<Stretch>>;
 
-/// How many metres the leg has: 1 to 100,000.
-pub(crate) fn metres_of(track: &Track, leg: Leg) -> u32
-    requires { leg.section < length track.now.sections }
-    ensures metres { result ≡ metres_of track.now leg.section }
-    ensures at_most { result ≤ LONGEST_TRACK }
-{
-    track.section_at(leg.section).length()
-}
-
 /// What the places from `from` up to `to` are on a leg of so many metres that begins at `begin`.
 fn span_on(metres: u32, begin: u32, from: u32, to: u32) -> Span
     ensures { result ≡ span_on metres begin from to }
@@ -122,10 +113,10 @@ fn add_train(table: &mut Stretches, train: &Train) -> Result<(), Memory>
 {
     let line = train.line();
     let legs = line.legs();
-    let _metres = line.length();
+    line.known();
     let mut begin = 0;
     for leg in legs {
-        let metres = metres_of(line.track(), *leg);
+        let metres = line.track().metres_of(leg);
         add_stretch(table, leg.section, stretch_of(train, begin, *leg, metres))?;
         begin += metres;
     }
@@ -137,6 +128,7 @@ pub(crate) fn stretches_of(alloc: Global, book: &Book, train: &Train) -> Result<
     ensures { (locks : Locks) → IfOk result (λ table.
         IsTableOf book.now.track (others (scene_of locks book.now.trains) train.now.train) table.items) }
 {
+    book.known();
     let sections = book.track().section_count();
     let number = train.number();
     let mut table = no_stretches(alloc, sections)?;

@@ -23,7 +23,7 @@ returns-then-front-length-clause-line c =
 pub returns-then-not-branch-clause-line : goal.returns-then-not-branch-clause-line
 unfolding front_step
 returns-then-not-branch-clause-line c =
-    lengthening-stuck (longer_ahead c.args.locks.now) (has_front c.args.line.track c.args.group.now c.args.report.now) c.args.line c.sections_of-sections.result Unplaced c.loop-added._added c.loop-added.course c.loop-added.invariant.lengthening c.loop-added-test.true
+    lengthening-stuck (longer_ahead c.args.locks.now) (has_front c.args.line.track c.args.group.now c.args.report.now) c.args.line c.section_count-sections.result Unplaced c.loop-added._added c.loop-added.course c.loop-added.invariant.lengthening c.loop-added-test.true
     (flag-none c.in_ok-lengthen_ahead.field-0 c.lengthen_ahead.new.self.legs (longer_ahead c.args.locks.now c.loop-added.course.legs) c.in_ok-lengthen_ahead.ensures.longer c.if-not-branch.true)
 
 pub returns-then-front-longer-clause-line : goal.returns-then-front-longer-clause-line
@@ -36,7 +36,7 @@ returns-then-front-longer-clause-line c =
     c.length-longer.ensures.length ∙ ap (λ (l : LineOnTrack). line_length l.track l.legs) c.line.ensures.line
     ∙ ap (λ (t : Track). line_length t c.lengthen_ahead.new.self.legs) (c.in_ok-lengthen_ahead.ensures.track ∙ c.loop-added.invariant.lengthening.track) in
     let front = c.loop-added.invariant.front_is in
-    lengthening-found (longer_ahead c.args.locks.now) (has_front c.args.line.track c.args.group.now c.args.report.now) c.args.line c.sections_of-sections.result Unplaced c.loop-added._added c.loop-added.course c.lengthen_ahead.new.self c.loop-added.invariant.lengthening c.loop-added-test.true more
+    lengthening-found (longer_ahead c.args.locks.now) (has_front c.args.line.track c.args.group.now c.args.report.now) c.args.line c.section_count-sections.result Unplaced c.loop-added._added c.loop-added.course c.lengthen_ahead.new.self c.loop-added.invariant.lengthening c.loop-added-test.true more
     (le_test (front_on c.args.line.track c.args.group.now c.args.report.now c.lengthen_ahead.new.self.legs) (line_length c.args.line.track c.lengthen_ahead.new.self.legs) (omega arith))
     ∙ (let answer : LineOnTrack → Result Line Refusal = λ l. Ok l.legs in ap answer (sym c.into_line.ensures))
 
@@ -61,7 +61,7 @@ loop-added-preserved c =
     ∙ ap (λ (t : Track). line_length t c.lengthen_ahead.new.self.legs) (c.in_ok-lengthen_ahead.ensures.track ∙ c.loop-added.invariant.lengthening.track) in
     let front = c.loop-added.invariant.front_is in
     record {
-      lengthening = lengthening-more (longer_ahead c.args.locks.now) (has_front c.args.line.track c.args.group.now c.args.report.now) c.args.line c.sections_of-sections.result c.loop-added._added c.loop-added.course c.lengthen_ahead.new.self c.loop-added.invariant.lengthening c.loop-added-test.true more
+      lengthening = lengthening-more (longer_ahead c.args.locks.now) (has_front c.args.line.track c.args.group.now c.args.report.now) c.args.line c.section_count-sections.result c.loop-added._added c.loop-added.course c.lengthen_ahead.new.self c.loop-added.invariant.lengthening c.loop-added-test.true more
           (gt_test (front_on c.args.line.track c.args.group.now c.args.report.now c.lengthen_ahead.new.self.legs) (line_length c.args.line.track c.lengthen_ahead.new.self.legs) (omega arith)) c.in_ok-lengthen_ahead.ensures.track;
       told = told-longer c.loop-added.course.legs c.lengthen_ahead.new.self.legs (leg_told c.args.group.now c.args.report.now) one c.loop-added.invariant.told;
       front_is = front ∙ sym same;
@@ -70,4 +70,4 @@ loop-added-preserved c =
 pub returns-clause-line : goal.returns-clause-line
 unfolding front_step
 returns-clause-line c =
-    lengthening-out (longer_ahead c.args.locks.now) (has_front c.args.line.track c.args.group.now c.args.report.now) c.args.line c.sections_of-sections.result Unplaced c.loop-added._added c.loop-added.course c.loop-added.invariant.lengthening c.loop-added-test.false
+    lengthening-out (longer_ahead c.args.locks.now) (has_front c.args.line.track c.args.group.now c.args.report.now) c.args.line c.section_count-sections.result Unplaced c.loop-added._added c.loop-added.course c.loop-added.invariant.lengthening c.loop-added-test.false

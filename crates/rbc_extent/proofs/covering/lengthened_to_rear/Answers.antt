@@ -20,14 +20,14 @@ returns-then-has_rear_from-clause-line c =
 pub returns-then-not-branch-clause-line : goal.returns-then-not-branch-clause-line
 unfolding rear_step
 returns-then-not-branch-clause-line c =
-    lengthening-stuck (longer_back c.args.locks.now) (has_rear c.args.line.track c.args.group.now c.args.report.now) c.args.line c.sections_of-sections.result Unplaced c.loop-added._added c.loop-added.course c.loop-added.invariant.lengthening c.loop-added-test.true
+    lengthening-stuck (longer_back c.args.locks.now) (has_rear c.args.line.track c.args.group.now c.args.report.now) c.args.line c.section_count-sections.result Unplaced c.loop-added._added c.loop-added.course c.loop-added.invariant.lengthening c.loop-added-test.true
     (flag-none c.in_ok-lengthen_back.field-0 c.lengthen_back.new.self.legs (longer_back c.args.locks.now c.loop-added.course.legs) c.in_ok-lengthen_back.ensures.longer c.if-not-branch.true)
 
 pub overflow_sub-origin : goal.overflow_sub-origin
 overflow_sub-origin c =
     let more = flag-some c.in_ok-lengthen_back.field-0 c.lengthen_back.new.self.legs (longer_back c.args.locks.now c.loop-added.course.legs) c.in_ok-lengthen_back.ensures.longer c.if-not-branch.false in
     let is_line : IsLine c.args.line.track c.loop-added.course.legs = subst (λ (t : Track). IsLine t c.loop-added.course.legs) c.loop-added.invariant.lengthening.track c.line.ensures.is_line in
-    let back = one_back c.args.line.track c.args.locks.now c.args.group.now c.args.report.now c.loop-added.course.legs c.lengthen_back.new.self.legs c.sections_of-sections.ensures.sound c.requires.locks is_line c.loop-added.invariant.told more in
+    let back = one_back c.args.line.track c.args.locks.now c.args.group.now c.args.report.now c.loop-added.course.legs c.lengthen_back.new.self.legs c.known.ensures.sound c.requires.locks is_line c.loop-added.invariant.told more in
     let before : c.length-before.result ≡ line_length c.args.line.track c.loop-added.course.legs =
     c.length-before.ensures.length ∙ ap (λ (l : LineOnTrack). line_length l.track l.legs) c.line.ensures.line
     ∙ ap (λ (t : Track). line_length t c.loop-added.course.legs) c.loop-added.invariant.lengthening.track in
@@ -42,7 +42,7 @@ unfolding rear_step
 returns-then-has_rear_from-2-clause-line c =
     let more = flag-some c.in_ok-lengthen_back.field-0 c.lengthen_back.new.self.legs (longer_back c.args.locks.now c.loop-added.course.legs) c.in_ok-lengthen_back.ensures.longer c.if-not-branch.false in
     let is_line : IsLine c.args.line.track c.loop-added.course.legs = subst (λ (t : Track). IsLine t c.loop-added.course.legs) c.loop-added.invariant.lengthening.track c.line.ensures.is_line in
-    let back = one_back c.args.line.track c.args.locks.now c.args.group.now c.args.report.now c.loop-added.course.legs c.lengthen_back.new.self.legs c.sections_of-sections.ensures.sound c.requires.locks is_line c.loop-added.invariant.told more in
+    let back = one_back c.args.line.track c.args.locks.now c.args.group.now c.args.report.now c.loop-added.course.legs c.lengthen_back.new.self.legs c.known.ensures.sound c.requires.locks is_line c.loop-added.invariant.told more in
     let before : c.length-before.result ≡ line_length c.args.line.track c.loop-added.course.legs =
     c.length-before.ensures.length ∙ ap (λ (l : LineOnTrack). line_length l.track l.legs) c.line.ensures.line
     ∙ ap (λ (t : Track). line_length t c.loop-added.course.legs) c.loop-added.invariant.lengthening.track in
@@ -53,7 +53,7 @@ returns-then-has_rear_from-2-clause-line c =
     let within = c.loop-added.invariant.within in
     let now : c.loop-added.origin + (c.length-longer.result - c.length-before.result) ≡ origin_on c.args.line.track c.args.group.now c.args.report.now c.lengthen_back.new.self.legs =
     (let moved = back.origin in omega arith) in
-    lengthening-found (longer_back c.args.locks.now) (has_rear c.args.line.track c.args.group.now c.args.report.now) c.args.line c.sections_of-sections.result Unplaced c.loop-added._added c.loop-added.course c.lengthen_back.new.self c.loop-added.invariant.lengthening c.loop-added-test.true more
+    lengthening-found (longer_back c.args.locks.now) (has_rear c.args.line.track c.args.group.now c.args.report.now) c.args.line c.section_count-sections.result Unplaced c.loop-added._added c.loop-added.course c.lengthen_back.new.self c.loop-added.invariant.lengthening c.loop-added-test.true more
     (ap (λ o. nat_le (c.args.report.now.over + c.args.report.now.length) (o + c.args.report.now.distance)) (sym now) ∙ sym c.has_rear_from-in-loop-added.ensures ∙ c.if-has_rear_from-2.true)
     ∙ (let answer : LineOnTrack → Result Line Refusal = λ l. Ok l.legs in ap answer (sym c.into_line.ensures))
 
@@ -61,7 +61,7 @@ pub returns-then-has_rear_from-2-clause-told : goal.returns-then-has_rear_from-2
 returns-then-has_rear_from-2-clause-told c =
     let more = flag-some c.in_ok-lengthen_back.field-0 c.lengthen_back.new.self.legs (longer_back c.args.locks.now c.loop-added.course.legs) c.in_ok-lengthen_back.ensures.longer c.if-not-branch.false in
     let is_line : IsLine c.args.line.track c.loop-added.course.legs = subst (λ (t : Track). IsLine t c.loop-added.course.legs) c.loop-added.invariant.lengthening.track c.line.ensures.is_line in
-    let back = one_back c.args.line.track c.args.locks.now c.args.group.now c.args.report.now c.loop-added.course.legs c.lengthen_back.new.self.legs c.sections_of-sections.ensures.sound c.requires.locks is_line c.loop-added.invariant.told more in
+    let back = one_back c.args.line.track c.args.locks.now c.args.group.now c.args.report.now c.loop-added.course.legs c.lengthen_back.new.self.legs c.known.ensures.sound c.requires.locks is_line c.loop-added.invariant.told more in
     let before : c.length-before.result ≡ line_length c.args.line.track c.loop-added.course.legs =
     c.length-before.ensures.length ∙ ap (λ (l : LineOnTrack). line_length l.track l.legs) c.line.ensures.line
     ∙ ap (λ (t : Track). line_length t c.loop-added.course.legs) c.loop-added.invariant.lengthening.track in
@@ -74,7 +74,7 @@ pub loop-added-preserved : goal.loop-added-preserved
 loop-added-preserved c =
     let more = flag-some c.in_ok-lengthen_back.field-0 c.lengthen_back.new.self.legs (longer_back c.args.locks.now c.loop-added.course.legs) c.in_ok-lengthen_back.ensures.longer c.if-not-branch.false in
     let is_line : IsLine c.args.line.track c.loop-added.course.legs = subst (λ (t : Track). IsLine t c.loop-added.course.legs) c.loop-added.invariant.lengthening.track c.line.ensures.is_line in
-    let back = one_back c.args.line.track c.args.locks.now c.args.group.now c.args.report.now c.loop-added.course.legs c.lengthen_back.new.self.legs c.sections_of-sections.ensures.sound c.requires.locks is_line c.loop-added.invariant.told more in
+    let back = one_back c.args.line.track c.args.locks.now c.args.group.now c.args.report.now c.loop-added.course.legs c.lengthen_back.new.self.legs c.known.ensures.sound c.requires.locks is_line c.loop-added.invariant.told more in
     let before : c.length-before.result ≡ line_length c.args.line.track c.loop-added.course.legs =
     c.length-before.ensures.length ∙ ap (λ (l : LineOnTrack). line_length l.track l.legs) c.line.ensures.line
     ∙ ap (λ (t : Track). line_length t c.loop-added.course.legs) c.loop-added.invariant.lengthening.track in
@@ -86,7 +86,7 @@ loop-added-preserved c =
     let now : c.loop-added.origin + (c.length-longer.result - c.length-before.result) ≡ origin_on c.args.line.track c.args.group.now c.args.report.now c.lengthen_back.new.self.legs =
     (let moved = back.origin in omega arith) in
     record {
-      lengthening = lengthening-more (longer_back c.args.locks.now) (has_rear c.args.line.track c.args.group.now c.args.report.now) c.args.line c.sections_of-sections.result c.loop-added._added c.loop-added.course c.lengthen_back.new.self c.loop-added.invariant.lengthening c.loop-added-test.true more
+      lengthening = lengthening-more (longer_back c.args.locks.now) (has_rear c.args.line.track c.args.group.now c.args.report.now) c.args.line c.section_count-sections.result c.loop-added._added c.loop-added.course c.lengthen_back.new.self c.loop-added.invariant.lengthening c.loop-added-test.true more
           (ap (λ o. nat_le (c.args.report.now.over + c.args.report.now.length) (o + c.args.report.now.distance)) (sym now) ∙ sym c.has_rear_from-in-loop-added.ensures ∙ c.if-has_rear_from-2.false) c.in_ok-lengthen_back.ensures.track;
       told = back.told;
       origin_is = now;
@@ -96,4 +96,4 @@ loop-added-preserved c =
 pub returns-clause-line : goal.returns-clause-line
 unfolding rear_step
 returns-clause-line c =
-    lengthening-out (longer_back c.args.locks.now) (has_rear c.args.line.track c.args.group.now c.args.report.now) c.args.line c.sections_of-sections.result Unplaced c.loop-added._added c.loop-added.course c.loop-added.invariant.lengthening c.loop-added-test.false
+    lengthening-out (longer_back c.args.locks.now) (has_rear c.args.line.track c.args.group.now c.args.report.now) c.args.line c.section_count-sections.result Unplaced c.loop-added._added c.loop-added.course c.loop-added.invariant.lengthening c.loop-added-test.false

@@ -10,7 +10,7 @@ returns-clause-added g c =
     let before = c.args.history.now in
     let after = c.commit-reply.new.history in
     told_added c.outcome.result (nat_lt c.version-before.result c.version.result) (λ b. MatchBool b (GainsGrant before c.args.shown.train after) (after ≡ before)) c.outcome.ensures.added
-    (gains_grant before after _ c.args.shown.train _ c.version-before.result c.version.result c.version-before.ensures.form c.commit-reply.ensures.comes
+    (gains_grant before after _ c.args.shown.train _ c.version-before.result c.version.result c.known.ensures.form c.commit-reply.ensures.comes
     (ap (λ (v : View). v.train) c.in-Ok.ensures.view) c.version-before.ensures.count c.version.ensures.count)
 
 pub returns-clause-refused : goal.returns-clause-refused
@@ -18,5 +18,5 @@ returns-clause-refused g c =
     let before = c.args.history.now in
     let after = c.commit-reply.new.history in
     told_not_added c.outcome.result (nat_lt c.version-before.result c.version.result) (after ≡ before) (GainsGrant before c.args.shown.train after) c.outcome.ensures.refused
-    (gains_grant before after _ c.args.shown.train _ c.version-before.result c.version.result c.version-before.ensures.form c.commit-reply.ensures.comes
+    (gains_grant before after _ c.args.shown.train _ c.version-before.result c.version.result c.known.ensures.form c.commit-reply.ensures.comes
     (ap (λ (v : View). v.train) c.in-Ok.ensures.view) c.version-before.ensures.count c.version.ensures.count)

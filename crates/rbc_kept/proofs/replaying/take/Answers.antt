@@ -18,7 +18,7 @@ returns-in-Ok-Event-clause-added g c =
     let goes = line_comes before after line reply (Ok (Event c.in-Ok-Event.told)) c.deref.result.now (c.deref.ensures ∙ c.track.ensures)
     (demand_is c.deref.result.now line c.in-Ok-Event.field-0 (Event c.in-Ok-Event.told) c.in-Ok-Event.field-0-is c.in-Ok-Event.ensures.demand) c.tell-reply.ensures.comes in
     told_added c.outcome.result (nat_lt c.version-before.result c.version.result) (λ b. MatchBool b (Gains before line after) (after ≡ before)) c.outcome.ensures.added
-    (gains_at before after line reply c.version-before.result c.version.result c.version-before.ensures.form goes c.version-before.ensures.count c.version.ensures.count)
+    (gains_at before after line reply c.version-before.result c.version.result c.known.ensures.form goes c.version-before.ensures.count c.version.ensures.count)
 
 pub returns-in-Ok-clause-added : goal.returns-in-Ok-clause-added
 returns-in-Ok-clause-added g c =

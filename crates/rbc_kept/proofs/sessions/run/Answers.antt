@@ -63,7 +63,7 @@ returns-clause-answers g c =
     (AnswersAll c.args.kept.now.history c.converse-ended.new.answerer.history (g.R.Source.left c.args.reader.now) (g.W.Sink.written c.args.writer.now) (g.W.Sink.written c.converse-ended.new.writer))
     (λ whole.
     kept_answers g.D.Device.seen g.D.Device.may_leave g.D.Device.moment g.D.Device.left_since g.D.Device.faults g.met.D.Device.only_now g.met.D.Device.counts_now
-    c.args.kept.now c.converse-ended.new.answerer c.converse-ended.ensures.talk.0 _ _ _ _ c.converse-ended.result c.version-version.ensures.form c.requires.ready c.converse-ended.ensures.none_rests c.converse-ended.ensures.end c.converse-ended.ensures.talk.1 c.converse-ended.ensures.talk.2 whole))
+    c.args.kept.now c.converse-ended.new.answerer c.converse-ended.ensures.talk.0 _ _ _ _ c.converse-ended.result c.known.ensures.form c.requires.ready c.converse-ended.ensures.none_rests c.converse-ended.ensures.end c.converse-ended.ensures.talk.1 c.converse-ended.ensures.talk.2 whole))
 
 pub returns-clause-handed_on : goal.returns-clause-handed_on
 returns-clause-handed_on g c =

@@ -1,5 +1,6 @@
 -- What is shown ends where the speeds and gradients do, and the line is too short for a place that is no number.
-use Rattle.std.proofs.Common.{◌≡◌, ◌-◌, true, ap, sym, subst, ◌∙◌, arith}
+use Rattle.std.proofs.Common.{◌≡◌, ℕ, ◌-◌, ◌*◌, ◌≤◌, true, ap, sym, subst, ◌∙◌, arith}
+use Rattle.rbc_model.specs.declared.limits.TheConstants.{LONGEST_TRACK, MOST_SECTIONS}
 use Rattle.rbc_model.specs.declared.places.Format.TheVariants.{Far}
 use Rattle.rbc_model.specs.Scales.{is_expressible}
 use Rattle.rbc_model.specs.Lines.{line_length}
@@ -34,8 +35,9 @@ unwrap-requires c =
     let ahead = c.requires.ahead in
     let end : is_expressible Far parts.speeds.end ≡ true = subst (λ n. is_expressible Far n ≡ true) (sym (fast ∙ ap (λ o. c.args.end - o) origin)) c.requires.expressible in
     let on = c.requires.on_line in
-    let metres : c.length-metres.result ≡ line_length c.args.found.now.track c.args.found.now.line = c.length-metres.ensures.length ∙ (λ j. line_length (c.line-line.ensures.track j) (c.line-line.ensures.legs j)) in
-    let few = c.length-metres.ensures.at_most in
+    let few =
+    subst (λ (metres : ℕ). metres ≤ MOST_SECTIONS * LONGEST_TRACK) (λ j. line_length (c.line-line.ensures.track j) (c.line-line.ensures.legs j))
+    c.known.ensures.at_most in
     some_by c.new.result (are_in_form parts) (view_of_parts parts) c.new.ensures
     (parts-in_form parts (steep ∙ sym fast) end (omega arith)
     c.speed_steps.ensures.at_least c.speed_steps.ensures.at_most c.grade_steps.ensures.at_least c.grade_steps.ensures.at_most)

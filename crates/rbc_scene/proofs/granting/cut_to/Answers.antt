@@ -7,7 +7,7 @@ use Rattle.rbc_scene.proofs.granting.cut_to.Goals as goal
 pub cut_back-requires : goal.cut_back-requires
 cut_back-requires c =
     let line = c.args.line in
-    let legs = c.legs-count.ensures.line in
+    let legs = c.known.ensures.line in
     let some = some_begun line.track line.legs c.args.to legs.some_leg c.requires.some in
     let count = c.legs_begun_before-kept.ensures.count in
     let same = ap length c.legs-count.ensures.legs in

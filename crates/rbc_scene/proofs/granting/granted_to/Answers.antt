@@ -28,7 +28,7 @@ returns-clause-granted c =
     ∙ (λ j. is_safe (of_track j) scene train (origin j + c.args.distance) && is_expressible_end (of_track j) train (origin j + c.args.distance)))
     c.if-not-may_end_at.false
     (c.in_ok-line.ensures.legs scene (subst (λ (t : Track). IsGoodLocks t c.args.locks.now) (sym of_track) c.requires.locks)
-    (subst (λ (legs : Line). BeginsWay c.args.train.now.track scene train legs) (sym (c.legs.ensures.legs ∙ c.line.ensures.legs))
+    (subst (λ (legs : Line). BeginsWay c.args.train.now.track scene train legs) (sym (c.legs.ensures.legs ∙ c.line-way.ensures.legs))
     (subst (λ (t : Track). BeginsWay t scene train c.in_ok-found.found.line) (sym of_track) c.in_ok-found.ensures.line))
     ∙ (λ j. line_to (of_track j) scene train (origin j + c.args.distance)))
     (c.min-from.ensures ∙ (λ j. min (c.from.ensures.from j) (c.front-4.ensures.front j)))

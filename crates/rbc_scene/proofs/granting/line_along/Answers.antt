@@ -12,7 +12,7 @@ returns-then-to-length-clause-legs c = λ scene locks begins.
     let metres : c.length.result ≡ line_length c.args.train.now.track c.args.train.now.train.line = c.length.ensures.length ∙ (λ j. line_length (known.track j) (known.legs j)) in
     let near = c.if-to-length.true in
     copied_as c.copy.result c.line-known.result.now _
-    (known.legs ∙ line_to-near c.args.train.now.track scene c.args.train.now.train c.args.to locks known.good (let h : c.args.to ≤ line_length c.args.train.now.track c.args.train.now.train.line = omega arith in h))
+    (known.legs ∙ line_to-near c.args.train.now.track scene c.args.train.now.train c.args.to locks c.known.ensures (let h : c.args.to ≤ line_length c.args.train.now.track c.args.train.now.train.line = omega arith in h))
     c.copy.ensures
 
 pub along-requires : goal.along-requires
@@ -28,5 +28,5 @@ returns-clause-legs c = λ scene locks begins.
     let legs = ap (λ (l : LineOnTrack). l.legs) made in
     c.cut_to.ensures.legs
     ∙ (λ j. take (legs_begun_before (of_track j) c.args.to (legs j)) (legs j))
-    ∙ line_to-far c.args.train.now.track scene c.args.train.now.train c.args.to locks known.good c.args.legs.now begins
+    ∙ line_to-far c.args.train.now.track scene c.args.train.now.train c.args.to locks c.known.ensures c.args.legs.now begins
     (let h : line_length c.args.train.now.track c.args.train.now.train.line < c.args.to = omega arith in h) c.requires.on_line

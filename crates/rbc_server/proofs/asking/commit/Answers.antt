@@ -11,11 +11,11 @@ unreachable-requires c =
 pub returns-in-Ok-clause-comes : goal.returns-in-Ok-clause-comes
 returns-in-Ok-clause-comes c =
     granted_comes c.args.history.now c.grant.new.self c.args.candidate.now c.in-Ok.receipt c.place.result c.told_of.result
-    c.in-Ok.ensures.entered c.place.ensures c.told_of.ensures.told c.told_of.ensures.best c.told_of.ensures.chosen c.version-version.ensures.form c.requires
+    c.in-Ok.ensures.entered c.place.ensures c.told_of.ensures.told c.told_of.ensures.best c.told_of.ensures.chosen c.known-2.ensures.form c.requires
 
 pub returns-in-Ok-clause-whole : goal.returns-in-Ok-clause-whole
 returns-in-Ok-clause-whole c =
-    let sound = subst IsSound (c.deref.ensures ∙ c.track.ensures) c.section_count-sections.ensures.sound in
+    let sound = subst IsSound (c.deref.ensures ∙ c.track.ensures) c.known.ensures.sound in
     told_whole c.args.history.now.track c.args.candidate.now (c.place.result + 1) c.told_of.result c.told_of.ensures.told c.told_of.ensures.best c.told_of.ensures.chosen
     (shown_named c.args.history.now c.args.candidate.now.view.train c.args.candidate.now.view sound c.requires)
 

@@ -30,12 +30,13 @@ returns-clause-told c =
 pub invariant_of-result : goal.invariant_of-result
 invariant_of-result c =
     let candidate = c.args.candidate.now in
-    let view = c.view-view.ensures in
+    let view = c.view-view.ensures.view in
+    let known = c.known.ensures in
     let authority = c.authority-authority.ensures.authority in
     record {
       told = c.message-message.ensures ∙ ap message_bytes (sym authority);
-      speeds_fit = speeds_fit candidate c.authority-authority.result.now view.best view.chosen authority c.speeds.result.now
-          (c.speeds.ensures.speeds ∙ ap (λ (v : View). record { steps = v.speeds; end = metres_shown v }) view.view);
-      grades_fit = grades_fit candidate c.authority-authority.result.now view.best view.chosen authority c.grades.result.now
-          (c.grades.ensures.grades ∙ ap (λ (v : View). record { steps = v.grades; end = metres_shown v }) view.view);
+      speeds_fit = speeds_fit candidate c.authority-authority.result.now known.best known.chosen authority c.speeds.result.now
+          (c.speeds.ensures.speeds ∙ ap (λ (v : View). record { steps = v.speeds; end = metres_shown v }) view);
+      grades_fit = grades_fit candidate c.authority-authority.result.now known.best known.chosen authority c.grades.result.now
+          (c.grades.ensures.grades ∙ ap (λ (v : View). record { steps = v.grades; end = metres_shown v }) view);
     }

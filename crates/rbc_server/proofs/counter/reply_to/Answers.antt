@@ -17,7 +17,7 @@ returns-in-Ok-clause-comes c =
     let is = subst (λ a. IsAnswered (history_on track entries) train a) c.in-Ok.is answered in
     subst (λ a. AnswersAsked track entries (grant_text track c.told_of.result) (entry_granted_in a) train) (sym c.in-Ok.is)
     (asked_granted track entries train c.in-Ok.granted is c.place-version.result c.told_of.result c.told_of.ensures.told c.told_of.ensures.best c.told_of.ensures.chosen
-    c.place-version.ensures c.section_count-sections.ensures.form)
+    c.place-version.ensures c.known.ensures.form)
 
 pub returns-in-Ok-clause-whole : goal.returns-in-Ok-clause-whole
 returns-in-Ok-clause-whole c =
@@ -25,7 +25,7 @@ returns-in-Ok-clause-whole c =
     λ entries answered.
     let is = subst (λ a. IsAnswered (history_on track entries) c.args.train a) c.in-Ok.is answered in
     asked_granted_whole track entries c.args.train c.in-Ok.granted is c.place-version.result c.told_of.result c.told_of.ensures.told c.told_of.ensures.best c.told_of.ensures.chosen
-    c.section_count-sections.ensures.sound
+    c.known.ensures.sound
 
 pub returns-in-Err-Refused-Blocked-clause-whole : goal.returns-in-Err-Refused-Blocked-clause-whole
 returns-in-Err-Refused-Blocked-clause-whole c =
@@ -33,5 +33,5 @@ returns-in-Err-Refused-Blocked-clause-whole c =
     let blocked = c.in-Err-Refused-Blocked in
     let told : c.args.answer.now ≡ Err (Refused (Blocked blocked.obstacle blocked.at blocked.version)) = search rules in
     λ entries answered.
-    asked_blocked_named track entries c.args.train blocked.obstacle blocked.at blocked.version c.section_count-sections.ensures.sound
+    asked_blocked_named track entries c.args.train blocked.obstacle blocked.at blocked.version c.known.ensures.sound
     (subst (λ a. IsAnswered (history_on track entries) c.args.train a) told answered)

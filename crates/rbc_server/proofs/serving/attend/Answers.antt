@@ -16,7 +16,7 @@ print_outcomes-requires-clause-tellable g c =
     let brought = c.bring_all-workers.result.items in
     let outcomes = c.in_ok-outcomes.outcomes.items in
     let told : All (IsToldToOne brought c.sweep-workers.result.0.items) outcomes = search rules in
-    let sound = subst IsSound c.requires.track c.section_count-sections.ensures.sound in
+    let sound = subst IsSound c.requires.track c.known.ensures.sound in
     let on = subst (All (λ (seat : Seated). seat.told.track ≡ track)) c.as_slice-2.ensures.value c.are_on_track.ensures in
     subst (λ track. All (IsTellable track) c.as_slice-3.result.now) (sym c.requires.track)
     (subst (All (IsTellable track)) (sym c.as_slice-3.ensures.value) (all_tellable track brought c.sweep-workers.result.0.items outcomes sound on told))

@@ -10,8 +10,8 @@ returns-clause-session g c = (c.converse.ensures.talk.0, c.converse.ensures.talk
 
 pub returns-clause-answers : goal.returns-clause-answers
 returns-clause-answers g c =
-    session_answers _ c.converse.new.answerer _ _ _ _ _ c.converse.ensures.talk.0 c.version-version.ensures.form c.converse.ensures.end c.converse.ensures.talk.1 (session_turns _ _ _ _ _ _ c.converse.ensures.talk.2)
+    session_answers _ c.converse.new.answerer _ _ _ _ _ c.converse.ensures.talk.0 c.known.ensures.form c.converse.ensures.end c.converse.ensures.talk.1 (session_turns _ _ _ _ _ _ c.converse.ensures.talk.2)
 
 pub returns-clause-retold : goal.returns-clause-retold
 returns-clause-retold g c =
-    session_retells _ c.converse.new.answerer _ _ _ c.converse.ensures.talk.0 (session_track _ _ _ _ _ _ c.converse.ensures.talk.2) c.version-version.ensures.form (session_turns _ _ _ _ _ _ c.converse.ensures.talk.2)
+    session_retells _ c.converse.new.answerer _ _ _ c.converse.ensures.talk.0 (session_track _ _ _ _ _ _ c.converse.ensures.talk.2) c.known.ensures.form (session_turns _ _ _ _ _ _ c.converse.ensures.talk.2)

@@ -12,6 +12,6 @@ returns-clause-session g c = (c.answer_lines.ensures.talk.0, c.answer_lines.ensu
 
 pub returns-clause-answers : goal.returns-clause-answers
 returns-clause-answers g c = λ input session.
-    let later = c.version-version.ensures.later in
+    let later = c.known-2.ensures in
     turns_are_answers c.args.seat.now.told _ session.turns
-    (subst IsInForm (c.requires.track ∙ sym later.track) c.section_count-sections.ensures.form) session.each
+    (subst IsInForm (c.requires.track ∙ sym later.track) c.known.ensures.form) session.each

@@ -16,7 +16,7 @@ returns-in-Some-clause-comes c =
 
 pub returns-in-Some-clause-whole : goal.returns-in-Some-clause-whole
 returns-in-Some-clause-whole c =
-    let sound = subst IsSound (c.deref.ensures ∙ c.track.ensures) c.section_count-sections.ensures.sound in
+    let sound = subst IsSound (c.deref.ensures ∙ c.track.ensures) c.known.ensures.sound in
     rw c.refusal_of.ensures (not_told_named c.args.history.now c.args.told.now (Refused c.in-Some.fault) sound c.requires c.in-Some.ensures.refused)
 
 pub returns-in-None-clause-comes : goal.returns-in-None-clause-comes

@@ -16,5 +16,5 @@ returns-in-Err-clause-comes c =
 
 pub returns-in-Err-clause-whole : goal.returns-in-Err-clause-whole
 returns-in-Err-clause-whole c =
-    let sound = subst IsSound (c.deref.ensures ∙ c.track.ensures) c.section_count-sections.ensures.sound in
+    let sound = subst IsSound (c.deref.ensures ∙ c.track.ensures) c.known.ensures.sound in
     rw c.refusal_of.ensures (not_told_named c.args.history.now c.args.told.now c.in-Err.fault sound c.requires c.in-Err.ensures.entered.0)

@@ -1,4 +1,4 @@
-use Rattle.std.proofs.Common.{◌≡◌, ℕ, suc, [], ◌∷◌, ◌++◌, ◌≤◌, ◌-◌, ◌+◌, ◌∙◌, ap, sym, subst, length, Bool, false, true, ◌||◌, Option, refl, arith}
+use Rattle.std.proofs.Common.{◌≡◌, ℕ, suc, [], ◌∷◌, ◌++◌, ◌≤◌, ◌-◌, ◌+◌, ◌*◌, ◌∙◌, ap, sym, subst, length, Bool, false, true, ◌||◌, Option, refl, arith}
 use Rattle.std.specs.Prelude.{◌==◌}
 use Rattle.rbc_model.specs.declared.places.Leg.{Leg}
 use Rattle.rbc_model.specs.Lines.{Line}
@@ -10,6 +10,7 @@ use Rattle.rbc_model.specs.Locks.{lengthened_fully, longer_ahead}
 use Rattle.rbc_book.specs.OnTracks.{LineOnTrack}
 use Rattle.rbc_reach_laws.specs.Nearest.{walk_on}
 use Rattle.rbc_model.specs.Tracks.{Track, metres_of}
+use Rattle.rbc_model.specs.declared.limits.TheConstants.{LONGEST_TRACK, MOST_SECTIONS}
 use Rattle.rbc_model.specs.Lines.{line_length, has_section}
 use Rattle.rbc_model.specs.SoundTracks.{IsSound}
 use Rattle.rbc_scene_laws.specs.Good.{IsGoodLocks}
@@ -21,7 +22,7 @@ pub returns-in-None-clause-stop : goal.returns-in-None-clause-stop
 returns-in-None-clause-stop c = λ trains table.
     let t = c.args.train.now.track in
     let line = c.loop-added.line.legs in
-    let count : c.sections_of-count.result ≡ length t.sections = c.sections_of-count.ensures.count ∙ ap (λ (x : Track). length x.sections) c.requires.track in
+    let count : c.section_count-count.result ≡ length t.sections = c.section_count-count.ensures ∙ ap (λ (x : Track). length x.sections) c.requires.track in
     let test = c.loop-added-test.true in
     ends_no_link t (scene_of c.args.locks.now trains) c.args.train.now.train (length t.sections) c.loop-added._added line _ c.last.result c.end_stop.result.place c.end_stop.result.obstacle
     (c.loop-added.invariant.walked trains table) (omega arith) c.last.ensures.leg (sym c.in-None.ensures)
@@ -30,7 +31,7 @@ returns-in-None-clause-stop c = λ trains table.
 pub has-requires : goal.has-requires
 has-requires c =
     let t = c.args.train.now.track in
-    let sound : IsSound t = subst IsSound c.requires.track c.sections_of-count.ensures.sound in
+    let sound : IsSound t = subst IsSound c.requires.track c.known.ensures.sound in
     let low = next_below t c.args.locks.now c.requires.locks c.last.result c.in-Some.leg sound (sym c.in-Some.ensures) in
     let size = c.loop-added.invariant.size in
     omega arith
@@ -39,7 +40,7 @@ pub returns-then-has-clause-stop : goal.returns-then-has-clause-stop
 returns-then-has-clause-stop c = λ trains table.
     let t = c.args.train.now.track in
     let line = c.loop-added.line.legs in
-    let count : c.sections_of-count.result ≡ length t.sections = c.sections_of-count.ensures.count ∙ ap (λ (x : Track). length x.sections) c.requires.track in
+    let count : c.section_count-count.result ≡ length t.sections = c.section_count-count.ensures ∙ ap (λ (x : Track). length x.sections) c.requires.track in
     let test = c.loop-added-test.true in
     ends_own t (scene_of c.args.locks.now trains) c.args.train.now.train (length t.sections) c.loop-added._added line _ c.last.result c.in-Some.leg c.end_stop-then-has.result.place c.end_stop-then-has.result.obstacle
     (c.loop-added.invariant.walked trains table) (omega arith) c.last.ensures.leg (sym c.in-Some.ensures)
@@ -54,7 +55,7 @@ extend-requires-clause-linked c =
 pub insert-requires : goal.insert-requires
 insert-requires c =
     let t = c.args.train.now.track in
-    let sound : IsSound t = subst IsSound c.requires.track c.sections_of-count.ensures.sound in
+    let sound : IsSound t = subst IsSound c.requires.track c.known.ensures.sound in
     let low = next_below t c.args.locks.now c.requires.locks c.last.result c.in-Some.leg sound (sym c.in-Some.ensures) in
     let size = c.loop-added.invariant.size in
     omega arith
@@ -63,7 +64,7 @@ pub returns-clause-stop : goal.returns-clause-stop
 returns-clause-stop c = λ trains table.
     let t = c.args.train.now.track in
     let line = c.loop-added.line.legs in
-    let count : c.sections_of-count.result ≡ length t.sections = c.sections_of-count.ensures.count ∙ ap (λ (x : Track). length x.sections) c.requires.track in
+    let count : c.section_count-count.result ≡ length t.sections = c.section_count-count.ensures ∙ ap (λ (x : Track). length x.sections) c.requires.track in
     let test = c.loop-added-test.false in
     ends_out t (scene_of c.args.locks.now trains) c.args.train.now.train (length t.sections) c.loop-added._added line _ c.last-last.result c.end_stop-2.result.place c.end_stop-2.result.obstacle
     (c.loop-added.invariant.walked trains table) (omega arith) c.last-last.ensures.leg
@@ -73,7 +74,7 @@ pub returns-in-Some-stop_on-clause-stop : goal.returns-in-Some-stop_on-clause-st
 returns-in-Some-stop_on-clause-stop c = λ trains table.
     let t = c.args.train.now.track in
     let line = c.loop-added.line.legs in
-    let count : c.sections_of-count.result ≡ length t.sections = c.sections_of-count.ensures.count ∙ ap (λ (x : Track). length x.sections) c.requires.track in
+    let count : c.section_count-count.result ≡ length t.sections = c.section_count-count.ensures ∙ ap (λ (x : Track). length x.sections) c.requires.track in
     let test = c.loop-added-test.true in
     let leg = c.in-Some.leg in
     goes_on t (scene_of c.args.locks.now trains) c.args.train.now.train (length t.sections) c.loop-added._added line _ c.last.result leg c.length.result
@@ -86,7 +87,7 @@ pub returns-in-Some-stop_on-clause-begins : goal.returns-in-Some-stop_on-clause-
 returns-in-Some-stop_on-clause-begins c =
     let t = c.args.train.now.track in
     let line = c.loop-added.line.legs in
-    let count : c.sections_of-count.result ≡ length t.sections = c.sections_of-count.ensures.count ∙ ap (λ (x : Track). length x.sections) c.requires.track in
+    let count : c.section_count-count.result ≡ length t.sections = c.section_count-count.ensures ∙ ap (λ (x : Track). length x.sections) c.requires.track in
     let test = c.loop-added-test.true in
     let leg = c.in-Some.leg in
     let n = length t.sections - (c.loop-added._added + 1) in
@@ -113,7 +114,7 @@ pub loop-added-preserved : goal.loop-added-preserved
 loop-added-preserved c =
     let t = c.args.train.now.track in
     let line = c.loop-added.line.legs in
-    let count : c.sections_of-count.result ≡ length t.sections = c.sections_of-count.ensures.count ∙ ap (λ (x : Track). length x.sections) c.requires.track in
+    let count : c.section_count-count.result ≡ length t.sections = c.section_count-count.ensures ∙ ap (λ (x : Track). length x.sections) c.requires.track in
     let test = c.loop-added-test.true in
     let leg = c.in-Some.leg in
     let n = length t.sections - (c.loop-added._added + 1) in
@@ -151,9 +152,9 @@ stop_on-requires-clause-fits c =
     let line = c.loop-added.line.legs in
     let leg = c.in-Some.leg in
     let begin = c.length.ensures.length ∙ ap (λ (x : Track). line_length x line) c.loop-added.invariant.track in
-    let end = c.length-longer.ensures.length ∙ ap (λ (x : LineOnTrack). line_length x.track x.legs) c.in_ok-extend.ensures in
-    let longer = longer_by t c.loop-added.line.track line leg c.length.result c.length-longer.result c.loop-added.invariant.track begin end in
-    let most = c.length-longer.ensures.at_most in
+    let end = ap (λ (x : LineOnTrack). line_length x.track x.legs) c.in_ok-extend.ensures in
+    let longer = longer_by t c.loop-added.line.track line leg c.length.result _ c.loop-added.invariant.track begin end in
+    let most = subst (λ (end : ℕ). end ≤ MOST_SECTIONS * LONGEST_TRACK) longer c.known-in-loop-added.ensures.at_most in
     omega arith
 
 pub returns-in-Some-stop_on-clause-on_line : goal.returns-in-Some-stop_on-clause-on_line
@@ -163,8 +164,8 @@ returns-in-Some-stop_on-clause-on_line c =
     let leg = c.in-Some.leg in
     let place = c.in-Some-stop_on.found.place in
     let begin = c.length.ensures.length ∙ ap (λ (x : Track). line_length x line) c.loop-added.invariant.track in
-    let end = c.length-longer.ensures.length ∙ ap (λ (x : LineOnTrack). line_length x.track x.legs) c.in_ok-extend.ensures in
-    let longer = longer_by t c.loop-added.line.track line leg c.length.result c.length-longer.result c.loop-added.invariant.track begin end in
+    let end = ap (λ (x : LineOnTrack). line_length x.track x.legs) c.in_ok-extend.ensures in
+    let longer = longer_by t c.loop-added.line.track line leg c.length.result _ c.loop-added.invariant.track begin end in
     let below = c.in-Some-stop_on.ensures.on_leg in
-    let there : place ≤ c.length-longer.result = omega arith in
-    subst (λ (end : ℕ). place ≤ end) c.length-longer.ensures.length there
+    let there : place ≤ c.length.result + metres_of t leg.section = omega arith in
+    subst (λ (end : ℕ). place ≤ end) (sym longer) there

@@ -37,7 +37,7 @@ returns c = λ locks.
     let ended : c.loop-other.other-iterator ≡ [] = grind (arith, common_steps) in
     record {
       as_many = c.loop-other.invariant.size;
-      good = All-filter _ (IsGoodTrain track) c.args.book.now.trains c.track.ensures.good.trains;
+      good = All-filter _ (IsGoodTrain track) c.args.book.now.trains c.known.ensures.trains;
       stretches = λ section.
           sym (append-nil (stretches_at c.loop-other.table.items section))
           ∙ ap (λ (l : List TrainOnTrack). stretches_at c.loop-other.table.items section ++ stretches_of track (others (scene_of [] (map (λ (t : TrainOnTrack). t.train) l)) c.args.train.now.train) section) (sym ended)

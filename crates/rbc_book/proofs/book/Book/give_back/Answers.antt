@@ -50,7 +50,7 @@ put : (c : After-self-1)
     → AreThoseOf (arc_value c.self.inside.track) (book_with c.args.self.now (cut_at c.args.self.now.track c.unwrap-train.result.now.train c.args.to)) (c.get_mut.follows.lender c.cut_at.new.self).entries
 put c =
     cut (arc_value c.self.inside.track) c.args.self.now c.self.inside.trains.entries c.self.view_is c.self.invariant (c.get_mut.follows.lender c.cut_at.new.self).entries c.args.number
-    c.unwrap-train.result.now c.cut_at.new.self c.args.to (was c) (shortens c) c.cut_at.ensures.train c.line-line.ensures.good c.cut_at.ensures.track (c.get_mut.follows.holds c.cut_at.new.self).0
+    c.unwrap-train.result.now c.cut_at.new.self c.args.to (was c) (shortens c) c.cut_at.ensures.train c.known.ensures c.cut_at.ensures.track (c.get_mut.follows.holds c.cut_at.new.self).0
 
 pub invariant_of-self : goal.invariant_of-self
 invariant_of-self c = let p = put c in p.are

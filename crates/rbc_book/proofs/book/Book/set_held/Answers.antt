@@ -42,7 +42,7 @@ was c =
 put : (c : Joined-this) → AreThoseOf (arc_value c.self.inside.track) (book_with c.args.self.now (with_authority c.unwrap.result.now.train c.args.line.legs c.args.from c.args.to)) c.insert.new.self.entries
 put c =
     held (arc_value c.self.inside.track) c.args.self.now c.self.inside.trains.entries c.self.view_is c.self.invariant c.insert.new.self.entries c.args.number c.unwrap.result.now c.with_authority-held.result
-    c.args.line c.args.from c.args.to (was c) c.with_authority-held.ensures.train c.line-line.ensures.good c.with_authority-held.ensures.track c.requires.apart c.in-Ok.ensures.entries
+    c.args.line c.args.from c.args.to (was c) c.with_authority-held.ensures.train c.known.ensures c.with_authority-held.ensures.track c.requires.apart c.in-Ok.ensures.entries
 
 pub invariant_of-self : goal.invariant_of-self
 invariant_of-self c = let p = put c in p.are

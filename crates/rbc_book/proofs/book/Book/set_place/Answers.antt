@@ -15,7 +15,7 @@ on_err (Err e) p = p
 put : (c : Joined-branch-2) → AreThoseOf (arc_value c.self.inside.track) (book_with c.args.self.now c.args.train.train) c.insert.new.self.entries
 put c =
     placed (arc_value c.self.inside.track) c.args.self.now c.self.inside.trains.entries c.self.view_is c.self.invariant c.insert.new.self.entries c.number.result c.args.train c.number.ensures c.requires.track
-    c.line-line.ensures.good c.requires.apart c.in_ok-insert.ensures.entries
+    c.known.ensures c.requires.apart c.in_ok-insert.ensures.entries
 
 pub returns-in_err-insert-clause-new : goal.returns-in_err-insert-clause-new
 returns-in_err-insert-clause-new c =

@@ -10,7 +10,7 @@ use Rattle.rbc_desk.proofs.desk.Desk.new.Goals as goal
 pub seats_with-requires-clause-told : goal.seats_with-requires-clause-told
 seats_with-requires-clause-told g c =
     let P : HistoryOnTrack → Type 0 = λ eye. IsLater g.L.DeskName.opened eye in
-    let here : P c.args.log = subst (λ h. IsLater h c.args.log) c.requires.opened (later_itself c.args.log c.version-start.ensures.legal) in
+    let here : P c.args.log = subst (λ h. IsLater h c.args.log) c.requires.opened (later_itself c.args.log c.known.ensures.legal) in
     subst (All P) (sym c.in_ok-press.ensures.eyes) (All-replicate P c.args.seats c.args.log here)
 
 pub returns : goal.returns

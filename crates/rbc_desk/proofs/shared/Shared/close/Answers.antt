@@ -23,7 +23,7 @@ returns-in-Some-clause-unmatched g c =
     let receipts = all_receipts c.args.seats.items in
     let parts : c.merge_all.new.all.parts ≡ g.L.Ledger.parts = omega (arith, c.args.seats.ok.0, c.merge_all.ensures.parts, c.merge_all.ensures.most, c.requires) in
     let many : length receipts + start ≡ length log.entries = omega (arith, c.audit.ensures.whole parts, c.merge_all.ensures.amount, c.args.self.counted) in (
-      goes_on log g.L.DeskName.opened start receipts c.args.self.track c.args.self.base c.args.self.starts c.version-version.ensures.legal many,
+      goes_on log g.L.DeskName.opened start receipts c.args.self.track c.args.self.base c.args.self.starts c.known.ensures.legal many,
       subst (λ begun. IsFirstMisplaced log.entries begun [] receipts c.in-Some.receipt) c.args.self.starts
           (subst (λ seats. IsFirstMisplaced log.entries start [] (all_receipts seats) c.in-Some.receipt) c.as_slice.ensures.value c.in-Some.ensures),
     )

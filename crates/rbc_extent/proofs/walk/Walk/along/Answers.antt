@@ -11,7 +11,7 @@ invariant_of-result c =
     let P : Track → Line → Type 0 = λ t l. IsWalk t c.args.locks.now (take (length l - 1) l) c.last.result 0 0 c.first.result c.last-2.result c.length.result in
     subst (λ (t : Track). P t c.legs-legs.result.now) (sym track)
     (subst (P c.args.line.now.track) (sym c.legs-legs.ensures.legs)
-    (walk-along c.args.line.now.track c.args.locks.now c.args.line.now.legs c.first.result c.last.result c.last-2.result c.length.result c.track.ensures.form c.track.ensures.sound c.requires c.legs-legs.ensures.line c.first.ensures.leg c.last.ensures.leg c.last-2.ensures.leg c.length.ensures.length))
+    (walk-along c.args.line.now.track c.args.locks.now c.args.line.now.legs c.first.result c.last.result c.last-2.result c.length.result c.known.ensures.form c.known.ensures.sound c.requires c.known.ensures.line c.first.ensures.leg c.last.ensures.leg c.last-2.ensures.leg c.length.ensures.length))
 
 pub returns : goal.returns
 returns c =

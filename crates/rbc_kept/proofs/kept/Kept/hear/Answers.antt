@@ -48,7 +48,7 @@ returns-clause-text g c =
           treated_by first.history made.history after line c.as_slice.result.now (request_view c.args.request.now) (Ok (Event c.args.told.now)) c.tell-reply.result room.history read
           (ap parse_session c.as_slice.ensures.value ∙ c.in-Ok.ensures.says) c.requires.demand comes in
           let told =
-          told_after g.D.Device.seen first made now line c.as_slice.result.now (reply_text after.track c.tell-reply.result) c.version-before.result after c.version-before.ensures.form c.version-before.ensures.count
+          told_after g.D.Device.seen first made now line c.as_slice.result.now (reply_text after.track c.tell-reply.result) c.version-before.result after c.known.ensures.form c.version-before.ensures.count
           treated c.requires.going.told kept.history device room.staged kept.staged in
           advances g.D.Device.seen g.D.Device.may_leave g.D.Device.moment g.D.Device.left_since g.D.Device.faults first now c.say-2.new.self line reply done.0 c.requires.going
           (said_goes first.history after now.history line c.tell-reply.result kept.history treated.goes) told device

@@ -8,6 +8,6 @@ use Rattle.rbc_line.proofs.line.Line.along.Goals as goal
 pub length_of-length-requires-clause-fits : goal.length_of-length-requires-clause-fits
 length_of-length-requires-clause-fits c =
     let track = arc_value c.args.track.now in
-    let of_track = c.section_count-sections.ensures in
+    let of_track = c.known.ensures in
     let small = line_length-small track c.args.legs.now (subst IsSound c.deref.ensures of_track.sound) (subst IsInForm c.deref.ensures of_track.form) c.requires in
     rw c.deref-2.ensures (omega (arith, small))

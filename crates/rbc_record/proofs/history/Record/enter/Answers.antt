@@ -1,10 +1,10 @@
-use Rattle.std.proofs.Common.{[], ◌∷◌, ◌++◌, map, ap, refl, ◌∙◌}
+use Rattle.std.proofs.Common.{[], ◌∷◌, ◌++◌, map, ap, ◌∙◌}
 use Rattle.rbc_model.specs.Messages.{Authority}
 use Rattle.rbc_model.specs.Views.{View}
 use Rattle.rbc_record.specs.declared.entry.Entry.TheVariants.{Granted}
 use Rattle.rbc_record.specs.Entries.{entry_of}
 use Rattle.rbc_record.specs.Records.{IsKept}
-use Rattle.rbc_record.proofs.KeepingLemmas.{accepted, best_of_kept, best_of_same, kept_after_granted, leading}
+use Rattle.rbc_record.proofs.KeepingLemmas.{accepted, kept_after_granted, leading}
 use Rattle.rbc_record.proofs.history.Record.enter.Goals as goal
 use Rattle.rbc_record.proofs.history.Record.enter.Goals.{After-append}
 
@@ -12,7 +12,7 @@ use Rattle.rbc_record.proofs.history.Record.enter.Goals.{After-append}
 kept : (c : After-append) → IsKept c.grant_along.new.self (map entry_of c.append.new.entries.items)
 kept c =
     kept_after_granted c.self.inside.scene c.grant_along.new.self c.self.inside.entries.items c.append.new.entries.items c.args.self.now c.self.view_is c.self.invariant
-    c.requires.room c.in_ok-grant_along.ensures.granted.1 c.args.candidate.now.view c.args.candidate.now.grant c.authority.ensures.best
+    c.requires.room c.in_ok-grant_along.ensures.granted.1 c.args.candidate.now.view c.args.candidate.now.grant c.known.ensures.best
     c.requires.shown
     c.train.result c.end-end.result c.train.ensures (c.end-end.ensures.end ∙ ap (λ (a : Authority). a.end) c.authority.ensures.authority)
     (c.append.ensures.items ∙ (λ i. c.reserve.ensures.items i ++ Granted (c.in_ok-filed.ensures i) ∷ [])) c.in_ok-grant_along.ensures.granted.0
@@ -20,28 +20,13 @@ kept c =
 pub invariant_of-self-2 : goal.invariant_of-self-2
 invariant_of-self-2 c = kept c
 
-pub returns-clause-best : goal.returns-clause-best
-returns-clause-best c = best_of_kept c.grant_along.new.self (map entry_of c.append.new.entries.items) (kept c)
-
 pub grant_along-requires-clause-accepted : goal.grant_along-requires-clause-accepted
 grant_along-requires-clause-accepted c =
     accepted c.self.inside.scene (map entry_of c.self.inside.entries.items) c.args.self.now c.self.view_is c.self.invariant c.args.candidate.now.view c.args.candidate.now.grant
-    c.authority.ensures.best c.requires.shown c.train.result c.end-end.result c.train.ensures (c.end-end.ensures.end ∙ ap (λ (a : Authority). a.end) c.authority.ensures.authority)
+    c.known.ensures.best c.requires.shown c.train.result c.end-end.result c.train.ensures (c.end-end.ensures.end ∙ ap (λ (a : Authority). a.end) c.authority.ensures.authority)
 
 pub grant_along-requires-clause-along : goal.grant_along-requires-clause-along
 grant_along-requires-clause-along c =
     leading c.self.inside.scene (map entry_of c.self.inside.entries.items) c.args.self.now c.self.view_is c.self.invariant c.args.candidate.now.view c.args.candidate.now.grant
-    c.authority.ensures.best c.requires.shown c.train.result c.end-end.result c.train.ensures (c.end-end.ensures.end ∙ ap (λ (a : Authority). a.end) c.authority.ensures.authority)
+    c.known.ensures.best c.requires.shown c.train.result c.end-end.result c.train.ensures (c.end-end.ensures.end ∙ ap (λ (a : Authority). a.end) c.authority.ensures.authority)
     c.legs-legs.result.now (c.legs-legs.ensures ∙ ap (λ (v : View). v.line) c.view.ensures.view)
-
-pub returns-in_err-reserve-clause-best : goal.returns-in_err-reserve-clause-best
-returns-in_err-reserve-clause-best c =
-    best_of_same c.self.inside.scene c.self.inside.scene c.self.inside.entries.items c.reserve.new.self.items c.self.invariant refl c.reserve.ensures.items
-
-pub returns-in_err-filed-clause-best : goal.returns-in_err-filed-clause-best
-returns-in_err-filed-clause-best c =
-    best_of_same c.self.inside.scene c.self.inside.scene c.self.inside.entries.items c.reserve.new.self.items c.self.invariant refl c.reserve.ensures.items
-
-pub returns-in_err-grant_along-clause-best : goal.returns-in_err-grant_along-clause-best
-returns-in_err-grant_along-clause-best c =
-    best_of_same c.self.inside.scene c.grant_along.new.self c.self.inside.entries.items c.reserve.new.self.items c.self.invariant c.in_err-grant_along.ensures.refused c.reserve.ensures.items

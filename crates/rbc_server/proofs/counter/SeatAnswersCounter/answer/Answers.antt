@@ -13,7 +13,7 @@ returns-in-Ok-Event-clause-reply g c =
     let after = c.tell-reply.new.seat in
     let track = c.args.counter.now.track.now in
     let on = c.args.counter.now.of_desk in
-    let later = c.version-version.ensures.later in
+    let later = c.known.ensures in
     let asked = Event c.in-Ok-Event.told in
     let comes = subst (λ t. SeatComes (Ok asked) before (reply_text t c.tell-reply.result) after) (sym on) c.tell-reply.ensures.comes in (
       reply_text track c.tell-reply.result,
@@ -25,7 +25,7 @@ returns-in-Ok-Event-clause-reply g c =
 pub returns-in-Ok-Authority-clause-reply : goal.returns-in-Ok-Authority-clause-reply
 returns-in-Ok-Authority-clause-reply g c =
     let track = c.args.counter.now.track.now in
-    let later = c.version-version.ensures.later in
+    let later = c.known.ensures in
     let asked = Authority c.in-Ok-Authority.train in (
       c.ask.ensures.0,
       seat_line_comes c.args.self.now c.ask.new.seat c.args.line.now c.ask.ensures.0 (Ok asked) track (c.args.counter.now.of_desk ∙ sym later.track)
@@ -36,7 +36,7 @@ returns-in-Ok-Authority-clause-reply g c =
 pub returns-in-Err-clause-reply : goal.returns-in-Err-clause-reply
 returns-in-Err-clause-reply g c =
     let track = c.args.counter.now.track.now in
-    let later = c.version-version.ensures.later in (
+    let later = c.known.ensures in (
       refused_reply track (refusal_view c.in-Err.refusal),
       seat_refused c.args.self.now c.args.line.now (refusal_view c.in-Err.refusal) track (c.args.counter.now.of_desk ∙ sym later.track) c.in-Err.ensures.demand,
       record { text = c.print-in-Err.ensures.text; failed = c.print-in-Err.ensures.failed },

@@ -9,9 +9,9 @@ use Rattle.rbc_snap.proofs.eye.Eye.hear.Goals as goal
 pub returns-then-is_behind-clause-heard : goal.returns-then-is_behind-clause-heard
 returns-then-is_behind-clause-heard g c =
     let told = c.other.inside.told.history in
-    let itself = subst (λ (s : SeenOf). IsLater told s.history) (sym c.again.ensures) (later_itself told c.version-longer.ensures.legal) in
+    let itself = subst (λ (s : SeenOf). IsLater told s.history) (sym c.again.ensures) (later_itself told c.known-then-is_behind.ensures) in
     subst (λ (h : HistoryOnTrack). IsLater h c.again.result.history) c.other.view_is itself
 
 pub returns-else-is_behind-clause-later : goal.returns-else-is_behind-clause-later
 returns-else-is_behind-clause-later g c =
-    later_itself c.args.self.now (subst (λ (h : HistoryOnTrack). IsLegal h.track h.entries) c.self.view_is c.version-legal.ensures.legal)
+    later_itself c.args.self.now (subst (λ (h : HistoryOnTrack). IsLegal h.track h.entries) c.self.view_is c.known.ensures)

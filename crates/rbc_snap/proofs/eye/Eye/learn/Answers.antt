@@ -6,4 +6,4 @@ use Rattle.rbc_snap.proofs.eye.Eye.learn.Goals as goal
 
 pub returns-else-not-is_behind-clause-later : goal.returns-else-not-is_behind-clause-later
 returns-else-not-is_behind-clause-later g c =
-    later_itself c.args.self.now (subst (λ (h : HistoryOnTrack). IsLegal h.track h.entries) c.self.view_is c.version-legal.ensures.legal)
+    later_itself c.args.self.now (subst (λ (h : HistoryOnTrack). IsLegal h.track h.entries) c.self.view_is c.known.ensures)
