@@ -98,7 +98,7 @@ pub fn line_of<L: DeskName>(
     ensures { result ≡ receipt.now.place }
 {
     // A place is below the version, and a record has few entries.
-    let _version = seat.version();
+    seat.known();
     let RequestLine { bytes } = text;
     Line::new(SeatTold::of(seat), receipt.place(), bytes)
 }
