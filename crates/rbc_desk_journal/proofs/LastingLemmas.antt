@@ -1,14 +1,13 @@
 -- Lemmas on what a crash leaves since a stamp.
-use Rattle.std.proofs.Common.{◌≡◌, ℕ, zero, suc, ◌<◌, ◌≤◌, ◌+◌, List, [], ◌∷◌, ◌++◌, length, subst, arith, Some}
+use Rattle.std.proofs.Common.{◌≡◌, ℕ, zero, suc, ◌+◌, List, [], ◌∷◌, ◌++◌, subst, arith, Some}
 use Rattle.std.specs.Prelude.{slice_get}
 use mathlib.Core.List.{IsPrefix}
 use Rattle.rbc_kept.specs.Later.{IsLater}
 use Rattle.rbc_kept.specs.Records.{HistoryOnTrack}
 use Rattle.rbc_scribe.specs.Marks.{HasLine}
 use Rattle.rbc_scribe.specs.Stamps.{EachLasts}
-use Rattle.rbc_scribe.specs.Told.{HasLines}
 use Rattle.rbc_scribe.specs.declared.stamp.Stamp.{Stamp}
-use Rattle.rbc_desk_journal.specs.Entries.{TellsEntry, TellsFirst}
+use Rattle.rbc_desk_journal.specs.Entries.{TellsEntry}
 use Rattle.rbc_desk_journal.specs.Lasting.{EachLeavesFirst, LinesLast}
 use Rattle.rbc_desk_journal.proofs.LaterLemmas.{none_is_some, tells_later, tells_first}
 
