@@ -10,7 +10,6 @@ ghost use Rattle.rbc_scene.specs.Reaches.{scene_of};
 ghost use Rattle.rbc_show.specs.Strips.{bar_over, bars_along, bars_on};
 ghost use Rattle.rbc_show.specs.Held.{pair_of};
 
-use crate::parts::metres_of;
 use rbc_model::{Leg, Memory};
 use rbc_scene::{Book, Line, Train};
 use rbc_track::Track;
@@ -61,7 +60,7 @@ fn leg_span(track: &Track, legs: &[Leg], leg: &Leg, from: u32, to: u32) -> Span
 {
     let mut begin = 0;
     for own in legs {
-        let metres = metres_of(track, own);
+        let metres = track.metres_of(own);
         if own.section == leg.section {
             return span_met(own.direction == leg.direction, metres, begin, from, to);
         }
@@ -76,7 +75,7 @@ fn extent_span(train: &Train, leg: &Leg) -> Span
     ensures on_leg { result.high ≤ metres_of train.now.track leg.now.section }
 {
     let line = train.line();
-    let _metres = line.length();
+    line.known();
     leg_span(line.track(), line.legs(), leg, train.rear(), train.front())
 }
 
@@ -86,7 +85,7 @@ fn authority_span(train: &Train, leg: &Leg) -> Span
     ensures on_leg { result.high ≤ metres_of train.now.track leg.now.section }
 {
     let line = train.line();
-    let _metres = line.length();
+    line.known();
     leg_span(line.track(), line.legs(), leg, train.from(), train.to())
 }
 
@@ -132,11 +131,11 @@ fn push_along(bars: &mut Vec<Bar>, other: &Train, way: &Line) -> Result<(), Memo
 {
     let track = way.track();
     let legs = way.legs();
-    let _metres = way.length();
+    way.known();
     let mut begin = 0;
     for leg in legs {
         push_on(bars, other, begin, leg)?;
-        begin += metres_of(track, leg);
+        begin += track.metres_of(leg);
     }
     Ok(())
 }

@@ -1,7 +1,6 @@
 //! The legs of a train's way, as its strip has them.
 
 ghost use Rattle.std.specs.Prelude.{◌≡◌, ◌≤◌, ◌<◌, ◌+◌, ◌^◌, length, IfOk, None};
-ghost use Rattle.rbc_model.specs.declared.limits.TheConstants.{LONGEST_TRACK};
 ghost use Rattle.rbc_model.specs.Obstacles.{is_locked};
 ghost use Rattle.rbc_model.specs.Tracks.{metres_of};
 ghost use Rattle.rbc_show.specs.Strips.{first_height, next_height, part_of, parts_along};
@@ -31,15 +30,6 @@ pub struct Part {
     pub locked: bool,
 }
 
-/// How many metres the leg has: 1 to 100,000.
-pub(crate) fn metres_of(track: &Track, leg: &Leg) -> u32
-    requires { leg.now.section < length track.now.sections }
-    ensures metres { result ≡ metres_of track.now leg.now.section }
-    ensures at_most { result ≤ LONGEST_TRACK }
-{
-    track.section_at(leg.section).length()
-}
-
 /// Whether the leg is locked in its direction, and behind the leg before if there is one.
 fn is_locked(locks: &Locks, before: Option<Leg>, leg: &Leg) -> bool
     ensures { result ≡ is_locked locks.now before leg.now }
@@ -65,7 +55,7 @@ fn part_of(
     requires fits { begin + metres_of track.now leg.now.section < 2 ^ 32 }
     ensures { result ≡ part_of track.now locks.now before height begin leg.now }
 {
-    let metres = metres_of(track, leg);
+    let metres = track.metres_of(leg);
     Part {
         leg: *leg,
         height,
@@ -97,7 +87,7 @@ pub(crate) fn parts_of(alloc: Global, locks: &Locks, way: &Line) -> Result<Vec<P
 {
     let track = way.track();
     let legs = way.legs();
-    let _metres = way.length();
+    way.known();
     let mut parts = Vec::new(alloc);
     let mut before = None;
     let mut height = FIRST_HEIGHT;
@@ -106,7 +96,7 @@ pub(crate) fn parts_of(alloc: Global, locks: &Locks, way: &Line) -> Result<Vec<P
         parts.push(part_of(track, locks, before, height, begin, leg))?;
         before = Some(*leg);
         height = next_height(height);
-        begin += metres_of(track, leg);
+        begin += track.metres_of(leg);
     }
     Ok(parts)
 }

@@ -92,6 +92,7 @@ fn strips_in(alloc: Global, locks: &Locks, book: &Book) -> Result<Vec<Strip>, Me
 pub(crate) fn strips_of(alloc: Global, scene: &Scene) -> Result<Vec<Strip>, Memory>
     ensures { IfOk result (λ strips. map strip_view strips.items ≡ strips_of scene.now.track scene.now.scene) }
 {
+    scene.known();
     let strips = strips_in(alloc, scene.locks(), scene.book())?;
     Ok(strips)
 }
