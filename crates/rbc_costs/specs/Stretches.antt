@@ -1,6 +1,7 @@
 -- The stretches of a track, each with its least value, and what the floor of a value loses.
 use Rattle.std.specs.Prelude.{◌≡◌, ℕ, ◌+◌, ◌*◌, ◌≤◌, List, Some, length, slice_get}
 use Rattle.rbc_model.specs.Levels.{Levels}
+use Rattle.rbc_model.specs.declared.limits.TheConstants.{MOST_PRICE}
 use Rattle.rbc_model.specs.Profiles.{StepFunction}
 use Rattle.rbc_table_laws.specs.Breaks.{IsLowest, lost_below}
 use Rattle.rbc_table_laws.specs.Stretches.{AreBreaksFor, breaks_for}
@@ -19,4 +20,4 @@ module _ {V : Type 0} (levels : Levels V) (track : StepFunction V) where
   -- The price is what the floor of a value loses from one metre up to another.
   pub record IsLostByFloor (from to : ℕ) (value : V) (price : ℕ) : Type 0 where
     pub lost : lost_below levels track (levels.floor value) from + price ≡ lost_below levels track (levels.floor value) to
-    pub bound : from * 1000000 + price ≤ to * 1000000
+    pub bound : from * MOST_PRICE + price ≤ to * MOST_PRICE

@@ -1,6 +1,7 @@
 //! What one step costs from a break up to another.
 ghost use Rattle.std.specs.Prelude.{◌≡◌, ℕ, ◌+◌, ◌-◌, ◌*◌, ◌<◌, ◌≤◌, map, length, slice_index};
 ghost use Rattle.rbc_model.specs.Scales.{unit_of};
+ghost use Rattle.rbc_model.specs.declared.limits.TheConstants.{MOST_PRICE};
 ghost use Rattle.rbc_table_laws.specs.Breaks.{IsLowest};
 ghost use Rattle.rbc_table_laws.specs.Stretches.{breaks_for, cost_of_step};
 ghost use Rattle.rbc_stretches.specs.OnTracks.{IsOnTrack};
@@ -8,16 +9,7 @@ ghost use Rattle.rbc_costs.specs.Stretches.{AreStretches, IsLostByFloor};
 
 use crate::total::{Total, write_totals};
 use rbc_steps::{Level, Runs};
-use rbc_stretches::{Stretch, price_on};
-
-/// Whether the one value is no higher than the other.
-pub fn is_at_most<V: Level>(a: V, b: V) -> bool
-    ensures { result ≡ V.levels.at_most a b }
-{
-    a.known();
-    b.known();
-    a <= b
-}
+use rbc_stretches::{Stretch, is_at_most, price_on};
 
 /// The least value from one break up to another.
 pub fn least_of<V: Level>(track: &Runs<V>, stretches: &[(Stretch, V)], from: usize, to: usize) -> V
@@ -101,7 +93,7 @@ pub fn costs_to<V: Level>(track: &Runs<V>, stretches: &[(Stretch, V)], to: usize
     ensures costs { (i : ℕ) → i < to
         → slice_index costs.new i ≡ cost_of_step V.levels (unit_of track.now.end) track.now i to }
     ensures bound { (i : ℕ) → i < to
-        → slice_index costs.new i ≤ slice_index (breaks_for (unit_of track.now.end) track.now) to * 1000000 }
+        → slice_index costs.new i ≤ slice_index (breaks_for (unit_of track.now.end) track.now) to * MOST_PRICE }
 {
     let _runs = track.runs();
     let last = stretches[to - 1].0;
@@ -127,11 +119,11 @@ fn costs_on<V: Level>(track: &Runs<V>, stretches: &[(Stretch, V)], to: usize, co
     requires costs { (i : ℕ) → i < to - 1
         → slice_index costs.old i ≡ cost_of_step V.levels (unit_of track.now.end) track.now i (to - 1) }
     requires bound { (i : ℕ) → i < to - 1
-        → slice_index costs.old i ≤ slice_index (breaks_for (unit_of track.now.end) track.now) (to - 1) * 1000000 }
+        → slice_index costs.old i ≤ slice_index (breaks_for (unit_of track.now.end) track.now) (to - 1) * MOST_PRICE }
     ensures costs { (i : ℕ) → i < to
         → slice_index costs.new i ≡ cost_of_step V.levels (unit_of track.now.end) track.now i to }
     ensures bound { (i : ℕ) → i < to
-        → slice_index costs.new i ≤ slice_index (breaks_for (unit_of track.now.end) track.now) to * 1000000 }
+        → slice_index costs.new i ≤ slice_index (breaks_for (unit_of track.now.end) track.now) to * MOST_PRICE }
 {
     let _runs = track.runs();
     let last = stretches[to - 1].0;
@@ -169,12 +161,12 @@ pub fn totals_on<V: Level, N: Total>(
     requires costs { (i : ℕ) → i < to - 1
         → slice_index costs.old i ≡ cost_of_step V.levels (unit_of track.now.end) track.now i (to - 1) }
     requires bound { (i : ℕ) → i < to - 1
-        → slice_index costs.old i ≤ slice_index (breaks_for (unit_of track.now.end) track.now) (to - 1) * 1000000 }
+        → slice_index costs.old i ≤ slice_index (breaks_for (unit_of track.now.end) track.now) (to - 1) * MOST_PRICE }
     requires small { (i : ℕ) → i < to → cost_of_step V.levels (unit_of track.now.end) track.now i to ≤ N.most }
     ensures costs { (i : ℕ) → i < to
         → slice_index costs.new i ≡ cost_of_step V.levels (unit_of track.now.end) track.now i to }
     ensures bound { (i : ℕ) → i < to
-        → slice_index costs.new i ≤ slice_index (breaks_for (unit_of track.now.end) track.now) to * 1000000 }
+        → slice_index costs.new i ≤ slice_index (breaks_for (unit_of track.now.end) track.now) to * MOST_PRICE }
     ensures totals { (i : ℕ) → i < to
         → slice_index (map N.number totals.new) i ≡ cost_of_step V.levels (unit_of track.now.end) track.now i to }
 {

@@ -9,12 +9,14 @@ mod costs;
 mod priced;
 mod stretches;
 mod sums;
+mod table;
 mod total;
 
-pub use costs::{costs_to, is_at_most, least_of, totals_on};
+pub use costs::{costs_to, least_of, totals_on};
 pub use priced::Priced;
 pub use rbc_model::Memory;
-pub use rbc_stretches::Stretch;
+pub use rbc_stretches::{Stretch, is_at_most};
 pub use stretches::stretches_of;
 pub use sums::cheapest;
+pub use table::price_at;
 pub use total::Total;

@@ -1,5 +1,8 @@
 //! Numbers that totals are kept in.
 ghost use Rattle.std.specs.Prelude.{◌≡◌, ℕ, ◌+◌, ◌<◌, ◌≤◌, nat_le, map, min, length, slice_index};
+ghost use Rattle.rbc_model.specs.declared.limits.TheConstants.{MOST_LOSS};
+
+use rbc_model::limits::MOST_LOSS;
 
 /// A number that a total is kept in, as narrow as a kind of level allows: the narrower the more of them a processor
 /// compares at once.
@@ -63,10 +66,10 @@ impl Total for u32 {
 impl Total for u64 {
     ghost number = { λ n. n };
 
-    ghost most = { 100000000000 };
+    ghost most = { MOST_LOSS };
 
     fn has(total: u64) -> bool {
-        total <= 100_000_000_000
+        total <= MOST_LOSS
     }
 
     fn of(total: u64) -> u64 {

@@ -36,7 +36,7 @@ impl<D: Device> Answers<Centre> for Kept<D> {
     type State = Kept<D>;
 
     ghost use Rattle.std.specs.Prelude.{◌≡◌, ◌≤◌};
-    ghost use Rattle.rbc_model.specs.declared.limits.TheConstants.{LONGEST_LINE};
+    ghost use Rattle.rbc_model.specs.declared.limits.TheConstants.{LONGEST_CHECK_LINE, LONGEST_LINE};
     ghost use Rattle.rbc_kept.specs.Advances.{Advances, goes_on};
     ghost use Rattle.rbc_kept.specs.Kept.{IsGoing};
 
@@ -58,7 +58,7 @@ impl<D: Device> Answers<Centre> for Kept<D> {
 
     fn longest_line() -> usize
         ensures value { result ≡ LONGEST_LINE }
-        ensures bound { result ≤ 65536 }
+        ensures bound { result ≤ LONGEST_CHECK_LINE }
     {
         LONGEST_LINE
     }

@@ -79,6 +79,12 @@ pub const MOST_TRAINS: usize = 1_024;
 /// How many entries a history may have.
 pub const MOST_ENTRIES: usize = 100_000;
 
+/// What a train loses on one metre at most, whatever the level there and the one that it is given.
+pub const MOST_PRICE: u32 = 1_000_000;
+
+/// What a profile loses at most over all metres of a track function.
+pub const MOST_LOSS: u64 = 100_000_000_000;
+
 /// How many lines a session treats.
 pub const MOST_LINES: u32 = 1_000_000;
 

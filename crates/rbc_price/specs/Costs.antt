@@ -1,6 +1,7 @@
 -- What one step costs between two breaks of a track, as it is found by the lowest stretch between them.
 use Rattle.std.specs.Prelude.{◌≡◌, ℕ, ◌+◌, ◌-◌, ◌*◌, ◌<◌, ◌≤◌, Bool, true, false, Option}
 use Rattle.rbc_model.specs.Levels.{Levels}
+use Rattle.rbc_model.specs.declared.limits.TheConstants.{MOST_PRICE}
 use Rattle.rbc_model.specs.Profiles.{StepFunction, value_at, is_within}
 use Rattle.rbc_model.specs.PriceTables.{least_value}
 use Rattle.rbc_table_laws.specs.Breaks.{lost_below, IsLowest}
@@ -11,7 +12,7 @@ module _ {V : Type 0} (levels : Levels V) (track : StepFunction V) where
   pub record IsCostAt (from to : ℕ) (least : V) (cost : ℕ) : Type 0 where
     pub lowest : IsLowest levels track from to least
     pub lost : lost_below levels track (levels.floor least) from + cost ≡ lost_below levels track (levels.floor least) to
-    pub bound : from * 1000000 + cost ≤ to * 1000000
+    pub bound : from * MOST_PRICE + cost ≤ to * MOST_PRICE
 
   -- the least value of the stretch of an index
   abbrev pub stretch_value : ℕ → Option V

@@ -14,9 +14,8 @@ ghost use Rattle.rbc_price.specs.Costs.{IsCostAt, IsLowestStretch};
 
 use crate::columns::{Column, column_before, column_behind, first_column, metre_of};
 use crate::places::{Place, earlier};
-use crate::shape::price_at;
 use crate::sound::is_sound;
-use rbc_costs::{Priced, is_at_most};
+use rbc_costs::{Priced, is_at_most, price_at};
 use rbc_model::Reason;
 use rbc_steps::{Level, Runs};
 use rbc_stretches::{least_on, price_on};

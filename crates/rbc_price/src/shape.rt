@@ -2,9 +2,8 @@
 ghost use Rattle.std.specs.Prelude.{◌≡◌, ℕ, ◌<◌, ◌≤◌, length, ◌==◌};
 ghost use Rattle.std.specs.List.{list_all};
 ghost use Rattle.rbc_model.specs.Profiles.{are_multiples, starts_of};
-ghost use Rattle.rbc_model.specs.PriceTables.{table_at};
 ghost use Rattle.rbc_model.specs.PriceChecks.{has_shape};
-ghost use Rattle.rbc_table_laws.specs.PriceRows.{prices_of, AreAsWideAs};
+ghost use Rattle.rbc_table_laws.specs.PriceRows.{prices_of};
 
 use crate::columns::column_count;
 use rbc_model::limits::MOST_STEPS;
@@ -56,16 +55,4 @@ pub(crate) fn has_shape<V: Level>(
     }
     let columns = column_count(track);
     rows.len() == limit.min(columns) && are_wide(rows, columns)
-}
-
-/// The price in the row of so many steps and in this column; nothing is lost by no steps, or up to break 0.
-pub(crate) fn price_at(rows: &[Vec<u64>], steps: usize, column: usize) -> u64
-    requires inside { steps ≤ length rows.now }
-    requires wide { AreAsWideAs column rows.now }
-    ensures { result ≡ table_at (prices_of rows.now) steps column }
-{
-    if steps == 0 || column == 0 {
-        return 0;
-    }
-    rows[steps - 1][column - 1]
 }

@@ -3,6 +3,7 @@ use Rattle.std.specs.Prelude.{◌≡◌, ℕ, suc, ◌<◌, ◌≤◌, List, [],
 use Rattle.std.specs.Option.{option_map_or}
 use Rattle.std.specs.Global.{Vec}
 use Rattle.rbc_model.specs.PriceTables.{table_at}
+use Rattle.rbc_model.specs.declared.limits.TheConstants.{MOST_LOSS}
 pub use Rattle.rbc_table_laws.specs.PriceRows.{prices_of}
 pub use Rattle.rbc_costs.specs.Sums.{IsCheapest, price_up_to, row_in}
 
@@ -16,7 +17,7 @@ row_at rows index = option_map_or (λ row. row.items) (slice_get rows index) []
 
 -- none is above what can be lost
 abbrev pub AreSmall : (ℕ → ℕ) → Type 0
-AreSmall price = (i : ℕ) → price i ≤ 100000000000
+AreSmall price = (i : ℕ) → price i ≤ MOST_LOSS
 
 -- Each of so many rows has one price more: in the first row it is what one step costs, and in each later one the
 -- cheapest with one step more than those of the row before.

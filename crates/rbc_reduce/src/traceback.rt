@@ -2,27 +2,16 @@
 ghost use Rattle.std.specs.Prelude.{◌≡◌, ◌≢◌, ℕ, ◌+◌, ◌%◌, ◌<◌, ◌≤◌, IfOk, length, slice_index};
 ghost use Rattle.rbc_model.specs.PriceTables.{IsGreatestSoundTable};
 ghost use Rattle.rbc_model.specs.Scales.{unit_of};
+ghost use Rattle.rbc_model.specs.declared.limits.TheConstants.{MOST_LOSS};
 ghost use Rattle.rbc_table_laws.specs.Tracebacks.{IsReadOff};
 ghost use Rattle.rbc_table_laws.specs.PriceRows.{prices_of, AreAsWideAs};
 ghost use Rattle.rbc_reduce.specs.Rows.{AreSmall, price_in};
 ghost use Rattle.rbc_costs.specs.Stretches.{AreStretches};
 
-use rbc_costs::{Stretch, costs_to, least_of};
+use rbc_costs::{Stretch, costs_to, least_of, price_at};
 use rbc_model::Memory;
 use rbc_steps::{Level, Runs};
 use std::alloc::Global;
-
-/// The price in the row of so many steps and in this column; nothing is lost by no steps, or up to break 0.
-fn price_at(rows: &[Vec<u64>], steps: usize, column: usize) -> u64
-    requires inside { steps ≤ length rows.now }
-    requires wide { AreAsWideAs column rows.now }
-    ensures { result ≡ price_in rows.now steps column }
-{
-    if steps == 0 || column == 0 {
-        return 0;
-    }
-    rows[steps - 1][column - 1]
-}
 
 /// The least number of steps whose last price is the table's.
 fn fewest(rows: &[Vec<u64>], columns: usize) -> usize
@@ -49,7 +38,7 @@ fn first_break(rows: &[Vec<u64>], costs: &[u64], steps: usize, column: usize) ->
     requires wide { AreAsWideAs column rows.now }
     requires room { column ≤ length costs.now }
     requires small { (j : ℕ) → AreSmall (price_in rows.now j) }
-    requires small_costs { (i : ℕ) → i < column → slice_index costs.now i ≤ 100000000000 }
+    requires small_costs { (i : ℕ) → i < column → slice_index costs.now i ≤ MOST_LOSS }
     requires some { (i : ℕ) × (i < column)
         × (price_in rows.now steps i + slice_index costs.now i ≡ price_in rows.now (steps + 1) column) }
     ensures inside { result < column }

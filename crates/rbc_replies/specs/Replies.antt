@@ -55,7 +55,7 @@ abbrev pub reply_text : Track → SessionReply → List ℕ
 reply_text track Nothing = []
 reply_text track (Accepted version) = accepted_reply version
 reply_text track (GrantedReply granted) = grant_text track granted
-reply_text track (Blocked train version at obstacle) = blocked_reply track train version at obstacle
+reply_text track (Blocked train obstacle at version) = blocked_reply track train version at obstacle
 reply_text track (RefusedReply refusal) = refused_reply track (refusal_view refusal)
 
 -- ---- the sections that are named are the track's
@@ -79,6 +79,6 @@ RefusalIsOfTrack track _ = Unit {0}
 -- the same of any reply
 abbrev pub ReplyIsWhole : Track → SessionReply → Type 0
 ReplyIsWhole track (GrantedReply granted) = ObstacleIsOfTrack track granted.obstacle
-ReplyIsWhole track (Blocked train version at obstacle) = ObstacleIsOfTrack track obstacle
+ReplyIsWhole track (Blocked train obstacle at version) = ObstacleIsOfTrack track obstacle
 ReplyIsWhole track (RefusedReply refusal) = RefusalIsOfTrack track refusal
 ReplyIsWhole track _ = Unit {0}

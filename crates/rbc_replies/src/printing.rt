@@ -36,7 +36,7 @@ pub fn print<W: Sink>(
         SessionReply::Nothing => Ok(()),
         SessionReply::Accepted(version) => print_line(b"ok", &[Word::Count(*version)], writer),
         SessionReply::Granted(granted) => print_granted(track, granted, writer),
-        SessionReply::Blocked(train, version, at, obstacle) => {
+        SessionReply::Blocked(train, obstacle, at, version) => {
             let words = [
                 Word::Number(*train),
                 Word::Count(*version),

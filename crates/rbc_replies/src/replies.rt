@@ -70,9 +70,9 @@ pub enum SessionReply<'reply> {
     Accepted(u64),
     /// The train is granted an authority.
     Granted(Granted<'reply>),
-    /// This train may run no further: in a history of so many entries, this stands in its way, so many metres from
-    /// its group (negative: before the group).
-    Blocked(u32, u64, i64, Obstacle),
+    /// This train may run no further: this stands in its way, so many metres from its group (negative: before the
+    /// group), in a history of so many entries.
+    Blocked(u32, Obstacle, i64, u64),
     /// The line is refused.
     Refused(SessionRefusal),
 }

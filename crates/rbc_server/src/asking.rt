@@ -65,7 +65,7 @@ pub fn stopped(history: &Record, train: u32, fault: OrMemory<ViewFault>) -> Sess
             SessionReply::Refused(SessionRefusal::BadEvent(Refusal::UnknownTrain(train)))
         }
         OrMemory::Refused(ViewFault::Blocked(obstacle, at)) => {
-            SessionReply::Blocked(train, history.version(), at, obstacle)
+            SessionReply::Blocked(train, obstacle, at, history.version())
         }
         OrMemory::Memory => SessionReply::Refused(SessionRefusal::Memory),
     }

@@ -20,7 +20,7 @@ impl Answers<Centre> for Record {
     type State = Record;
 
     ghost use Rattle.std.specs.Prelude.{◌≡◌, ◌≤◌, ⊤, false, refl};
-    ghost use Rattle.rbc_model.specs.declared.limits.TheConstants.{LONGEST_LINE};
+    ghost use Rattle.rbc_model.specs.declared.limits.TheConstants.{LONGEST_CHECK_LINE, LONGEST_LINE};
     ghost use Rattle.rbc_server.specs.Changes.{Goes};
 
     ghost longest = { LONGEST_LINE };
@@ -42,7 +42,7 @@ impl Answers<Centre> for Record {
 
     fn longest_line() -> usize
         ensures value { result ≡ LONGEST_LINE }
-        ensures bound { result ≤ 65536 }
+        ensures bound { result ≤ LONGEST_CHECK_LINE }
     {
         LONGEST_LINE
     }

@@ -104,7 +104,7 @@ pub(crate) fn reply_to<'a>(
             SessionReply::Refused(SessionRefusal::BadEvent(Refusal::UnknownTrain(train)))
         }
         Err(OrMemory::Refused(AskFault::Blocked(obstacle, at, version))) => {
-            SessionReply::Blocked(train, *version, *at, *obstacle)
+            SessionReply::Blocked(train, *obstacle, *at, *version)
         }
         Err(OrMemory::Refused(AskFault::Full)) => SessionReply::Refused(SessionRefusal::Full),
         Err(OrMemory::Memory) => SessionReply::Refused(SessionRefusal::Memory),
@@ -115,7 +115,7 @@ impl<'a, L: DeskName, G: Gate, R: Wait> Answers<Counter<'a, L, G, R>> for Seat<L
     type State = Seat<L>;
 
     ghost use Rattle.std.specs.Prelude.{◌≡◌, ◌≤◌, ⊤, false, refl};
-    ghost use Rattle.rbc_model.specs.declared.limits.TheConstants.{LONGEST_LINE};
+    ghost use Rattle.rbc_model.specs.declared.limits.TheConstants.{LONGEST_CHECK_LINE, LONGEST_LINE};
     ghost use Rattle.rbc_server.specs.SeatChanges.{SeatGoes};
 
     ghost longest = { LONGEST_LINE };
@@ -137,7 +137,7 @@ impl<'a, L: DeskName, G: Gate, R: Wait> Answers<Counter<'a, L, G, R>> for Seat<L
 
     fn longest_line() -> usize
         ensures value { result ≡ LONGEST_LINE }
-        ensures bound { result ≤ 65536 }
+        ensures bound { result ≤ LONGEST_CHECK_LINE }
     {
         LONGEST_LINE
     }

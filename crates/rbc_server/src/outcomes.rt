@@ -53,7 +53,7 @@ fn print_answer<W: Sink>(
     match answer {
         Answer::Granted(grant) => print_grant(track, grant, writer),
         Answer::Blocked(obstacle, at, version) => {
-            let blocked = SessionReply::Blocked(train, *version, *at, *obstacle);
+            let blocked = SessionReply::Blocked(train, *obstacle, *at, *version);
             print(track, &blocked, writer)
         }
         Answer::Gone => print_count(b"gone ", u64::from(train), writer),

@@ -3,7 +3,7 @@ ghost use Rattle.std.specs.Prelude.{ℕ, ◌≡◌, ◌<◌, ◌≤◌, ◌+◌,
 ghost use Rattle.std.specs.List.{list_all};
 ghost use Rattle.rbc_model.specs.Levels.{is_same, IsAtMost};
 ghost use Rattle.rbc_model.specs.Profiles.{starts_of, rises_from_zero, are_inside, joined_steps, value_at, is_within, loss, IsStepList};
-ghost use Rattle.rbc_model.specs.declared.limits.TheConstants.{LONGEST_TRACK};
+ghost use Rattle.rbc_model.specs.declared.limits.TheConstants.{LONGEST_TRACK, MOST_PRICE};
 ghost use Rattle.rbc_steps.specs.Mirrored.{mirrored};
 
 use crate::{Grade, Level};
@@ -97,7 +97,7 @@ fn loss_over<V: Level>(metres: u32, track: V, given: V) -> u64
     requires within_limit { metres ≤ LONGEST_TRACK }
     requires below { IsAtMost V.levels given track }
     ensures loss { result ≡ metres * V.levels.price track given }
-    ensures bound { result ≤ metres * 1000000 }
+    ensures bound { result ≤ metres * MOST_PRICE }
 {
     track.known();
     given.known();

@@ -3,6 +3,7 @@
 ghost use Rattle.std.specs.Prelude.{◌≡◌, ◌<◌, ◌≤◌, ◌||◌, ℕ, List, Bool, length, false, OnErr};
 ghost use Rattle.std.specs.Thread.{IsSync};
 ghost use Rattle.rbc_model.specs.Sessions.{Prints};
+ghost use Rattle.rbc_model.specs.declared.limits.TheConstants.{LONGEST_CHECK_LINE};
 
 use crate::{Sink, WriteFailed};
 use std::alloc::Global;
@@ -38,10 +39,10 @@ pub trait Answers<C> {
     /// How many bytes a line may have.
     ghost longest: { ℕ };
 
-    /// How many bytes a line may have, a carriage return counted: at most 65,536.
+    /// How many bytes a line may have, a carriage return counted: at most [`rbc_model::limits::LONGEST_CHECK_LINE`].
     fn longest_line() -> usize
         ensures value { result ≡ longest }
-        ensures bound { result ≤ 65536 };
+        ensures bound { result ≤ LONGEST_CHECK_LINE };
 
     /// Prints the reply to a line, which has no line feed. The session hands it on. Where a whole line more has been read
     /// the reply may rest, up to one of the next calls.

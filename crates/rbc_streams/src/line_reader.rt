@@ -2,6 +2,7 @@
 
 ghost use Rattle.std.specs.Prelude.{◌≡◌, ◌≢◌, ◌+◌, ◌<◌, ◌≤◌, ℕ, List, Option, [], ◌++◌, true, false, ◌-◌, length, take, drop, slice_range, vec_len, is_err, Ok, Some, IfOk, OnErr, IfNone, IfSome, MatchBool};
 ghost use Rattle.std.specs.Io.KnownBytes.{Consumes, Keeps, IsAtEnd};
+ghost use Rattle.rbc_model.specs.declared.limits.TheConstants.{LONGEST_CHECK_LINE};
 ghost use Rattle.rbc_streams.specs.LineReading.{LineReading, at_start, HasNoLineFeed, HasLine, Steps, Advances, KnowsEnd, IsInOrder};
 
 use crate::streams::{ReadFailed, Source};
@@ -58,7 +59,7 @@ impl LineReader {
     /// # Errors
     /// There is no memory for its buffer. Later steps need none.
     pub fn new(alloc: Global, longest: usize) -> Result<LineReader, Memory>
-        requires { longest ≤ 65536 }
+        requires { longest ≤ LONGEST_CHECK_LINE }
         ensures { IfOk result (λ lines. lines ≡ at_start longest) }
     {
         Ok(LineReader {

@@ -8,5 +8,5 @@ mod prices;
 mod stretch;
 
 pub use backwards::stretch_before;
-pub use prices::{least_on, price_on};
+pub use prices::{is_at_most, least_on, price_on};
 pub use stretch::{Stretch, first_stretch, stretch_behind};

@@ -1,6 +1,7 @@
 //! The least value of a stretch, and what is lost on it.
 ghost use Rattle.std.specs.Prelude.{◌≡◌, ℕ, ◌+◌, ◌*◌, ◌≤◌, if◌then◌else◌};
 ghost use Rattle.rbc_model.specs.Levels.{IsInRange};
+ghost use Rattle.rbc_model.specs.declared.limits.TheConstants.{MOST_PRICE};
 ghost use Rattle.rbc_table_laws.specs.Breaks.{IsLowest, IsBelowAll, lost_below};
 ghost use Rattle.rbc_stretches.specs.OnTracks.{IsOnTrack};
 
@@ -9,7 +10,7 @@ use crate::breaks::edge;
 use rbc_steps::{Level, Runs};
 
 /// Whether the one value is no higher than the other.
-fn is_at_most<V: Level>(a: V, b: V) -> bool
+pub fn is_at_most<V: Level>(a: V, b: V) -> bool
     ensures { result ≡ V.levels.at_most a b }
 {
     a.known();
@@ -45,7 +46,7 @@ pub fn price_on<V: Level>(track: &Runs<V>, stretch: Stretch, given: V) -> u64
     requires given_in_range { IsInRange V.levels given }
     requires below { IsBelowAll V.levels track.now stretch.from stretch.to given }
     ensures price { lost_below V.levels track.now given stretch.from + result ≡ lost_below V.levels track.now given stretch.to }
-    ensures bound { stretch.from * 1000000 + result ≤ stretch.to * 1000000 }
+    ensures bound { stretch.from * MOST_PRICE + result ≤ stretch.to * MOST_PRICE }
 {
     let runs = track.runs();
     let mut run = stretch.first;

@@ -1,7 +1,7 @@
 use Rattle.std.proofs.Common.{arith, ◌-◌}
 use Rattle.std.proofs.lemmas.Option.{slice_get-get_or}
 use Rattle.rbc_table_laws.proofs.PriceRowLemmas.{price_is}
-use Rattle.rbc_reduce.proofs.traceback.price_at.Goals as goal
+use Rattle.rbc_costs.proofs.table.price_at.Goals as goal
 
 pub returns : goal.returns
 returns c =
