@@ -3,6 +3,7 @@
 ghost use Rattle.std.specs.Prelude.{◌≡◌, ◌<◌, ◌≤◌, ◌*◌, IfOk};
 ghost use Rattle.rbc_model.specs.Events.{with_authority, cut_at};
 ghost use Rattle.rbc_model.specs.Lines.{line_length};
+ghost use Rattle.rbc_model.specs.Views.{start_of};
 ghost use Rattle.rbc_model.specs.declared.limits.TheConstants.{LONGEST_TRACK, MOST_SECTIONS};
 ghost use Rattle.rbc_scene_laws.specs.Good.{IsGoodTrain};
 ghost use Rattle.rbc_extent.specs.PlacedTrains.{placed_train};
@@ -146,6 +147,14 @@ impl Train {
     {
         prove!(self.to <= self.line.length());
         self.to
+    }
+
+    /// The place from which the train's way is searched, and from which it is granted an authority: the start of the one it
+    /// has, or its front where that lies behind.
+    pub fn start(&self) -> u32
+        ensures { result ≡ start_of self.now.train }
+    {
+        self.from.min(self.front)
     }
 
     /// The train with another authority, on a line that has both its extent and this authority.

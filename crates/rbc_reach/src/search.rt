@@ -98,7 +98,7 @@ fn view_to(alloc: Global, train: &Train, found: &Reach, end: u32) -> Result<View
         time: report.time(),
         legs: legs_to(alloc, line, found.place())?,
         origin,
-        start: train.from().min(train.front()),
+        start: train.start(),
         front: train.front(),
         to: train.to(),
         reach: found.place(),

@@ -129,8 +129,8 @@ impl Record {
     }
 
     /// Whether the record has as many entries as it may have.
-    fn is_full(&self) -> bool
-        ensures full { result ≡ is_full self.now }
+    pub fn is_full(&self) -> bool
+        ensures { result ≡ is_full self.now }
     {
         self.entries.len() >= MOST_ENTRIES
     }
@@ -283,7 +283,14 @@ impl Record {
         rbc_grant::view(alloc, &self.scene, train)
     }
 
-    /// The scene that the history leads to, apart from the record.
+    /// The scene that the history leads to.
+    pub fn scene(&self) -> &Scene
+        ensures { result.now ≡ record { track = self.now.track; scene = scene_now self.now } }
+    {
+        &self.scene
+    }
+
+    /// The same scene, apart from the record.
     ///
     /// # Errors
     ///

@@ -83,7 +83,7 @@ pub(crate) fn granted_along(
     prove!(train.front() <= line.length());
     let to = train.origin() + distance;
     let line = line_along(alloc, train, legs, to)?;
-    let from = train.from().min(train.front());
+    let from = train.start();
     Ok(Granted { line, from, to })
 }
 
@@ -120,6 +120,6 @@ pub(crate) fn granted_to(
     let way = found.line();
     way.known();
     let line = line_along(alloc, train, way.legs(), to)?;
-    let from = train.from().min(train.front());
+    let from = train.start();
     Ok(Granted { line, from, to })
 }

@@ -1,20 +1,12 @@
-//! The places between which a train's way is searched.
+//! The place up to which a train's way is searched, and the last end up to a place.
 
 ghost use Rattle.std.specs.Prelude.{◌≡◌, ◌+◌, ◌-◌, ◌<◌, ◌≤◌, ◌^◌};
 ghost use Rattle.rbc_model.specs.Scales.{farthest};
-ghost use Rattle.rbc_model.specs.Views.{start_of};
 ghost use Rattle.rbc_reach_laws.specs.Nearest.{greatest_up_to, nearest_end};
 
 use rbc_book::Train;
 use rbc_model::Format;
 use rbc_model::limits::{FARTHEST_END, FARTHEST_END_IN_TENS, FIRST_END_IN_TENS, TEN_METRES};
-
-/// The place from which the way is searched: the start of the train's authority, or its front where that lies behind.
-pub(crate) fn start_of(train: &Train) -> u32
-    ensures { result ≡ start_of train.now.train }
-{
-    train.from().min(train.front())
-}
 
 /// The place beyond which no end may lie, since a message counts it from the train's balise group.
 pub(crate) fn limit_of(train: &Train) -> u32

@@ -12,10 +12,10 @@ ghost use Rattle.rbc_way.specs.OnLegs.{authority_met, clear_of, extent_met, firs
 ghost use Rattle.rbc_way.specs.Reaches.{Trains, scene_of};
 ghost use Rattle.rbc_way.specs.Stretches.{IsTableOf, stretches_at};
 
-use crate::bounds::{limit_of, start_of};
+use crate::bounds::limit_of;
 use crate::stretches::{Span, Stretch, Stretches};
 use rbc_book::{Locks, Train};
-use rbc_model::{Direction, Leg, Obstacle, SectionId};
+use rbc_model::{Leg, Obstacle, SectionId};
 
 /// A place with an obstacle, and the obstacle.
 #[derive(Clone, Copy)]
@@ -30,6 +30,17 @@ pub(crate) struct WayLeg {
     pub(crate) before: Option<Leg>,
     pub(crate) begin: u32,
     pub(crate) leg: Leg,
+}
+
+/// A leg as a train that runs along it meets it.
+#[derive(Clone, Copy)]
+struct LegMet<'a> {
+    leg: Leg,
+    metres: u32,
+    /// Whether it is locked for the train.
+    locked: bool,
+    /// What other trains have of its section.
+    stretches: &'a [Stretch],
 }
 
 /// Whether the leg is locked in its direction, and behind the leg before if there is one.
@@ -52,67 +63,88 @@ fn nearer(near: u32, first: u32, span: Span) -> u32
     if met < span.high { near.min(met) } else { near }
 }
 
-/// The extent's span, as it is met on a leg in this direction.
-fn extent_met(stretch: &Stretch, direction: Direction, metres: u32) -> Span
-    ensures { result ≡ extent_met direction metres stretch.now }
-{
-    stretch.extent.met(stretch.direction == direction, metres)
-}
-
-/// The authority's span, as it is met on a leg in this direction.
-fn authority_met(stretch: &Stretch, direction: Direction, metres: u32) -> Span
-    ensures { result ≡ authority_met direction metres stretch.now }
-{
-    stretch
-        .authority
-        .met(stretch.direction == direction, metres)
-}
-
-/// The nearest of a metre and of what the stretches have from `first` on.
-fn nearest(stretches: &[Stretch], direction: Direction, metres: u32, first: u32, free: u32) -> u32
-    ensures near { result ≡ fold (nearest_in direction metres first) free stretches.now }
-    ensures at_most { result ≤ free }
-{
-    let mut near = free;
-    for stretch in stretches {
-        near = nearer(near, first, extent_met(stretch, direction, metres));
-        near = nearer(near, first, authority_met(stretch, direction, metres));
+impl<'a> LegMet<'a> {
+    /// The extent's span, as it is met on the leg.
+    fn extent_met(&self, stretch: &Stretch) -> Span
+        ensures { result ≡ extent_met self.now.leg.direction self.now.metres stretch.now }
+    {
+        let same = stretch.direction == self.leg.direction;
+        stretch.extent.met(same, self.metres)
     }
-    near
-}
 
-/// The first of the trains whose extent has the metre.
-fn occupant(stretches: &[Stretch], direction: Direction, metres: u32, metre: u32) -> Option<u32>
-    ensures { result ≡ first_train (extent_met direction metres) metre stretches.now }
-{
-    let found = stretches.iter().find(|stretch| extent_met(stretch, direction, metres).has(metre))?;
-    Some(found.train)
-}
+    /// The authority's span, as it is met on the leg.
+    fn authority_met(&self, stretch: &Stretch) -> Span
+        ensures { result ≡ authority_met self.now.leg.direction self.now.metres stretch.now }
+    {
+        let same = stretch.direction == self.leg.direction;
+        stretch.authority.met(same, self.metres)
+    }
 
-/// The first of the trains whose authority has the metre.
-fn holder(stretches: &[Stretch], direction: Direction, metres: u32, metre: u32) -> Option<u32>
-    ensures { result ≡ first_train (authority_met direction metres) metre stretches.now }
-{
-    let found = stretches.iter().find(|stretch| authority_met(stretch, direction, metres).has(
-        metre,
-    ))?;
-    Some(found.train)
-}
+    /// The nearest of a metre and of what the stretches have from `first` on.
+    fn nearest(&self, first: u32, free: u32) -> u32
+        ensures near { result
+            ≡ fold (nearest_in self.now.leg.direction self.now.metres first) free self.now.stretches.now }
+        ensures at_most { result ≤ free }
+    {
+        let mut near = free;
+        for stretch in self.stretches {
+            near = nearer(near, first, self.extent_met(stretch));
+            near = nearer(near, first, self.authority_met(stretch));
+        }
+        near
+    }
 
-/// What stands at a metre of a leg, of so many metres, that is the first with an obstacle.
-fn obstacle_at(stretches: &[Stretch], locked: bool, leg: Leg, metres: u32, metre: u32) -> Obstacle
-    ensures { result ≡ stop_met stretches.now locked leg metres metre }
-{
-    if !locked {
-        return Obstacle::NotLocked(leg.section);
+    /// The first of the trains whose extent has the metre.
+    fn occupant(&self, metre: u32) -> Option<u32>
+        ensures { result
+            ≡ first_train (extent_met self.now.leg.direction self.now.metres) metre self.now.stretches.now }
+    {
+        let found = self
+            .stretches
+            .iter()
+            .find(|stretch| self.extent_met(stretch).has(metre))?;
+        Some(found.train)
     }
-    if let Some(train) = occupant(stretches, leg.direction, metres, metre) {
-        return Obstacle::Occupied(train);
+
+    /// The first of the trains whose authority has the metre.
+    fn holder(&self, metre: u32) -> Option<u32>
+        ensures { result
+            ≡ first_train (authority_met self.now.leg.direction self.now.metres) metre self.now.stretches.now }
+    {
+        let found = self
+            .stretches
+            .iter()
+            .find(|stretch| self.authority_met(stretch).has(metre))?;
+        Some(found.train)
     }
-    if let Some(train) = holder(stretches, leg.direction, metres, metre) {
-        return Obstacle::Held(train);
+
+    /// What stands at a metre that is the first with an obstacle.
+    fn obstacle_at(&self, metre: u32) -> Obstacle
+        ensures { result
+            ≡ stop_met self.now.stretches.now self.now.locked self.now.leg self.now.metres metre }
+    {
+        if !self.locked {
+            return Obstacle::NotLocked(self.leg.section);
+        }
+        if let Some(train) = self.occupant(metre) {
+            return Obstacle::Occupied(train);
+        }
+        if let Some(train) = self.holder(metre) {
+            return Obstacle::Held(train);
+        }
+        Obstacle::Limit
     }
-    Obstacle::Limit
+
+    /// How many metres are clear, if so many lie before the limit and the search begins at `first`.
+    fn clear_of(&self, first: u32, free: u32) -> u32
+        ensures clear { result
+            ≡ clear_of self.now.stretches.now self.now.locked self.now.leg.direction self.now.metres first free }
+        ensures at_most { result ≤ free }
+    {
+        let high = if self.locked { 0 } else { self.metres };
+        let free = nearer(free, first, Span { low: 0, high });
+        self.nearest(first, free)
+    }
 }
 
 /// How many metres of a leg, which begins at `begin` and has so many, lie before the limit.
@@ -122,28 +154,11 @@ fn free_of(train: &Train, begin: u32, metres: u32) -> u32
     ensures at_most { result ≤ metres }
 {
     let limit = limit_of(train);
-    if start_of(train).max(begin) <= limit {
+    if train.start().max(begin) <= limit {
         metres.min(limit - begin)
     } else {
         metres
     }
-}
-
-/// How many metres of a leg are clear, if so many lie before the limit and the search begins at `first`.
-fn clear_of(
-    stretches: &[Stretch],
-    locked: bool,
-    direction: Direction,
-    metres: u32,
-    first: u32,
-    free: u32,
-) -> u32
-    ensures clear { result ≡ clear_of stretches.now locked direction metres first free }
-    ensures at_most { result ≤ free }
-{
-    let high = if locked { 0 } else { metres };
-    let free = nearer(free, first, Span { low: 0, high });
-    nearest(stretches, direction, metres, first, free)
 }
 
 /// What the trains have of a section of the table.
@@ -175,13 +190,19 @@ pub(crate) fn stop_on(
     let metres = train.line().track().metres_of(leg);
     let stretches = stretches_at(others, leg.section);
     let locked = is_locked(locks, way_leg.before, *leg);
-    let first = start_of(train).saturating_sub(way_leg.begin);
+    let met = LegMet {
+        leg: *leg,
+        metres,
+        locked,
+        stretches,
+    };
+    let first = train.start().saturating_sub(way_leg.begin);
     let free = free_of(train, way_leg.begin, metres);
-    let clear = clear_of(stretches, locked, leg.direction, metres, first, free);
+    let clear = met.clear_of(first, free);
     if clear < metres {
         Some(Stop {
             place: way_leg.begin + clear,
-            obstacle: obstacle_at(stretches, locked, *leg, metres, clear),
+            obstacle: met.obstacle_at(clear),
         })
     } else {
         None

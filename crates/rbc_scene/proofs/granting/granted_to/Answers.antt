@@ -1,5 +1,5 @@
 -- The search tells whether the end is safe, and its legs have the metre before it.
-use Rattle.std.proofs.Common.{◌+◌, min, ap, sym, ◌∙◌, subst, ◌&&◌}
+use Rattle.std.proofs.Common.{◌+◌, ap, sym, ◌∙◌, subst, ◌&&◌}
 use Rattle.rbc_model.specs.Tracks.{Track}
 use Rattle.rbc_model.specs.Lines.{Line}
 use Rattle.rbc_model.specs.Views.{is_expressible_end, is_safe, reach}
@@ -8,7 +8,6 @@ use Rattle.rbc_way.specs.Reaches.{BeginsWay, scene_of}
 use Rattle.rbc_model.specs.Events.{line_to}
 use Rattle.rbc_scene.proofs.GrantingLemmas.{safe, some_metres}
 use Rattle.rbc_scene.proofs.granting.granted_to.Goals as goal
-use Rattle.rbc_scene.proofs.granting.granted_to.Goals.{Else-not-may_end_at, After-min-from}
 
 pub line_along-requires-clause-some : goal.line_along-requires-clause-some
 line_along-requires-clause-some c =
@@ -23,7 +22,7 @@ returns-clause-granted c =
     let train = c.args.train.now.train in
     let of_track = c.requires.track in
     let origin = c.origin-2.ensures.origin in
-    safe c.args.book.now.track scene train c.args.distance c.may_end_at.result c.in_ok-line.line.legs c.min-from.result (c.origin-2.result + c.args.distance)
+    safe c.args.book.now.track scene train c.args.distance c.may_end_at.result c.in_ok-line.line.legs c.start-from.result (c.origin-2.result + c.args.distance)
     (c.may_end_at.ensures.granted scene (c.in_ok-found.ensures.place ∙ ap (λ (t : Track). reach t scene train) (sym of_track))
     ∙ (λ j. is_safe (of_track j) scene train (origin j + c.args.distance) && is_expressible_end (of_track j) train (origin j + c.args.distance)))
     c.if-not-may_end_at.false
@@ -31,5 +30,5 @@ returns-clause-granted c =
     (subst (λ (legs : Line). BeginsWay c.args.train.now.track scene train legs) (sym (c.legs.ensures.legs ∙ c.line-way.ensures.legs))
     (subst (λ (t : Track). BeginsWay t scene train c.in_ok-found.found.line) (sym of_track) c.in_ok-found.ensures.line))
     ∙ (λ j. line_to (of_track j) scene train (origin j + c.args.distance)))
-    (c.min-from.ensures ∙ (λ j. min (c.from.ensures.from j) (c.front-4.ensures.front j)))
+    c.start-from.ensures
     (ap (λ n. n + c.args.distance) origin)
