@@ -29,7 +29,8 @@ use Rattle.rbc_snap.proofs.LaterLemmas.{later_still}
 use Rattle.rbc_desk.specs.declared.faults.AskFault.{AskFault}
 use Rattle.rbc_desk.specs.declared.faults.AskFault.TheVariants.{UnknownTrain as UnknownToAsker, Blocked}
 use Rattle.rbc_desk.specs.declared.granted.Granted.{Granted as GrantedAtDesk}
-use Rattle.rbc_desk.specs.Asking.{fault_at, seen_by, shown, tried, Tries, IsRefused, IsAnsweredThen}
+use Rattle.rbc_desk.specs.Asking.{fault_at, seen_by, shown, tried, IsAnsweredAt, IsAnsweredThen, IsRefused, Means, Tries}
+use Rattle.rbc_desk.specs.Seats.{Seated}
 use Rattle.rbc_desk.specs.Telling.{IsToldThen}
 
 -- what is entered, by what is asked in turn: whether the history is full, whether the candidate's view is shown
@@ -193,29 +194,48 @@ entered_place before after place entry at is =
 
 -- what a train that asks is granted
 module _ (begun new : HistoryOnTrack) (train : ℕ) where
-  pub since_place : (answer : Result GrantedAtDesk (OrMemory AskFault)) → IsAnsweredThen begun new train answer
-      → IfOk answer (λ granted. slice_get new.entries granted.receipt.place ≡ Some granted.receipt.entry)
-  since_place (Ok granted) since = let a = since.answered in entered_place since.before new granted.receipt.place granted.receipt.entry a.2 since.told
-  since_place (Err fault) since = tt
-
-  pub since_entry : (answer : Result GrantedAtDesk (OrMemory AskFault)) → IsAnsweredThen begun new train answer → IfOk answer (λ granted. granted.receipt.entry ≡ Granted granted.candidate.grant)
-  since_entry (Ok granted) since = let a = since.answered in a.3
-  since_entry (Err fault) since = tt
-
-  pub since_train : (answer : Result GrantedAtDesk (OrMemory AskFault)) → IsAnsweredThen begun new train answer → IfOk answer (λ granted. granted.candidate.view.train ≡ train)
-  since_train (Ok granted) since =
+  pub since_means : (answer : Result GrantedAtDesk (OrMemory AskFault)) → IsAnsweredThen begun new train answer → IfOk answer (Means new train)
+  since_means (Ok granted) since =
       let a = since.answered in
-      let h = since.before in
-      view-train h.track (scene_now h) train granted.candidate.view (viewed (view h.track (scene_now h) train) (length h.entries) granted.candidate.view a.1)
-  since_train (Err fault) since = tt
+      let h = since.before in record {
+        entry = a.3;
+        place = entered_place h new granted.receipt.place granted.receipt.entry a.2 since.told;
+        train = view-train h.track (scene_now h) train granted.candidate.view (viewed (view h.track (scene_now h) train) (length h.entries) granted.candidate.view a.1);
+        best = a.4;
+        chosen = a.5;
+      }
+  since_means (Err fault) since = tt
 
-  pub since_best : (answer : Result GrantedAtDesk (OrMemory AskFault)) → IsAnsweredThen begun new train answer → IfOk answer (λ granted. IsCandidateOf granted.candidate.view granted.candidate.grant)
-  since_best (Ok granted) since = let a = since.answered in a.4
-  since_best (Err fault) since = tt
+-- ---- what a seat has after an answer
 
-  pub since_chosen : (answer : Result GrantedAtDesk (OrMemory AskFault)) → IsAnsweredThen begun new train answer → IfOk answer (λ granted. HasChosenProfiles granted.candidate.view granted.candidate.grant)
-  since_chosen (Ok granted) since = let a = since.answered in a.5
-  since_chosen (Err fault) since = tt
+module _ (had has : Seated) (train : ℕ) where
+  pub granted_at : (granted : GrantedAtDesk) → IsAnsweredThen had.told has.told train (Ok granted) → IsLater had.told has.told → has.receipts ≡ had.receipts ++ granted.receipt ∷ []
+      → IsAnsweredAt had has train (Ok granted)
+  granted_at granted since later receipt = record { since = since; later = later; receipt = receipt; means = since_means had.told has.told train (Ok granted) since; refused = tt }
+
+  pub refused_at : (fault : OrMemory AskFault) → IsAnsweredThen had.told has.told train (Err fault) → IsLater had.told has.told → has.receipts ≡ had.receipts
+      → IsAnsweredAt had has train (Err fault)
+  refused_at fault since later none = record { since = since; later = later; receipt = tt; means = tt; refused = none }
+
+-- of a seat that was told what there was, and then what there is once a candidate was tried
+module _ (had has : Seated) (old new : HistoryOnTrack) (candidate : Candidate) (before : IsLater had.told old) (told : has.told ≡ new) (later : IsLater had.told has.told) where
+  pub tried_granted : (receipt : Receipt) → Tries (Ok (Some receipt)) old new candidate → IsCandidateOf candidate.view candidate.grant → HasChosenProfiles candidate.view candidate.grant
+      → has.receipts ≡ had.receipts ++ receipt ∷ [] → IsAnsweredAt had has candidate.view.train (Ok (record { receipt = receipt; candidate = candidate }))
+  tried_granted receipt t best chosen gains =
+      granted_at had has candidate.view.train (record { receipt = receipt; candidate = candidate })
+      (record { before = old; later = before; answered = (t.4, t.3, t.1, t.0, best, chosen); told = told ∙ t.2 ∙ ap (λ entry. with_entry old entry) (sym t.0) }) later gains
+
+  pub tried_refused : (fault : OrMemory AskFault) → Tries (Err fault) old new candidate → has.receipts ≡ had.receipts → IsAnsweredAt had has candidate.view.train (Err fault)
+  tried_refused fault t none = refused_at had has candidate.view.train fault (record { before = old; later = before; answered = t.0; told = told ∙ t.1 }) later none
+
+-- of a seat that was told more meanwhile, and gained nothing
+module _ (first had has : Seated) (later : IsLater first.told had.told) (none : had.receipts ≡ first.receipts) where
+  pub answered_since : (train asked : ℕ) (answer : Result GrantedAtDesk (OrMemory AskFault)) → train ≡ asked → IsAnsweredAt had has train answer → IsAnsweredAt first has asked answer
+  answered_since train asked (Ok granted) same h =
+      granted_at first has asked granted (since_asked first.told had.told has.told train asked (Ok granted) later same h.since) (later_still first.told had.told has.told later h.later)
+      (h.receipt ∙ ap (λ receipts. receipts ++ granted.receipt ∷ []) none)
+  answered_since train asked (Err fault) same h =
+      refused_at first has asked fault (since_asked first.told had.told has.told train asked (Err fault) later same h.since) (later_still first.told had.told has.told later h.later) (h.refused ∙ none)
 
 -- ---- what is told
 

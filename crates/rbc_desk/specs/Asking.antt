@@ -1,5 +1,5 @@
 -- What a train that asks at the desk is answered.
-use Rattle.std.specs.Prelude.{◌≡◌, ℕ, true, false, length, Option, Some, None, Result, Ok, Err}
+use Rattle.std.specs.Prelude.{◌≡◌, ℕ, true, false, [], ◌∷◌, ◌++◌, length, slice_get, Option, Some, None, Result, Ok, Err, IfErr, IfNone, IfOk, IfSome, OnErr}
 use Rattle.std.specs.Result.{result_map_both}
 use Rattle.rbc_model.specs.declared.memory.OrMemory.{OrMemory}
 use Rattle.rbc_model.specs.declared.memory.OrMemory.TheVariants.{Refused, Memory}
@@ -16,6 +16,7 @@ use Rattle.rbc_snap.specs.Records.{HistoryOnTrack, scene_now, is_full, with_entr
 use Rattle.rbc_desk.specs.declared.faults.AskFault.{AskFault}
 use Rattle.rbc_desk.specs.declared.faults.AskFault.TheVariants.{UnknownTrain, Blocked, Full}
 use Rattle.rbc_desk.specs.declared.granted.Granted.{Granted as GrantedAtDesk}
+use Rattle.rbc_desk.specs.Seats.{Seated}
 use Rattle.rbc_snap.specs.Later.{IsLater}
 use Rattle.rbc_snap.specs.declared.faults.EyeFault.{EyeFault}
 use Rattle.rbc_snap.specs.declared.faults.EyeFault.TheVariants.{Behind, Unshown}
@@ -57,6 +58,30 @@ pub record IsAnsweredThen (begun after : HistoryOnTrack) (train : ℕ) (answer :
   pub later : IsLater begun before
   pub answered : IsAnswered before train answer
   pub told : after ≡ after_answer before answer
+
+-- What is granted to a train that asked means what it says, where this is told: its receipt is that of the grant, which is entered at its place; the
+-- train is the one that asked; and the grant is the best for what it is shown, with the profiles that the rules choose.
+pub record Means (told : HistoryOnTrack) (asker : ℕ) (granted : GrantedAtDesk) : Type 0 where
+  pub entry : granted.receipt.entry ≡ Granted granted.candidate.grant
+  pub place : slice_get told.entries granted.receipt.place ≡ Some granted.receipt.entry
+  pub train : granted.candidate.view.train ≡ asker
+  pub best : IsCandidateOf granted.candidate.view granted.candidate.grant
+  pub chosen : HasChosenProfiles granted.candidate.view granted.candidate.grant
+
+-- What a train that asks from a seat is answered. The seat gains the receipt of what is granted, and nothing else.
+pub record IsAnsweredAt (had has : Seated) (train : ℕ) (answer : Result GrantedAtDesk (OrMemory AskFault)) : Type 0 where
+  pub since : IsAnsweredThen had.told has.told train answer
+  pub later : IsLater had.told has.told
+  pub receipt : IfOk answer (λ granted. has.receipts ≡ had.receipts ++ granted.receipt ∷ [])
+  pub means : IfOk answer (Means has.told train)
+  pub refused : OnErr answer (has.receipts ≡ had.receipts)
+
+-- What a try from a seat comes to: an answer, or nothing. Then the seat has the receipts that it had.
+pub record IsTriedAt (had has : Seated) (train : ℕ) (tried : Result (Option GrantedAtDesk) (OrMemory AskFault)) : Type 0 where
+  pub later : IsLater had.told has.told
+  pub answered : IfOk tried (λ answer. IfSome answer (λ granted. IsAnsweredAt had has train (Ok granted)))
+  pub stale : IfOk tried (λ answer. IfNone answer (has.receipts ≡ had.receipts))
+  pub denied : IfErr tried (λ fault. IsAnsweredAt had has train (Err fault))
 
 -- what an eye shows, as a try; nothing where it is behind
 abbrev pub seen_by : Result (View × ℕ) (OrMemory EyeFault) → Result (Option (View × ℕ)) (OrMemory AskFault)

@@ -1,14 +1,12 @@
 //! The desk.
 
 ghost use Rattle.std.specs.Prelude.{◌≡◌, ◌+◌, ◌-◌, ◌≤◌, ◌<◌, ◌++◌, ◌∷◌, [], length, take, vec_len, true};
-ghost use Rattle.std.specs.Prelude.{map, replicate, slice_get, All, Some, Ok, Err, IfOk, IfErr, IfSome, IfNone, OnErr};
-ghost use Rattle.rbc_grant_laws.specs.Candidates.{IsCandidateOf};
-ghost use Rattle.rbc_model.specs.Histories.{Granted as GrantedEntry, Heard, IsLegal, Matches};
-ghost use Rattle.rbc_snap.specs.Candidates.{HasChosenProfiles};
+ghost use Rattle.std.specs.Prelude.{map, replicate, slice_get, All, Some, Ok, Err, IfOk, IfErr, IfSome, OnErr};
+ghost use Rattle.rbc_model.specs.Histories.{Heard, IsLegal, Matches};
 ghost use Rattle.rbc_snap.specs.Present.{has_train};
 ghost use Rattle.rbc_snap.specs.Steps.{IsOfTrack};
 ghost use Rattle.rbc_snap.specs.Later.{IsLater};
-ghost use Rattle.rbc_desk.specs.Asking.{seen_by, IsAnsweredThen};
+ghost use Rattle.rbc_desk.specs.Asking.{seen_by, IsAnsweredAt, IsAnsweredThen, IsTriedAt};
 ghost use Rattle.rbc_desk.specs.Closing.{all_receipts, IsUnmatched};
 ghost use Rattle.rbc_desk.specs.Seats.{seated};
 ghost use Rattle.rbc_desk.specs.Telling.{IsToldThen};
@@ -200,9 +198,7 @@ impl<L: DeskName> Desk<L> {
     /// Why a train that asks is granted nothing, where its caller has no memory for it: `UnknownTrain` or `Memory`. The seat
     /// is told the history that this speaks of, and has no new receipt.
     pub fn ask_in_vain<R: Wait>(&self, rt: &R, seat: &mut Seat<L>, train: u32) -> OrMemory<AskFault>
-        ensures since { IsAnsweredThen seat.old.told seat.new.told train (Err result) }
-        ensures later { IsLater seat.old.told seat.new.told }
-        ensures receipts { seat.new.receipts ≡ seat.old.receipts }
+        ensures { IsAnsweredAt seat.old seat.new train (Err result) }
     {
         let shared = self.shared.lock(rt);
         let fault = (*shared).ask_in_vain(rt, seat, train);
@@ -235,16 +231,7 @@ impl<L: DeskName> Desk<L> {
         train: u32,
         gate: &G,
     ) -> Result<Granted, OrMemory<AskFault>>
-        ensures since { IsAnsweredThen seat.old.told seat.new.told train result }
-        ensures later { IsLater seat.old.told seat.new.told }
-        ensures receipt { IfOk result (λ granted. seat.new.receipts ≡ seat.old.receipts ++ granted.receipt ∷ []) }
-        ensures entry { IfOk result (λ granted. granted.receipt.entry ≡ GrantedEntry granted.candidate.grant) }
-        ensures place { IfOk result (λ granted.
-            slice_get seat.new.told.entries granted.receipt.place ≡ Some granted.receipt.entry) }
-        ensures train { IfOk result (λ granted. granted.candidate.view.train ≡ train) }
-        ensures best { IfOk result (λ granted. IsCandidateOf granted.candidate.view granted.candidate.grant) }
-        ensures chosen { IfOk result (λ granted. HasChosenProfiles granted.candidate.view granted.candidate.grant) }
-        ensures refused { OnErr result (seat.new.receipts ≡ seat.old.receipts) }
+        ensures { IsAnsweredAt seat.old seat.new train result }
     {
         self.ask_by(rt, rt, alloc, seat, train, gate)
     }
@@ -263,34 +250,7 @@ impl<L: DeskName> Desk<L> {
         train: u32,
         gate: &G,
     ) -> Result<Granted, OrMemory<AskFault>>
-        ensures since { IsAnsweredThen seat.old.told seat.new.told train result }
-        ensures later { IsLater seat.old.told seat.new.told }
-        ensures receipt { IfOk result (λ granted. seat.new.receipts ≡ seat.old.receipts ++ granted.receipt ∷ []) }
-        ensures entry { IfOk result (λ granted. granted.receipt.entry ≡ GrantedEntry granted.candidate.grant) }
-        ensures place { IfOk result (λ granted.
-            slice_get seat.new.told.entries granted.receipt.place ≡ Some granted.receipt.entry) }
-        ensures train { IfOk result (λ granted. granted.candidate.view.train ≡ train) }
-        ensures best { IfOk result (λ granted. IsCandidateOf granted.candidate.view granted.candidate.grant) }
-        ensures chosen { IfOk result (λ granted. HasChosenProfiles granted.candidate.view granted.candidate.grant) }
-        ensures refused { OnErr result (seat.new.receipts ≡ seat.old.receipts) }
-    {
-        self.grant_or_refuse(rt, waiting, alloc, seat, train, gate)
-    }
-
-    /// The tries, one after the other.
-    fn grant_or_refuse<T: Threads + Sync, R: Wait, G: Gate>(
-        &self,
-        rt: &T,
-        waiting: &R,
-        alloc: Global,
-        seat: &mut Seat<L>,
-        train: u32,
-        gate: &G,
-    ) -> Result<Granted, OrMemory<AskFault>>
-        ensures since { IsAnsweredThen seat.old.told seat.new.told train result }
-        ensures later { IsLater seat.old.told seat.new.told }
-        ensures receipt { IfOk result (λ granted. seat.new.receipts ≡ seat.old.receipts ++ granted.receipt ∷ []) }
-        ensures refused { OnErr result (seat.new.receipts ≡ seat.old.receipts) }
+        ensures { IsAnsweredAt seat.old seat.new train result }
     {
         match self.try_outside(rt, waiting, alloc, seat, train, gate) {
             Ok(Some(granted)) => Ok(granted),
@@ -310,14 +270,7 @@ impl<L: DeskName> Desk<L> {
         train: u32,
         gate: &G,
     ) -> Result<Option<Granted>, OrMemory<AskFault>>
-        ensures later { IsLater seat.old.told seat.new.told }
-        ensures receipt { IfOk result (λ tried. IfSome tried (λ granted.
-            seat.new.receipts ≡ seat.old.receipts ++ granted.receipt ∷ [])) }
-        ensures stale { IfOk result (λ tried. IfNone tried (seat.new.receipts ≡ seat.old.receipts)) }
-        ensures refused { OnErr result (seat.new.receipts ≡ seat.old.receipts) }
-        ensures answered { IfOk result (λ tried. IfSome tried (λ granted.
-            IsAnsweredThen seat.old.told seat.new.told train (Ok granted))) }
-        ensures denied { IfErr result (λ fault. IsAnsweredThen seat.old.told seat.new.told train (Err fault)) }
+        ensures { IsTriedAt seat.old seat.new train result }
     {
         seat.known();
         for _try in 0..TRIES {
@@ -342,15 +295,7 @@ impl<L: DeskName> Desk<L> {
         seat: &mut Seat<L>,
         candidate: Candidate,
     ) -> Result<Option<Granted>, OrMemory<AskFault>>
-        ensures receipt { IfOk result (λ tried. IfSome tried (λ granted.
-            seat.new.receipts ≡ seat.old.receipts ++ granted.receipt ∷ [])) }
-        ensures stale { IfOk result (λ tried. IfNone tried (seat.new.receipts ≡ seat.old.receipts)) }
-        ensures refused { OnErr result (seat.new.receipts ≡ seat.old.receipts) }
-        ensures later { IsLater seat.old.told seat.new.told }
-        ensures answered { IfOk result (λ tried. IfSome tried (λ granted.
-            IsAnsweredThen seat.old.told seat.new.told candidate.view.train (Ok granted))) }
-        ensures denied { IfErr result (λ fault.
-            IsAnsweredThen seat.old.told seat.new.told candidate.view.train (Err fault)) }
+        ensures { IsTriedAt seat.old seat.new candidate.view.train result }
     {
         let mut shared = self.shared.lock(rt);
         let answer = (*shared).commit(rt, alloc, seat, candidate);
@@ -367,10 +312,7 @@ impl<L: DeskName> Desk<L> {
         seat: &mut Seat<L>,
         train: u32,
     ) -> Result<Granted, OrMemory<AskFault>>
-        ensures receipt { IfOk result (λ granted. seat.new.receipts ≡ seat.old.receipts ++ granted.receipt ∷ []) }
-        ensures refused { OnErr result (seat.new.receipts ≡ seat.old.receipts) }
-        ensures later { IsLater seat.old.told seat.new.told }
-        ensures answered { IsAnsweredThen seat.old.told seat.new.told train result }
+        ensures { IsAnsweredAt seat.old seat.new train result }
     {
         let mut shared = self.shared.lock(waiting);
         let answer = (*shared).grant(rt, waiting, alloc, seat, train);

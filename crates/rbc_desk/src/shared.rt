@@ -9,17 +9,15 @@ ghost use Rattle.rbc_grant_laws.specs.Candidates.{IsCandidateOf};
 ghost use Rattle.rbc_snap.specs.Candidates.{HasChosenProfiles};
 ghost use Rattle.rbc_snap.specs.Entering.{EntersOrMemory, entry_granted};
 ghost use Rattle.rbc_snap.specs.Present.{has_train};
-ghost use Rattle.rbc_snap.specs.Records.{is_full};
 ghost use Rattle.rbc_snap.specs.Steps.{IsOfTrack};
 ghost use Rattle.rbc_desk.specs.Closing.{all_receipts, IsUnmatchedIn};
 ghost use Rattle.rbc_desk.specs.Trains.{numbers_of};
 ghost use Rattle.rbc_snap.specs.Later.{IsLater};
-ghost use Rattle.rbc_desk.specs.Asking.{fault_at, shown, tried, IsRefused, IsAnsweredThen, Tries};
+ghost use Rattle.rbc_desk.specs.Asking.{fault_at, shown, tried, IsAnsweredAt, IsRefused, IsTriedAt, Tries};
 ghost use Rattle.rbc_desk.specs.Telling.{IsToldThen};
 
 use crate::closing::{find_seats, merge_all};
 use crate::{AskFault, CloseFault, DeskName, Granted, Seat};
-use rbc_model::limits::MOST_ENTRIES;
 use rbc_model::{Memory, OrMemory, Told, ViewFault};
 use rbc_snap::{ApplyFault, Candidate, CommitFault, Eye, Press, Receipt, Record, View, candidate};
 use std::alloc::Global;
@@ -51,13 +49,6 @@ pub(crate) struct Shared<L: DeskName> {
     pub(crate) ghost none_found: { list_any (λ b. b) found.items ≡ false },
     pub(crate) ghost no_part: { rest.parts ≡ 0 },
     pub(crate) ghost no_amount: { rest.amount ≡ 0 },
-}
-
-/// Whether the record takes no more entries.
-fn is_full(log: &Record) -> bool
-    ensures { result ≡ is_full log.now }
-{
-    log.version() >= MOST_ENTRIES as u64
 }
 
 /// Whether the train that was shown the candidate's view is there.
@@ -118,9 +109,8 @@ pub(crate) fn fault_at(version: u64, fault: ViewFault) -> AskFault
 fn trains_of(alloc: Global, log: &Record) -> Result<Vec<u32>, Memory>
     ensures { IfOk result (λ numbers. numbers.items ≡ numbers_of log.now) }
 {
-    let scene = log.snapshot(alloc)?;
     let mut numbers = Vec::new(alloc);
-    for train in scene.book().trains() {
+    for train in log.scene().book().trains() {
         numbers.push(train.number())?;
     }
     Ok(numbers)
@@ -231,9 +221,7 @@ impl<L: DeskName> Shared<L> {
         seat: &mut Seat<L>,
         train: u32,
     ) -> OrMemory<AskFault>
-        ensures answered { IsAnsweredThen seat.old.told seat.new.told train (Err result) }
-        ensures later { IsLater seat.old.told seat.new.told }
-        ensures receipts { seat.new.receipts ≡ seat.old.receipts }
+        ensures { IsAnsweredAt seat.old seat.new train (Err result) }
     {
         self.bring(rt, seat);
         if self.log.has_train(train) {
@@ -266,15 +254,7 @@ impl<L: DeskName> Shared<L> {
         seat: &mut Seat<L>,
         candidate: Candidate,
     ) -> Result<Option<Granted>, OrMemory<AskFault>>
-        ensures receipt { IfOk result (λ tried. IfSome tried (λ granted.
-            seat.new.receipts ≡ seat.old.receipts ++ granted.receipt ∷ [])) }
-        ensures stale { IfOk result (λ tried. IfNone tried (seat.new.receipts ≡ seat.old.receipts)) }
-        ensures refused { OnErr result (seat.new.receipts ≡ seat.old.receipts) }
-        ensures later { IsLater seat.old.told seat.new.told }
-        ensures answered { IfOk result (λ tried. IfSome tried (λ granted.
-            IsAnsweredThen seat.old.told seat.new.told candidate.view.train (Ok granted))) }
-        ensures denied { IfErr result (λ fault.
-            IsAnsweredThen seat.old.told seat.new.told candidate.view.train (Err fault)) }
+        ensures comes { IsTriedAt seat.old seat.new candidate.view.train result }
         ensures current { shown self.old.log candidate.view.train ≡ Ok candidate.view → result ≢ Ok None }
     {
         candidate.known();
@@ -318,7 +298,7 @@ impl<L: DeskName> Shared<L> {
         if !is_there(log, candidate) {
             return Err(OrMemory::Refused(AskFault::UnknownTrain));
         }
-        if is_full(log) {
+        if log.is_full() {
             return Err(OrMemory::Refused(AskFault::Full));
         }
         found.reserve(1)?;
@@ -342,10 +322,7 @@ impl<L: DeskName> Shared<L> {
         seat: &mut Seat<L>,
         train: u32,
     ) -> Result<Granted, OrMemory<AskFault>>
-        ensures receipt { IfOk result (λ granted. seat.new.receipts ≡ seat.old.receipts ++ granted.receipt ∷ []) }
-        ensures refused { OnErr result (seat.new.receipts ≡ seat.old.receipts) }
-        ensures later { IsLater seat.old.told seat.new.told }
-        ensures answered { IsAnsweredThen seat.old.told seat.new.told train result }
+        ensures { IsAnsweredAt seat.old seat.new train result }
     {
         self.bring(waiting, seat);
         let (view, version) = self.look(alloc, train)?;

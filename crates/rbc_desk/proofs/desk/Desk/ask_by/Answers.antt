@@ -1,17 +1,7 @@
-use Rattle.rbc_desk.proofs.AskingLemmas.{since_place, since_entry, since_train, since_best, since_chosen}
+use Rattle.std.proofs.Common.{refl}
+use Rattle.rbc_desk.proofs.AskingLemmas.{answered_since}
 use Rattle.rbc_desk.proofs.desk.Desk.ask_by.Goals as goal
 
-pub returns-clause-place : goal.returns-clause-place
-returns-clause-place g c = since_place c.args.seat.now.told c.grant_or_refuse.new.seat.told c.args.train c.grant_or_refuse.result c.grant_or_refuse.ensures.since
-
-pub returns-clause-entry : goal.returns-clause-entry
-returns-clause-entry g c = since_entry c.args.seat.now.told c.grant_or_refuse.new.seat.told c.args.train c.grant_or_refuse.result c.grant_or_refuse.ensures.since
-
-pub returns-clause-train : goal.returns-clause-train
-returns-clause-train g c = since_train c.args.seat.now.told c.grant_or_refuse.new.seat.told c.args.train c.grant_or_refuse.result c.grant_or_refuse.ensures.since
-
-pub returns-clause-best : goal.returns-clause-best
-returns-clause-best g c = since_best c.args.seat.now.told c.grant_or_refuse.new.seat.told c.args.train c.grant_or_refuse.result c.grant_or_refuse.ensures.since
-
-pub returns-clause-chosen : goal.returns-clause-chosen
-returns-clause-chosen g c = since_chosen c.args.seat.now.told c.grant_or_refuse.new.seat.told c.args.train c.grant_or_refuse.result c.grant_or_refuse.ensures.since
+pub returns-in-Ok-None : goal.returns-in-Ok-None
+returns-in-Ok-None g c =
+    answered_since c.args.seat.now c.try_outside.new.seat c.grant.new.seat c.in-Ok-None.ensures.later (rw c.in-Ok-None.field-0-is at c.in-Ok-None.ensures.stale) c.args.train c.args.train c.grant.result refl c.grant.ensures

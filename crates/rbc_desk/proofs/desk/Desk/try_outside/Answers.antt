@@ -1,21 +1,22 @@
-use Rattle.std.proofs.Common.{rules, ◌≡◌}
+use Rattle.std.proofs.Common.{rules, ◌≡◌, Ok, Err, ◌∙◌}
 use Rattle.rbc_snap.proofs.LaterLemmas.{later_still}
-use Rattle.rbc_desk.proofs.AskingLemmas.{since_asked}
+use Rattle.rbc_desk.proofs.AskingLemmas.{answered_since}
 use Rattle.rbc_desk.proofs.desk.Desk.try_outside.Goals as goal
 
-pub returns-in-Err-clause-denied : goal.returns-in-Err-clause-denied
-returns-in-Err-clause-denied g c =
+pub returns-in-Err : goal.returns-in-Err
+returns-in-Err g c =
     let told = later_still c.args.seat.now.told c.loop-try.seat.told c.look.new.seat.told c.loop-try.invariant.1 c.look.ensures.later in
+    let none = c.look.ensures.receipts ∙ c.loop-try.invariant.0 in
     let train : c.in_ok-candidate.candidate.view.train ≡ c.args.train = search rules in
-    since_asked c.args.seat.now.told c.look.new.seat.told c.commit.new.seat.told c.in_ok-candidate.candidate.view.train c.args.train _ told train c.in-Err.ensures.denied
+    let denied = answered_since c.args.seat.now c.look.new.seat c.commit.new.seat told none c.in_ok-candidate.candidate.view.train c.args.train (Err c.in-Err.fault) train c.in-Err.ensures.denied in
+    record { later = denied.later; answered = tt; stale = tt; denied = denied }
 
-pub returns-in-Ok-Some-clause-later : goal.returns-in-Ok-Some-clause-later
-returns-in-Ok-Some-clause-later g c =
+pub returns-in-Ok-Some : goal.returns-in-Ok-Some
+returns-in-Ok-Some g c =
     let told = later_still c.args.seat.now.told c.loop-try.seat.told c.look.new.seat.told c.loop-try.invariant.1 c.look.ensures.later in
-    later_still c.args.seat.now.told c.look.new.seat.told c.commit.new.seat.told told c.commit.ensures.later
-
-pub returns-in-Ok-Some-clause-answered : goal.returns-in-Ok-Some-clause-answered
-returns-in-Ok-Some-clause-answered g c =
-    let told = later_still c.args.seat.now.told c.loop-try.seat.told c.look.new.seat.told c.loop-try.invariant.1 c.look.ensures.later in
+    let none = c.look.ensures.receipts ∙ c.loop-try.invariant.0 in
     let train : c.in_ok-candidate.candidate.view.train ≡ c.args.train = search rules in
-    since_asked c.args.seat.now.told c.look.new.seat.told c.commit.new.seat.told c.in_ok-candidate.candidate.view.train c.args.train _ told train (rw c.in-Ok-Some.field-0-is at c.in-Ok-Some.ensures.answered)
+    let answered =
+    answered_since c.args.seat.now c.look.new.seat c.commit.new.seat told none c.in_ok-candidate.candidate.view.train c.args.train (Ok c.in-Ok-Some.granted) train
+    (rw c.in-Ok-Some.field-0-is at c.in-Ok-Some.ensures.answered) in
+    record { later = answered.later; answered = answered; stale = tt; denied = tt }
