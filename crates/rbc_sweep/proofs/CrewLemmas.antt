@@ -4,7 +4,7 @@ use Rattle.std.specs.List.{AllZip, flat_map, slice_get}
 use Rattle.std.specs.List.Sorted.{IsPermutation}
 use Rattle.std.proofs.lemmas.List.{append-nil, length-take, map-append, take_all, take_at, take-take}
 use Rattle.std.proofs.lemmas.List.Concat.{flat_map-append}
-use Rattle.std.proofs.lemmas.List.Elements.{All-append, All-nil}
+use Rattle.std.proofs.lemmas.List.Elements.{All-append, All-nil, All-weaker}
 use Rattle.std.proofs.lemmas.List.Sorted.{IsPermutation-append_left, IsPermutation-append_right, IsPermutation-refl, IsPermutation-trans}
 use Rattle.rbc_model.specs.Histories.{Receipt}
 use Rattle.rbc_desk.specs.Seats.{Seated}
@@ -16,7 +16,7 @@ use Rattle.rbc_sweep.specs.declared.order.Done.{Done}
 use Rattle.rbc_sweep.specs.Jobs.{tally}
 use Rattle.rbc_sweep.specs.Outcomes.{AreFirst, AreTrainsOfFirst, Begins, IsTold, IsToldToOne, receipts_each, receipts_of}
 use Rattle.rbc_sweep.specs.declared.outcome.Outcome.{Outcome}
-use Rattle.rbc_sweep.proofs.WorkLemmas.{all_through, begins_itself, begins_still, told_wider}
+use Rattle.rbc_sweep.proofs.WorkLemmas.{begins_itself, begins_still, told_wider}
 use Rattle.rbc_sweep.specs.Serving.{HasServed, HaveGained, job_of, joined, jobs, receipts_in}
 use Rattle.rbc_sweep.proofs.Permutations.{inner_swapped}
 
@@ -224,8 +224,8 @@ module _ {W : Type 0} (seat : W → Seated) (known : W → Tally) (done : W → 
       let had = map seat ws in
       let has = map seat vs in
       All-append (λ (d : Done). IsToldToOne (one ∷ had) (other ∷ has) d.outcome) (done v) (flat_map done vs)
-      (all_through (λ (d : Done). IsTold one other d.outcome) (λ (d : Done). IsToldToOne (one ∷ had) (other ∷ has) d.outcome) (done v) (λ d t. told_first one other had has d.outcome t) p.0.told)
-      (all_through (λ (d : Done). IsToldToOne had has d.outcome) (λ (d : Done). IsToldToOne (one ∷ had) (other ∷ has) d.outcome) (flat_map done vs) (λ d t. told_next one other had has d.outcome t) (crew_told ws vs p.1))
+      (All-weaker (λ (d : Done). IsTold one other d.outcome) (λ (d : Done). IsToldToOne (one ∷ had) (other ∷ has) d.outcome) (λ d t. told_first one other had has d.outcome t) (done v) p.0.told)
+      (All-weaker (λ (d : Done). IsToldToOne had has d.outcome) (λ (d : Done). IsToldToOne (one ∷ had) (other ∷ has) d.outcome) (λ d t. told_next one other had has d.outcome t) (flat_map done vs) (crew_told ws vs p.1))
 
   pub crew_long : (ws vs : List W) → AllZip HasWorked ws vs → length vs ≡ length ws
   crew_long [] [] p = refl

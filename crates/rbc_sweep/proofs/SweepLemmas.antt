@@ -4,7 +4,7 @@ use Rattle.std.specs.List.{All, AllZip, flat_map, sum_by}
 use Rattle.std.specs.List.Sorted.{IsPermutation}
 use Rattle.std.proofs.lemmas.List.{append-nil, length-map}
 use Rattle.rbc_desk.specs.Closing.{all_receipts}
-use Rattle.std.proofs.lemmas.List.Elements.{All-append, All-map, All-same}
+use Rattle.std.proofs.lemmas.List.Elements.{All-append, All-map, All-same, All-weaker}
 use Rattle.std.proofs.lemmas.List.Sorted.{All-permutation, IsPermutation-append_comm, IsPermutation-sym, IsPermutation-trans}
 use Rattle.std.proofs.lemmas.List.Sums.{sum_by-append}
 use Rattle.rbc_model.specs.Histories.{Receipt}
@@ -15,34 +15,27 @@ use Rattle.rbc_sweep.specs.declared.outcome.Outcome.{Outcome}
 use Rattle.rbc_sweep.specs.Jobs.{all_parts, numbered, tally, AreSameJobs}
 use Rattle.rbc_desk.specs.Seats.{Seated}
 use Rattle.rbc_sweep.specs.Outcomes.{AreFirst, AreTrainsOfFirst, IsToldToOne, granted, receipts_each, receipts_of, train_of}
-use Rattle.rbc_sweep.specs.Serving.{HaveGained, job_of, joined, jobs, outcome_of, receipts_in}
+use Rattle.rbc_sweep.specs.Serving.{HaveGained, HaveWorked, job_of, joined, jobs, outcome_of, receipts_in}
 use Rattle.rbc_sweep.proofs.CrewLemmas.{HasWorked, HaveGained-moved, HaveGained-trans, crew_gained, crew_known, crew_long, crew_told, kept-trans, kept_either, told_before, told_behind, flat_map-map, jobs-append, receipts_in-append}
-use Rattle.rbc_sweep.proofs.WorkLemmas.{all_through, begins_still}
+use Rattle.rbc_sweep.proofs.WorkLemmas.{begins_still}
 use Rattle.rbc_sweep.proofs.JobLemmas.{count, length-numbered}
 use Rattle.rbc_sweep.proofs.Permutations.{IsPermutation-flat_map}
 
--- what is known when all workers have come back
-pub record Gathered (trains : List ℕ) (had back : List Seated) (all : Tally) (others : List Done) : Type 0 where
-  pub together : all ≡ tally all_parts (numbered 0 trains) (jobs others)
-  pub gained : HaveGained had back (receipts_in others)
-  pub told : All (λ (d : Done). IsToldToOne had back d.outcome) others
-  pub as_many : length back ≡ length had
-
-module _ {W : Type 0} (seat : W → Seated) (known : W → Tally) (done : W → List Done) (trains : List ℕ) where
+module _ {W : Type 0} (seat : W → Seated) (known : W → Tally) (done : W → List Done) where
   pub gathered : (had back : List Seated) (ws vs : List W) (others : List Done) (u v all : Tally) (n : ℕ)
       → AllZip (HasWorked seat known done) ws vs → map seat ws ≡ had → length had ≡ n → n < all_parts
-      → u ≡ tally all_parts (numbered 0 trains) [] → v ≡ tally (u.parts - n) u.put u.taken → all ≡ fold joined v (map known vs)
-      → back ≡ map seat vs → others ≡ flat_map done vs → Gathered trains had back all others
-  gathered had back ws vs others u v all n worked hired many few fresh lent joins given lists =
+      → u.parts ≡ all_parts → u.taken ≡ [] → v ≡ tally (u.parts - n) u.put u.taken → all ≡ fold joined v (map known vs)
+      → back ≡ map seat vs → others ≡ flat_map done vs → HaveWorked u.put had back all others
+  gathered had back ws vs others u v all n worked hired many few whole fresh lent joins given lists =
       let long : length vs ≡ length ws = crew_long seat known done ws vs worked in
       let wide : length ws ≡ n = sym (length-map ws seat) ∙ ap length hired ∙ many in
-      let start : v ≡ tally (all_parts - n) (numbered 0 trains) [] = lent ∙ ap (λ (t : Tally). tally (t.parts - n) t.put t.taken) fresh in
+      let start : v ≡ tally (all_parts - n) u.put [] = lent ∙ ap (λ (k : ℕ). tally (k - n) u.put u.taken) whole ∙ ap (λ (l : List Job). tally (all_parts - n) u.put l) fresh in
       let parts : all_parts - n + length vs ≡ all_parts = omega arith in
       record {
         together = joins ∙ ap (λ (t : Tally). fold joined t (map known vs)) start
-            ∙ crew_known seat known done (tally (all_parts - n) (numbered 0 trains) []) ws vs worked
-            ∙ ap (λ (k : ℕ). tally k (numbered 0 trains) (jobs (flat_map done vs))) parts
-            ∙ ap (λ (l : List Done). tally all_parts (numbered 0 trains) (jobs l)) (sym lists);
+            ∙ crew_known seat known done (tally (all_parts - n) u.put []) ws vs worked
+            ∙ ap (λ (k : ℕ). tally k u.put (jobs (flat_map done vs))) parts
+            ∙ ap (λ (l : List Done). tally all_parts u.put (jobs l)) (sym lists);
         gained = subst (λ (l : List Done). HaveGained had back (receipts_in l)) (sym lists)
             (subst (λ (b : List Seated). HaveGained had b (receipts_in (flat_map done vs))) (sym given)
             (subst (λ (a : List Seated). HaveGained a (map seat vs) (receipts_in (flat_map done vs))) hired (crew_gained seat known done ws vs worked)));
@@ -53,9 +46,10 @@ module _ {W : Type 0} (seat : W → Seated) (known : W → Tally) (done : W → 
       }
 
 -- what the last seat did, and what the others did, is the list
-pub same_jobs : (trains : List ℕ) (all : Tally) (last others : List Done) → all ≡ tally all_parts (numbered 0 trains) (jobs others) → AreSameJobs all.put (all.taken ++ jobs last)
-    → AreSameJobs (numbered 0 trains) (jobs (last ++ others))
-same_jobs trains all last others together settled = λ weight.
+pub same_jobs : (trains : List ℕ) (fresh all : Tally) (last others : List Done) → fresh ≡ tally all_parts (numbered 0 trains) [] → all ≡ tally all_parts fresh.put (jobs others)
+    → AreSameJobs all.put (all.taken ++ jobs last) → AreSameJobs (numbered 0 trains) (jobs (last ++ others))
+same_jobs trains fresh all last others is worked settled = λ weight.
+    let together : all ≡ tally all_parts (numbered 0 trains) (jobs others) = worked ∙ ap (λ (t : Tally). tally all_parts t.put (jobs others)) is in
     let either : sum_by weight (jobs others) + sum_by weight (jobs last) ≡ sum_by weight (jobs last) + sum_by weight (jobs others) = omega arith in
     sym (ap (λ (t : Tally). sum_by weight t.put) together) ∙ settled weight ∙ ap (λ (t : Tally). sum_by weight (t.taken ++ jobs last)) together
     ∙ sum_by-append weight (jobs others) (jobs last) ∙ either ∙ sym (sum_by-append weight (jobs last) (jobs others))
@@ -91,8 +85,8 @@ outcomes_told had back has gained more last others done outcomes crew finish by_
     All-permutation (IsToldToOne had has) (map outcome_of done) outcomes moved
     (All-map (IsToldToOne had has) outcome_of done
     (All-same P done (last ++ others) is (All-append P last others
-    (all_through (λ (d : Done). IsToldToOne back has d.outcome) P last (λ d t. told_before had back has d.outcome crew.kept t) by_last)
-    (all_through (λ (d : Done). IsToldToOne had back d.outcome) P others (λ d t. told_behind had back has d.outcome finish.kept t) by_others))))
+    (All-weaker (λ (d : Done). IsToldToOne back has d.outcome) P (λ d t. told_before had back has d.outcome crew.kept t) last by_last)
+    (All-weaker (λ (d : Done). IsToldToOne had back d.outcome) P (λ d t. told_behind had back has d.outcome finish.kept t) others by_others))))
 
 -- ---- one of the seats was told which trains there are, and then they were served
 
@@ -129,5 +123,5 @@ swept_kept r had mid has got first ok err = kept-trans had mid has first.kept (k
 pub swept_told : {A E : Type 0} (r : Result A E) (had mid has : List Seated) (outcomes : A → List Outcome) → HaveGained had mid [] → IfOk r (λ x. All (IsToldToOne mid has) (outcomes x))
     → IfOk r (λ x. All (IsToldToOne had has) (outcomes x))
 swept_told (Ok x) had mid has outcomes first ok =
-    all_through (IsToldToOne mid has) (IsToldToOne had has) (outcomes x) (λ o t. told_before had mid has o first.kept t) ok
+    All-weaker (IsToldToOne mid has) (IsToldToOne had has) (λ o t. told_before had mid has o first.kept t) (outcomes x) ok
 swept_told (Err e) had mid has outcomes first ok = tt

@@ -1,5 +1,5 @@
 -- What a worker has done, train by train.
-use Rattle.std.proofs.Common.{All, get_or, length, take, ◌≤◌, refl, arith, ◌≡◌, ℕ, List, [], ◌∷◌, ◌++◌, Result, Ok, Err, IfOk, OnErr, OnOk, false, sym, ap, ◌∙◌, subst, append_assoc}
+use Rattle.std.proofs.Common.{All, length, take, ◌≤◌, refl, arith, ◌≡◌, ℕ, List, [], ◌∷◌, ◌++◌, Result, Ok, Err, IfOk, OnErr, OnOk, false, sym, ap, ◌∙◌, subst, append_assoc}
 use Rattle.std.specs.Result.{is_err}
 use Rattle.std.proofs.lemmas.List.{append-nil, length-take, map_push, take_all, take-take}
 use Rattle.rbc_desk.specs.Later.{IsLater}
@@ -7,7 +7,7 @@ use Rattle.rbc_desk.specs.Seats.{Seated}
 use Rattle.rbc_desk.specs.Asking.{IsAnswered, IsAnsweredThen, after_answer}
 use Rattle.rbc_sweep.specs.declared.outcome.Outcome.{Outcome}
 use Rattle.std.proofs.lemmas.List.Concat.{flat_map-append}
-use Rattle.std.proofs.lemmas.List.Elements.{All-nil, All-push}
+use Rattle.std.proofs.lemmas.List.Elements.{All-nil, All-push, All-weaker}
 use Rattle.rbc_model.specs.declared.memory.OrMemory.{OrMemory}
 use Rattle.rbc_model.specs.Histories.{Receipt}
 use Rattle.rbc_desk.specs.Records.{HistoryOnTrack}
@@ -76,9 +76,6 @@ told_wider first had has last outcome less more t = record {
   answered = t.answered;
 }
 
-pub all_through : {X : Type 0} (P Q : X → Type 0) (xs : List X) → ((x : X) → P x → Q x) → All P xs → All Q xs
-all_through P Q xs f h k d inside = f (get_or xs k d) (h k d inside)
-
 -- ---- one train more
 
 pub served_none : (v : Tally) (had : Seated) (done : List Done) → done ≡ [] → HasServed v had v had done
@@ -106,8 +103,8 @@ served_more old had new next has gains done one job served took same gained late
       gained ∙ ap (λ l. l ++ mine) served.gained ∙ append_assoc had.receipts (receipts_in done) mine ∙ ap (λ l. had.receipts ++ l) (sym more));
   begins = begins_still had.told has.told gains.told served.begins (begins_later has.told gains.told later);
   told = All-push (λ (d : Done). IsTold had gains d.outcome) done one
-      (all_through (λ (d : Done). IsTold had has d.outcome) (λ (d : Done). IsTold had gains d.outcome) done
-      (λ d t. told_wider had had has gains d.outcome (begins_itself had.told) (begins_later has.told gains.told later) t) served.told)
+      (All-weaker (λ (d : Done). IsTold had has d.outcome) (λ (d : Done). IsTold had gains d.outcome)
+      (λ d t. told_wider had had has gains d.outcome (begins_itself had.told) (begins_later has.told gains.told later) t) done served.told)
       (told_wider had has gains gains one.outcome served.begins (begins_itself gains.told) told);
 }
 

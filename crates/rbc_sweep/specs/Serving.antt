@@ -1,5 +1,5 @@
 -- What a worker has done, and what its seat gains by it.
-use Rattle.std.specs.Prelude.{◌≡◌, ℕ, ◌+◌, List, ◌++◌, All, IsPermutation, Vec, flat_map, map}
+use Rattle.std.specs.Prelude.{◌≡◌, ℕ, ◌+◌, List, ◌++◌, All, IsPermutation, Vec, flat_map, length, map}
 use Rattle.std.specs.List.{AllZip}
 use Rattle.crossbeam_queue.specs.Passes.{Pass, view}
 use Rattle.rbc_model.specs.Histories.{Receipt}
@@ -9,8 +9,8 @@ use Rattle.rbc_sweep.specs.declared.jobs.Job.{Job}
 use Rattle.rbc_sweep.specs.declared.jobs.Tally.{Tally}
 use Rattle.rbc_sweep.specs.declared.order.Done.{Done}
 use Rattle.rbc_sweep.specs.declared.outcome.Outcome.{Outcome}
-use Rattle.rbc_sweep.specs.Jobs.{tally}
-use Rattle.rbc_sweep.specs.Outcomes.{AreFirst, Begins, IsTold, receipts_of}
+use Rattle.rbc_sweep.specs.Jobs.{all_parts, tally}
+use Rattle.rbc_sweep.specs.Outcomes.{AreFirst, Begins, IsTold, IsToldToOne, receipts_of}
 
 -- the job that was done
 abbrev pub job_of : Done → Job
@@ -54,3 +54,10 @@ joined v w = tally (v.parts + w.parts) (v.put ++ w.put) (v.taken ++ w.taken)
 pub record HaveGained (had has : List Seated) (gained : List Receipt) : Type 0 where
   pub kept : AllZip AreFirst had has
   pub just : IsPermutation (all_receipts had ++ gained) (all_receipts has)
+
+-- Workers from these seats have done this of what was put, and came back. All parts are together again.
+pub record HaveWorked (put : List Job) (had back : List Seated) (all : Tally) (done : List Done) : Type 0 where
+  pub together : all ≡ tally all_parts put (jobs done)
+  pub gained : HaveGained had back (receipts_in done)
+  pub told : All (λ (d : Done). IsToldToOne had back d.outcome) done
+  pub as_many : length back ≡ length had

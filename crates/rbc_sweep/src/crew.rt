@@ -7,18 +7,19 @@ ghost use Rattle.crossbeam_queue.specs.Passes.{IsPassOf};
 ghost use Rattle.rbc_sweep.specs.Jobs.{all_parts, tally, AreSameJobs};
 ghost use Rattle.rbc_sweep.specs.declared.worker.Worker.{Worker};
 ghost use Rattle.rbc_sweep.specs.Outcomes.{IsToldToOne};
-ghost use Rattle.rbc_sweep.specs.Serving.{HasServed, HaveGained, joined, jobs, receipts_in, tally_of};
+ghost use Rattle.rbc_sweep.specs.Serving.{HasServed, HaveGained, HaveWorked, all_of, joined, jobs, receipts_in, tally_of};
 
 use crate::jobs::{JobPass, Queue, join, part_of};
 use crate::order::Done;
-use crate::worker::{Worker, serve};
-use rbc_desk::{Desk, DeskName, Gate, Seat};
-use std::alloc::Global;
+use crate::post::Post;
+use crate::room::CrewRoom;
+use crate::worker::Worker;
+use rbc_desk::{DeskName, Gate, Seat};
 use std::sync::Wait;
 use std::thread::{Threads, for_each_mut};
 
 /// A worker for each seat, with a part of the pass and a list for what it does.
-pub(crate) fn hire<L: DeskName>(
+fn hire<L: DeskName>(
     queue: &Queue,
     pass: &mut JobPass,
     seats: Vec<Seat<L>>,
@@ -46,61 +47,8 @@ pub(crate) fn hire<L: DeskName>(
     workers
 }
 
-/// Lets each worker serve, in a thread of its own where one can be started.
-fn serve_each<L: DeskName + Send + Sync, R: Threads + Wait + Sync, G: Gate + Sync>(
-    rt: &R,
-    alloc: Global,
-    queue: &Queue,
-    desk: &Desk<L>,
-    gate: &G,
-    workers: &mut [Worker<L>],
-)
-    requires { All (λ w. IsPassOf queue.now w.pass × (tally_of w.pass ≡ tally 1 [] []) × (w.done.items ≡ []))
-        workers.old }
-    ensures { (i : ℕ) (d : Worker L) → i < length workers.old → IsPassOf queue.now (slice_index_or workers.new i d).pass
-        × HasServed (tally 1 [] []) (slice_index_or workers.old i d).seat
-        (tally_of (slice_index_or workers.new i d).pass) (slice_index_or workers.new i d).seat
-        (slice_index_or workers.new i d).done.items }
-{
-    let threads = workers.len();
-    if threads == 0 {
-        return;
-    }
-    for_each_mut(
-        rt,
-        workers,
-        threads,
-        &|_i: usize, worker: &mut Worker<L>|
-            requires { IsPassOf queue.now worker.now.pass × (tally_of worker.now.pass ≡ tally 1 [] [])
-                × (worker.now.done.items ≡ []) }
-            ensures { IsPassOf queue.entry.now worker.exit.now.pass
-                × HasServed (tally 1 [] []) worker.entry.now.seat (tally_of worker.exit.now.pass)
-                worker.exit.now.seat worker.exit.now.done.items }
-        { serve(rt, alloc, queue, desk, gate, worker) },
-    );
-}
-
-/// The same for workers that are owned.
-pub(crate) fn serve_all<L: DeskName + Send + Sync, R: Threads + Wait + Sync, G: Gate + Sync>(
-    rt: &R,
-    alloc: Global,
-    queue: &Queue,
-    desk: &Desk<L>,
-    gate: &G,
-    mut workers: Vec<Worker<L>>,
-) -> Vec<Worker<L>>
-    requires { All (λ w. IsPassOf queue.now w.pass × (tally_of w.pass ≡ tally 1 [] []) × (w.done.items ≡ []))
-        workers.items }
-    ensures passes { All (λ w. IsPassOf queue.now w.pass) result.items }
-    ensures served { AllZip (λ w v. HasServed (tally 1 [] []) w.seat (tally_of v.pass) v.seat v.done.items)
-        workers.items result.items }
-{
-    serve_each(rt, alloc, queue, desk, gate, workers.as_mut_slice());
-    workers
-}
-
 /// The seats of the workers, and what each has done. The pass gets what theirs know.
-pub(crate) fn gather<L: DeskName>(
+fn gather<L: DeskName>(
     queue: &Queue,
     pass: &mut JobPass,
     workers: Vec<Worker<L>>,
@@ -125,30 +73,96 @@ pub(crate) fn gather<L: DeskName>(
     (seats, lists)
 }
 
-/// Serves from the last seat what still waits, with a pass that has all parts.
-pub(crate) fn finish<L: DeskName, R: Threads + Wait + Sync, G: Gate>(
-    rt: &R,
-    alloc: Global,
-    queue: &Queue,
-    desk: &Desk<L>,
-    gate: &G,
-    pass: JobPass,
-    mut seats: Vec<Seat<L>>,
-    done: Vec<Done>,
-) -> (Vec<Seat<L>>, Vec<Done>)
-    requires pass { IsPassOf queue.now pass }
-    requires all { (tally_of pass).parts ≡ all_parts }
-    requires some { 0 < vec_len seats }
-    requires empty { done.items ≡ [] }
-    ensures gained { HaveGained seats.items result.0.items (receipts_in result.1.items) }
-    ensures told { All (λ d. IsToldToOne seats.items result.0.items d.outcome) result.1.items }
-    ensures settled { AreSameJobs (tally_of pass).put ((tally_of pass).taken ++ jobs result.1.items) }
-    ensures room { vec_capacity done ≤ vec_capacity result.1 }
-{
-    let seat = seats.pop().unwrap();
-    let mut worker = Worker { seat, pass, done };
-    serve(rt, alloc, queue, desk, gate, &mut worker);
-    let Worker { seat, done, .. } = worker;
-    seats.push_reserved(seat);
-    (seats, done)
+impl<'a, L: DeskName + Send + Sync, R: Threads + Wait + Sync, G: Gate + Sync> Post<'a, L, R, G> {
+    /// Lets each worker serve, in a thread of its own where one can be started.
+    fn serve_each(&self, queue: &Queue, workers: &mut [Worker<L>])
+        requires { All (λ w. IsPassOf queue.now w.pass × (tally_of w.pass ≡ tally 1 [] []) × (w.done.items ≡ []))
+            workers.old }
+        ensures { (i : ℕ) (d : Worker L) → i < length workers.old → IsPassOf queue.now (slice_index_or workers.new i d).pass
+            × HasServed (tally 1 [] []) (slice_index_or workers.old i d).seat
+            (tally_of (slice_index_or workers.new i d).pass) (slice_index_or workers.new i d).seat
+            (slice_index_or workers.new i d).done.items }
+    {
+        let threads = workers.len();
+        if threads == 0 {
+            return;
+        }
+        for_each_mut(
+            self.rt,
+            workers,
+            threads,
+            &|_i: usize, worker: &mut Worker<L>|
+                requires { IsPassOf queue.now worker.now.pass × (tally_of worker.now.pass ≡ tally 1 [] [])
+                    × (worker.now.done.items ≡ []) }
+                ensures { IsPassOf queue.entry.now worker.exit.now.pass
+                    × HasServed (tally 1 [] []) worker.entry.now.seat (tally_of worker.exit.now.pass)
+                    worker.exit.now.seat worker.exit.now.done.items }
+            { self.serve(queue, worker) },
+        );
+    }
+
+    /// The same for workers that are owned.
+    fn serve_all(&self, queue: &Queue, mut workers: Vec<Worker<L>>) -> Vec<Worker<L>>
+        requires { All (λ w. IsPassOf queue.now w.pass × (tally_of w.pass ≡ tally 1 [] []) × (w.done.items ≡ []))
+            workers.items }
+        ensures passes { All (λ w. IsPassOf queue.now w.pass) result.items }
+        ensures served { AllZip (λ w v. HasServed (tally 1 [] []) w.seat (tally_of v.pass) v.seat v.done.items)
+            workers.items result.items }
+    {
+        self.serve_each(queue, workers.as_mut_slice());
+        workers
+    }
+
+    /// Lets a worker from each of the seats serve the trains that wait. The seats come back, with what was done from each.
+    /// The pass, which has all parts, knows what they know.
+    pub(crate) fn work(
+        &self,
+        queue: &Queue,
+        pass: &mut JobPass,
+        seats: Vec<Seat<L>>,
+        crew_room: CrewRoom<L>,
+    ) -> (Vec<Seat<L>>, Vec<Vec<Done>>)
+        requires pass { IsPassOf queue.now pass.old }
+        requires all { (tally_of pass.old).parts ≡ all_parts }
+        requires none { (tally_of pass.old).taken ≡ [] }
+        requires room { crew_room.seat_count ≡ vec_len seats }
+        ensures pass { IsPassOf queue.now pass.new }
+        ensures worked { HaveWorked (tally_of pass.old).put seats.items result.0.items (tally_of pass.new) (all_of result.1.items) }
+    {
+        let CrewRoom {
+            workers,
+            seats: back,
+            lists,
+            filled,
+            ..
+        } = crew_room;
+        let workers = hire(queue, pass, seats, lists, workers);
+        let workers = self.serve_all(queue, workers);
+        gather(queue, pass, workers, back, filled)
+    }
+
+    /// Serves from the last seat what still waits, with a pass that has all parts.
+    pub(crate) fn finish(
+        &self,
+        queue: &Queue,
+        pass: JobPass,
+        mut seats: Vec<Seat<L>>,
+        done: Vec<Done>,
+    ) -> (Vec<Seat<L>>, Vec<Done>)
+        requires pass { IsPassOf queue.now pass }
+        requires all { (tally_of pass).parts ≡ all_parts }
+        requires some { 0 < vec_len seats }
+        requires empty { done.items ≡ [] }
+        ensures gained { HaveGained seats.items result.0.items (receipts_in result.1.items) }
+        ensures told { All (λ d. IsToldToOne seats.items result.0.items d.outcome) result.1.items }
+        ensures settled { AreSameJobs (tally_of pass).put ((tally_of pass).taken ++ jobs result.1.items) }
+        ensures room { vec_capacity done ≤ vec_capacity result.1 }
+    {
+        let seat = seats.pop().unwrap();
+        let mut worker = Worker { seat, pass, done };
+        self.serve(queue, &mut worker);
+        let Worker { seat, done, .. } = worker;
+        seats.push_reserved(seat);
+        (seats, done)
+    }
 }

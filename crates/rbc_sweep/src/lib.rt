@@ -5,6 +5,7 @@ mod crew;
 mod jobs;
 mod order;
 mod outcome;
+mod post;
 mod room;
 mod sweeping;
 mod worker;

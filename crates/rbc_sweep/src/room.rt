@@ -13,16 +13,11 @@ use rbc_desk::{DeskName, Seat};
 use rbc_model::Memory;
 use std::alloc::Global;
 
-/// The room for a sweep, which is made before a train is served.
+/// The room for the workers of a sweep.
 #[derive(Drop)]
-pub(crate) struct Room<L: DeskName> {
+pub(crate) struct CrewRoom<L: DeskName> {
     /// How many seats it is for.
     pub(crate) seat_count: usize,
-    /// How many trains it is for.
-    pub(crate) train_count: usize,
-    /// The queue, and its pass with all parts.
-    pub(crate) queue: Queue,
-    pub(crate) pass: JobPass,
     /// For the workers.
     pub(crate) workers: Vec<Worker<L>>,
     /// For the seats, when the workers give them back.
@@ -31,13 +26,6 @@ pub(crate) struct Room<L: DeskName> {
     pub(crate) lists: Vec<Vec<Done>>,
     /// For these lists, when the workers give them back.
     pub(crate) filled: Vec<Vec<Done>>,
-    /// For all that was done.
-    pub(crate) done: Vec<Done>,
-    /// For all outcomes.
-    pub(crate) outcomes: Vec<Outcome>,
-    pub(crate) ghost capacity: { ruled_capacity queue ≡ train_count },
-    pub(crate) ghost tied: { IsPassOf queue pass },
-    pub(crate) ghost none_put: { tally_of pass ≡ tally all_parts [] [] },
     pub(crate) ghost no_worker: { workers.items ≡ [] },
     pub(crate) ghost room_for_workers: { seat_count ≤ vec_capacity workers },
     pub(crate) ghost no_seat: { seats.items ≡ [] },
@@ -46,6 +34,25 @@ pub(crate) struct Room<L: DeskName> {
     pub(crate) ghost empty_lists: { All (λ list. list.items ≡ []) lists.items },
     pub(crate) ghost none_filled: { filled.items ≡ [] },
     pub(crate) ghost room_for_filled: { seat_count ≤ vec_capacity filled },
+}
+
+/// The room for a sweep, which is made before a train is served.
+#[derive(Drop)]
+pub(crate) struct Room<L: DeskName> {
+    /// How many trains it is for.
+    pub(crate) train_count: usize,
+    /// The queue, and its pass with all parts.
+    pub(crate) queue: Queue,
+    pub(crate) pass: JobPass,
+    /// For the workers.
+    pub(crate) crew: CrewRoom<L>,
+    /// For all that was done.
+    pub(crate) done: Vec<Done>,
+    /// For all outcomes.
+    pub(crate) outcomes: Vec<Outcome>,
+    pub(crate) ghost capacity: { ruled_capacity queue ≡ train_count },
+    pub(crate) ghost tied: { IsPassOf queue pass },
+    pub(crate) ghost none_put: { tally_of pass ≡ tally all_parts [] [] },
     pub(crate) ghost none_done: { done.items ≡ [] },
     pub(crate) ghost room_for_done: { train_count ≤ vec_capacity done },
     pub(crate) ghost no_outcome: { outcomes.items ≡ [] },
@@ -71,19 +78,22 @@ pub(crate) fn room_for<L: DeskName>(
     trains: usize,
 ) -> Result<Room<L>, Memory>
     requires { 0 < trains }
-    ensures seats { IfOk result (λ room. room.seat_count ≡ seats) }
+    ensures seats { IfOk result (λ room. room.crew.seat_count ≡ seats) }
     ensures trains { IfOk result (λ room. room.train_count ≡ trains) }
 {
     let (queue, pass) = queue_for(alloc, trains)?;
-    Ok(Room {
+    let crew = CrewRoom {
         seat_count: seats,
-        train_count: trains,
-        queue,
-        pass,
         workers: Vec::with_capacity(alloc, seats)?,
         seats: Vec::with_capacity(alloc, seats)?,
         lists: lists_for(alloc, seats, trains)?,
         filled: Vec::with_capacity(alloc, seats)?,
+    };
+    Ok(Room {
+        train_count: trains,
+        queue,
+        pass,
+        crew,
         done: Vec::with_capacity(alloc, trains)?,
         outcomes: Vec::with_capacity(alloc, trains)?,
     })

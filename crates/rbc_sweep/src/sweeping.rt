@@ -7,9 +7,9 @@ ghost use Rattle.rbc_sweep.specs.Outcomes.{AreFirst, AreTrainsOfFirst, IsToldToO
 ghost use Rattle.rbc_sweep.specs.Serving.{HaveGained};
 
 use crate::Outcome;
-use crate::crew::{finish, gather, hire, serve_all};
 use crate::jobs::put_all;
 use crate::order::{in_order, put_together};
+use crate::post::Post;
 use crate::room::{Room, room_for};
 use rbc_desk::{Desk, DeskName, Gate, Seat};
 use rbc_model::Memory;
@@ -17,67 +17,58 @@ use std::alloc::Global;
 use std::sync::Wait;
 use std::thread::Threads;
 
-/// Serves the trains of the list, for which there is room.
-fn serve_list<L: DeskName + Send + Sync, R: Threads + Wait + Sync, G: Gate + Sync>(
-    rt: &R,
-    alloc: Global,
-    desk: &Desk<L>,
-    gate: &G,
-    seats: Vec<Seat<L>>,
-    trains: &[u32],
-    room: Room<L>,
-) -> (Vec<Seat<L>>, Vec<Outcome>)
-    requires some { 0 < vec_len seats }
-    requires seats { room.seat_count ≡ vec_len seats }
-    requires trains { room.train_count ≡ length trains.now }
-    ensures gained { HaveGained seats.items result.0.items (granted result.1.items) }
-    ensures trains { map train_of result.1.items ≡ trains.now }
-    ensures told { All (IsToldToOne seats.items result.0.items) result.1.items }
-{
-    let Room {
-        queue,
-        mut pass,
-        workers,
-        seats: back,
-        lists,
-        filled,
-        done,
-        outcomes,
-        ..
-    } = room;
-    put_all(rt, &queue, &mut pass, trains);
-    let workers = hire(&queue, &mut pass, seats, lists, workers);
-    let workers = serve_all(rt, alloc, &queue, desk, gate, workers);
-    let (seats, others) = gather(&queue, &mut pass, workers, back, filled);
-    let (seats, done) = finish(rt, alloc, &queue, desk, gate, pass, seats, done);
-    let done = put_together(done, others);
-    (seats, in_order(done, outcomes))
-}
-
-/// Serves each train of the list once.
-fn sweep_list<L: DeskName + Send + Sync, R: Threads + Wait + Sync, G: Gate + Sync>(
-    rt: &R,
-    alloc: Global,
-    desk: &Desk<L>,
-    gate: &G,
-    seats: Vec<Seat<L>>,
-    trains: &[u32],
-) -> (Vec<Seat<L>>, Result<Vec<Outcome>, Memory>)
-    requires some { 0 < vec_len seats }
-    ensures gained { IfOk result.1 (λ outcomes. HaveGained seats.items result.0.items (granted outcomes.items)) }
-    ensures trains { IfOk result.1 (λ outcomes. map train_of outcomes.items ≡ trains.now) }
-    ensures told { IfOk result.1 (λ outcomes. All (IsToldToOne seats.items result.0.items) outcomes.items) }
-    ensures refused { OnErr result.1 (result.0.items ≡ seats.items) }
-{
-    if trains.is_empty() {
-        return (seats, Ok(Vec::new(alloc)));
+impl<'a, L: DeskName + Send + Sync, R: Threads + Wait + Sync, G: Gate + Sync> Post<'a, L, R, G> {
+    /// Serves the trains of the list, for which there is room.
+    fn serve_list(
+        &self,
+        seats: Vec<Seat<L>>,
+        trains: &[u32],
+        room: Room<L>,
+    ) -> (Vec<Seat<L>>, Vec<Outcome>)
+        requires some { 0 < vec_len seats }
+        requires seats { room.crew.seat_count ≡ vec_len seats }
+        requires trains { room.train_count ≡ length trains.now }
+        ensures gained { HaveGained seats.items result.0.items (granted result.1.items) }
+        ensures trains { map train_of result.1.items ≡ trains.now }
+        ensures told { All (IsToldToOne seats.items result.0.items) result.1.items }
+    {
+        let Room {
+            queue,
+            mut pass,
+            crew,
+            done,
+            outcomes,
+            ..
+        } = room;
+        put_all(self.rt, &queue, &mut pass, trains);
+        let (seats, others) = self.work(&queue, &mut pass, seats, crew);
+        let (seats, done) = self.finish(&queue, pass, seats, done);
+        let done = put_together(done, others);
+        (seats, in_order(done, outcomes))
     }
-    match room_for(alloc, seats.len(), trains.len()) {
-        Ok(room) => {
-            let (seats, outcomes) = serve_list(rt, alloc, desk, gate, seats, trains, room);
-            (seats, Ok(outcomes))
+
+    /// Serves each train of the list once.
+    fn sweep_list(
+        &self,
+        seats: Vec<Seat<L>>,
+        trains: &[u32],
+    ) -> (Vec<Seat<L>>, Result<Vec<Outcome>, Memory>)
+        requires some { 0 < vec_len seats }
+        ensures gained { IfOk result.1 (λ outcomes. HaveGained seats.items result.0.items (granted outcomes.items)) }
+        ensures trains { IfOk result.1 (λ outcomes. map train_of outcomes.items ≡ trains.now) }
+        ensures told { IfOk result.1 (λ outcomes. All (IsToldToOne seats.items result.0.items) outcomes.items) }
+        ensures refused { OnErr result.1 (result.0.items ≡ seats.items) }
+    {
+        if trains.is_empty() {
+            return (seats, Ok(Vec::new(self.alloc)));
         }
-        Err(fault) => (seats, Err(fault)),
+        match room_for(self.alloc, seats.len(), trains.len()) {
+            Ok(room) => {
+                let (seats, outcomes) = self.serve_list(seats, trains, room);
+                (seats, Ok(outcomes))
+            }
+            Err(fault) => (seats, Err(fault)),
+        }
     }
 }
 
@@ -126,7 +117,15 @@ pub fn sweep<L: DeskName + Send + Sync, R: Threads + Wait + Sync, G: Gate + Sync
 {
     let (seats, trains) = list_trains(rt, alloc, desk, seats);
     match trains {
-        Ok(trains) => sweep_list(rt, alloc, desk, gate, seats, trains.as_slice()),
+        Ok(trains) => {
+            let post = Post {
+                rt,
+                alloc,
+                desk,
+                gate,
+            };
+            post.sweep_list(seats, trains.as_slice())
+        }
         Err(fault) => (seats, Err(fault)),
     }
 }

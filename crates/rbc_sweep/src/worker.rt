@@ -9,9 +9,9 @@ ghost use Rattle.rbc_sweep.specs.Serving.{HasServed, tally_of};
 
 use crate::jobs::{JobPass, Queue, take};
 use crate::order::Done;
+use crate::post::Post;
 use crate::{Answer, Outcome};
-use rbc_desk::{Desk, DeskName, Gate, Seat};
-use std::alloc::Global;
+use rbc_desk::{DeskName, Gate, Seat};
 use std::sync::Wait;
 use std::thread::Threads;
 
@@ -23,56 +23,46 @@ pub(crate) struct Worker<L: DeskName> {
     pub(crate) done: Vec<Done>,
 }
 
-/// Asks for the train at the desk.
-fn outcome<L: DeskName, R: Threads + Wait + Sync, G: Gate>(
-    rt: &R,
-    alloc: Global,
-    desk: &Desk<L>,
-    gate: &G,
-    seat: &mut Seat<L>,
-    train: u32,
-) -> Outcome
-    ensures train { result.train ≡ train }
-    ensures receipts { seat.new.receipts ≡ seat.old.receipts ++ receipts_of result.answer }
-    ensures later { IsLater seat.old.told seat.new.told }
-    ensures told { IsTold seat.old seat.new result }
-{
-    let answer = Answer::of(desk.ask(rt, alloc, seat, train, gate));
-    Outcome { train, answer }
-}
-
-/// Serves trains until none waits.
-pub(crate) fn serve<L: DeskName, R: Threads + Wait + Sync, G: Gate>(
-    rt: &R,
-    alloc: Global,
-    queue: &Queue,
-    desk: &Desk<L>,
-    gate: &G,
-    worker: &mut Worker<L>,
-)
-    requires pass { IsPassOf queue.now worker.old.pass }
-    requires part { 0 < (tally_of worker.old.pass).parts }
-    requires empty { worker.old.done.items ≡ [] }
-    ensures pass { IsPassOf queue.now worker.new.pass }
-    ensures served { HasServed (tally_of worker.old.pass) worker.old.seat (tally_of worker.new.pass)
-        worker.new.seat worker.new.done.items }
-    ensures settled { (tally_of worker.old.pass).parts ≡ all_parts → IsSettled (tally_of worker.new.pass) }
-    ensures room { vec_capacity worker.old.done ≤ vec_capacity worker.new.done }
-{
-    let Worker { seat, pass, done } = worker;
-    for _ in rt.forever() {
-        // There is room for all trains.
-        if done.reserve(1).is_err() {
-            continue;
-        }
-        let Some(job) = take(rt, queue, pass) else {
-            return;
-        };
-        let outcome = outcome(rt, alloc, desk, gate, seat, job.train);
-        done.push_reserved(Done {
-            place: job.place,
-            outcome,
-        });
+impl<'a, L: DeskName, R: Threads + Wait + Sync, G: Gate> Post<'a, L, R, G> {
+    /// Asks for the train at the desk.
+    fn outcome(&self, seat: &mut Seat<L>, train: u32) -> Outcome
+        ensures train { result.train ≡ train }
+        ensures receipts { seat.new.receipts ≡ seat.old.receipts ++ receipts_of result.answer }
+        ensures later { IsLater seat.old.told seat.new.told }
+        ensures told { IsTold seat.old seat.new result }
+    {
+        let asked = self.desk.ask(self.rt, self.alloc, seat, train, self.gate);
+        let answer = Answer::of(asked);
+        Outcome { train, answer }
     }
-    unreachable!()
+
+    /// Serves trains until none waits.
+    pub(crate) fn serve(&self, queue: &Queue, worker: &mut Worker<L>)
+        requires pass { IsPassOf queue.now worker.old.pass }
+        requires part { 0 < (tally_of worker.old.pass).parts }
+        requires empty { worker.old.done.items ≡ [] }
+        ensures pass { IsPassOf queue.now worker.new.pass }
+        ensures served { HasServed (tally_of worker.old.pass) worker.old.seat (tally_of worker.new.pass)
+            worker.new.seat worker.new.done.items }
+        ensures settled { (tally_of worker.old.pass).parts ≡ all_parts → IsSettled (tally_of worker.new.pass) }
+        ensures room { vec_capacity worker.old.done ≤ vec_capacity worker.new.done }
+    {
+        let Worker { seat, pass, done } = worker;
+        for _ in self.rt.forever() {
+            // The list was made with room for all trains, and each is taken once. So nothing has to grow here, memory is never
+            // refused, and no worker goes round for ever.
+            if done.reserve(1).is_err() {
+                continue;
+            }
+            let Some(job) = take(self.rt, queue, pass) else {
+                return;
+            };
+            let outcome = self.outcome(seat, job.train);
+            done.push_reserved(Done {
+                place: job.place,
+                outcome,
+            });
+        }
+        unreachable!()
+    }
 }

@@ -1,7 +1,7 @@
 use Rattle.std.proofs.Common.{◌≤◌, vec_capacity}
 use Rattle.crossbeam_queue.specs.Passes.{IsPassOf}
 use Rattle.rbc_sweep.specs.Serving.{HasServed, tally_of}
-use Rattle.rbc_sweep.proofs.worker.serve.Given as goal
+use Rattle.rbc_sweep.proofs.post.Post.serve.Given as goal
 
 abbrev pub invariant-loop : goal.invariant-loop
 invariant-loop g l = record {

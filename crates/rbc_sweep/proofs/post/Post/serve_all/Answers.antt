@@ -3,7 +3,7 @@ use Rattle.rbc_sweep.specs.declared.worker.Worker.{Worker}
 use Rattle.rbc_sweep.specs.Jobs.{tally}
 use Rattle.rbc_sweep.specs.Serving.{HasServed, tally_of}
 use Rattle.rbc_sweep.proofs.CrewLemmas.{zip_written}
-use Rattle.rbc_sweep.proofs.crew.serve_all.Goals as goal
+use Rattle.rbc_sweep.proofs.post.Post.serve_all.Goals as goal
 
 pub returns-clause-served : goal.returns-clause-served
 returns-clause-served g c =

@@ -2,7 +2,7 @@ use Rattle.std.proofs.Common.{◌≡◌, ◌+◌, ◌≤◌, ◌++◌, ◌∷◌
 use Rattle.rbc_sweep.specs.declared.order.Done.{Done}
 use Rattle.rbc_sweep.specs.Serving.{HasServed, job_of, tally_of}
 use Rattle.rbc_sweep.proofs.WorkLemmas.{reserved, served_more}
-use Rattle.rbc_sweep.proofs.worker.serve.Goals as goal
+use Rattle.rbc_sweep.proofs.post.Post.serve.Goals as goal
 
 pub push_reserved-requires : goal.push_reserved-requires
 push_reserved-requires g c =
