@@ -1,5 +1,5 @@
 -- The words of a text, by its first word.
-use Rattle.std.proofs.Common.{◌≡◌, ℕ, suc, ◌+◌, ◌-◌, ◌<◌, ◌≤◌, ◌==◌, Bool, true, false, not, cond, ltb, List, [], ◌∷◌, length, take, drop, refl, sym, ap, subst, ◌∙◌, arith}
+use Rattle.std.proofs.Common.{◌≡◌, ℕ, suc, ◌+◌, ◌-◌, ◌<◌, ◌≤◌, ◌==◌, Bool, true, false, not, cond, ltb, List, [], ◌∷◌, length, take, drop, slice_index, refl, sym, ap, subst, ◌∙◌, arith}
 use Rattle.std.specs.Prelude.{filter, Some, None}
 use Rattle.std.specs.Option.{unwrap_or}
 use Rattle.std.specs.List.{position, position_or_len, slice_split}
@@ -7,7 +7,7 @@ use Rattle.std.proofs.lemmas.Grind.{common_steps}
 use Rattle.std.proofs.lemmas.List.{nil_from_length}
 use Rattle.std.proofs.lemmas.List.Folds.{length-prefix_len}
 use Rattle.std.proofs.lemmas.List.Sums.{prefix_len-le-length}
-use Rattle.rbc_model.specs.Words.{words_of}
+use Rattle.rbc_model.specs.Words.{words_of, is_blank}
 
 abbrev is_space : ℕ → Bool
 is_space byte = byte == 32
@@ -98,9 +98,25 @@ word_first text some =
     let first = is_first text in
     ap (filter has_letters) first.1.parts ∙ with_word (take (position_or_len is_space text) text) first.0 some ∙ ap (λ (others : List (List ℕ)). take (position_or_len is_space text) text ∷ others) first.1.words
 
+-- ---- the first byte of the first word
+
+front_byte : (n : ℕ) (word : List ℕ) → 0 < n → slice_index (take n word) 0 ≡ slice_index word 0
+front_byte n word some = grind (arith, common_steps)
+
+pub blank_by_byte : (text : List ℕ) (start : ℕ) → start ≡ position_or_len is_letter text → start < length text
+    → is_blank (words_of text) ≡ (slice_index text start == 35)
+blank_by_byte text start place inside =
+    let words = drop start text in
+    let cut : words ≡ drop (position_or_len is_letter text) text = ap (λ (k : ℕ). drop k text) place in
+    let begins : BeginsAWord words = subst BeginsAWord (sym cut) (letter_first text) in
+    let some : 0 < position_or_len is_space words = begins (grind (arith, common_steps)) in
+    let first : words_of text ≡ take (position_or_len is_space words) words ∷ words_of (drop (position_or_len is_space words) words) =
+    sym (spaces_drop text) ∙ ap words_of (sym cut) ∙ word_first words (rw (length-prefix_len (λ byte. not (is_space byte)) words) some) in
+    ap is_blank first ∙ ap (λ (byte : ℕ). byte == 35) (front_byte (position_or_len is_space words) words some ∙ grind (arith, common_steps))
+
 -- ---- both, as a slice is cut
 
-from_is_drop : (start : ℕ) (text : List ℕ) → take (length text - start) (drop start text) ≡ drop start text
+pub from_is_drop : (start : ℕ) (text : List ℕ) → take (length text - start) (drop start text) ≡ drop start text
 from_is_drop start text = grind (arith, common_steps)
 
 pub no_word : (text : List ℕ) (start : ℕ) → start ≡ position_or_len is_letter text → length (take (length text - start) (drop start text)) ≡ 0 → words_of text ≡ []

@@ -1,3 +1,4 @@
+pub mod EndsLemmas
 pub mod FirstWordLemmas
 pub mod HexTextLemmas
 pub mod LineTextLemmas

@@ -61,12 +61,15 @@ prices-none (price ∷ prices) none = let nothing = eqb-true (length (price ∷ 
 pub spaced-end : {X : Type 0} (text : X → List ℕ) (words : List X) (index : ℕ) → length words ≤ index → spaced (map text (drop index words)) ≡ []
 spaced-end text words index past = at_drop_all (λ ws. spaced (map text ws)) words index past
 
--- the line of a row of prices
-pub line_of-row : (number : ℕ) (row : List ℕ)
-    → line_of (codes "prices" ∷ decimal number ∷ map decimal row) ≡ codes "prices " ++ (decimal number ++ (spaced (map decimal row) ++ 10 ∷ []))
-line_of-row number row =
+-- the line of a row of prices, behind how it begins
+pub line_of-row : (number : ℕ) (row head : List ℕ) → head ≡ codes "prices " ++ decimal number
+    → line_of (codes "prices" ∷ decimal number ∷ map decimal row) ≡ head ++ (spaced (map decimal row) ++ 10 ∷ [])
+line_of-row number row head begins =
+    let rest = spaced (map decimal row) ++ 10 ∷ [] in
     line_of-spaced (codes "prices") (decimal number ∷ map decimal row)
     ∙ ap (λ l. codes "prices " ++ l) (append_assoc (decimal number) (spaced (map decimal row)) (10 ∷ []))
+    ∙ sym (append_assoc (codes "prices ") (decimal number) rest)
+    ∙ ap (λ l. l ++ rest) (sym begins)
 
 -- the line of the first of the rows that are left, and those behind it
 pub prices-next : (rows : List (Vec ℕ)) (index number : ℕ) (row : Vec ℕ) (prices : List ℕ) → index < length rows → row ≡ get_or rows index row

@@ -1,12 +1,11 @@
 //! Tables of prices, printed.
 
-ghost use Rattle.std.specs.Prelude.{◌≡◌, ◌≤◌, false, ◌∷◌, map, codes, decimal, length};
+ghost use Rattle.std.specs.Prelude.{◌≡◌, ◌≤◌, false, ◌∷◌, ◌++◌, map, codes, decimal, length};
 ghost use Rattle.rbc_model.specs.Sessions.{Prints};
 ghost use Rattle.rbc_model.specs.Words.{line_of};
 ghost use Rattle.rbc_words.specs.PriceText.{spaced, prices_text};
 
 use crate::gathered::Gathered;
-use crate::print_number;
 use rbc_streams::{Sink, WriteFailed, put};
 
 /// Writes a table of prices, a line for each row, counted from 1.
@@ -33,10 +32,19 @@ fn print_row<W: Sink>(number: u64, row: &[u64], writer: &mut W) -> Result<(), Wr
     ensures { Prints (W.written writer.old) (W.written writer.new) (W.failed writer.new)
         (line_of (codes "prices" ∷ decimal number ∷ map decimal row.now)) result }
 {
-    put(writer, b"prices ")?;
-    print_number(number, writer)?;
+    put(writer, head(number).bytes())?;
     print_prices(row, writer)?;
     put(writer, b"\n")
+}
+
+/// How the line of the row of this number begins.
+fn head(number: u64) -> Gathered
+    ensures { result ≡ codes "prices " ++ decimal number }
+{
+    let mut text = Gathered::new();
+    text.number(number);
+    text.text(b"prices ");
+    text
 }
 
 /// How many prices are written at once.

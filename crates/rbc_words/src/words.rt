@@ -87,14 +87,30 @@ pub fn only_word(words: &[u8]) -> Result<&[u8], LineFault>
 pub fn is_blank(text: &[u8]) -> bool
     ensures { result ≡ is_blank (words_of text.now) }
 {
-    match next_word(text) {
-        Some((word, _)) => word.first() == Some(&b'#'),
+    match text.get(leading_spaces(text)) {
+        Some(first) => *first == b'#',
         None => true,
     }
 }
 
+/// How many bytes a processor looks at together.
+const AT_ONCE: usize = 8;
+
 /// Whether each byte is a space or a visible character of ASCII.
 pub fn is_text(text: &[u8]) -> bool
+    ensures { result ≡ is_text text.now }
+{
+    if text.len() < AT_ONCE {
+        return are_visible(text);
+    }
+    // The last bytes are looked at together too, some of them a second time: none is left to be looked at alone.
+    let whole = text.len() / AT_ONCE * AT_ONCE;
+    are_visible(&text[..whole]) & are_visible(&text[text.len() - AT_ONCE..])
+}
+
+/// Whether each byte is a space or a visible character of ASCII.
+#[inline(always)]
+fn are_visible(text: &[u8]) -> bool
     ensures { result ≡ is_text text.now }
 {
     // There is no way out of the loop before its end: a processor takes several bytes at once.

@@ -1,4 +1,4 @@
-use Rattle.std.proofs.Common.{refl}
+use Rattle.std.proofs.Common.{refl, ◌∙◌}
 use Rattle.rbc_words.proofs.SpacedLemmas.{line_of-row}
 use Rattle.rbc_words.proofs.PrintingLemmas.{prints_then, prints_stopped}
 use Rattle.rbc_words.proofs.price_table.print_row.Goals as goal
@@ -6,23 +6,18 @@ use Rattle.rbc_words.proofs.price_table.print_row.Goals as goal
 pub returns-in_err-put : goal.returns-in_err-put
 returns-in_err-put g c =
     let put = c.in_err-put.ensures in
-    prints_stopped _ _ _ _ _ _ _ put.text put.failed (line_of-row c.args.number c.args.row.now) c.from_residual.ensures.0
-
-pub returns-in_err-print_number : goal.returns-in_err-print_number
-returns-in_err-print_number g c =
-    let number = c.in_err-print_number.ensures in
-    prints_then _ _ _ _ _ _ _ _ c.in_ok-put.ensures.text (line_of-row c.args.number c.args.row.now)
-    (prints_stopped _ _ _ _ _ _ _ number.text number.failed refl c.from_residual-in_err-print_number.ensures.0)
+    let whole = line_of-row c.args.number c.args.row.now _ (c.bytes.ensures ∙ c.head.ensures) in
+    prints_stopped _ _ _ _ _ _ _ put.text put.failed whole c.from_residual.ensures.0
 
 pub returns-in_err-print_prices : goal.returns-in_err-print_prices
 returns-in_err-print_prices g c =
     let prices = c.in_err-print_prices.ensures in
-    prints_then _ _ _ _ _ _ _ _ c.in_ok-put.ensures.text (line_of-row c.args.number c.args.row.now)
-    (prints_then _ _ _ _ _ _ _ _ c.in_ok-print_number.ensures.text refl
-    (prints_stopped _ _ _ _ _ _ _ prices.text prices.failed refl c.from_residual-in_err-print_prices.ensures.0))
+    let whole = line_of-row c.args.number c.args.row.now _ (c.bytes.ensures ∙ c.head.ensures) in
+    prints_then _ _ _ _ _ _ _ _ c.in_ok-put.ensures.text whole
+    (prints_stopped _ _ _ _ _ _ _ prices.text prices.failed refl c.from_residual-in_err-print_prices.ensures.0)
 
 pub returns : goal.returns
 returns g c =
-    prints_then _ _ _ _ _ _ _ _ c.in_ok-put.ensures.text (line_of-row c.args.number c.args.row.now)
-    (prints_then _ _ _ _ _ _ _ _ c.in_ok-print_number.ensures.text refl
-    (prints_then _ _ _ _ _ _ _ _ c.in_ok-print_prices.ensures.text refl c.put-2.ensures))
+    let whole = line_of-row c.args.number c.args.row.now _ (c.bytes.ensures ∙ c.head.ensures) in
+    prints_then _ _ _ _ _ _ _ _ c.in_ok-put.ensures.text whole
+    (prints_then _ _ _ _ _ _ _ _ c.in_ok-print_prices.ensures.text refl c.put-2.ensures)

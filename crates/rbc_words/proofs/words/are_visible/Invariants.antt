@@ -1,6 +1,6 @@
 use Rattle.std.proofs.Common.{◌≡◌, drop, nat_le, ◌&&◌}
 use Rattle.std.specs.List.{list_all}
-use Rattle.rbc_words.proofs.words.is_text.Given as goal
+use Rattle.rbc_words.proofs.words.are_visible.Given as goal
 
 -- the bytes so far are text, and those to come are
 abbrev pub invariant-loop-byte : goal.invariant-loop-byte
