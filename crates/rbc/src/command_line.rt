@@ -3,7 +3,7 @@
 ghost use Rattle.std.specs.Prelude.{◌≤◌};
 
 use clap::{Arg, ArgAction, ArgMatches, Command, Error, value_parser};
-use rbc_kept::server::Terms;
+use rbc_desk_journal::kept::server::Terms;
 use std::alloc::{AllocError, Global};
 use std::time::Duration;
 
@@ -55,6 +55,8 @@ pub struct Service<'a> {
     pub connections: usize,
     /// How many workers the sweep has, 1 to 8.
     pub workers: usize,
+    /// The file of its journal, if it has one.
+    pub journal: Option<&'a str>,
     /// On what terms clients are served.
     pub terms: Terms,
     pub ghost some: { (1 ≤ connections) × (1 ≤ workers) },
@@ -203,7 +205,8 @@ fn serve<'a>(alloc: Global) -> Result<Command<'a>, AllocError> {
         .arg(connections.value_parser(value_parser!(u8).range(1..=8)))?
         .arg(workers.value_parser(value_parser!(u8).range(1..=8)))?
         .arg(patience.value_parser(value_parser!(u32).range(1..=86_400)))?
-        .arg(log)
+        .arg(log)?
+        .arg(journal_file(alloc))
 }
 
 /// How many of something a command line asks for, 1 to 8. The parser accepts nothing else.
@@ -229,6 +232,7 @@ fn service_in<'a>(matches: &ArgMatches<'a>) -> Service<'a> {
         port: matches.get_one("port").unwrap_or(1),
         connections: count_in(matches, "connections"),
         workers: count_in(matches, "workers"),
+        journal: matches.get_str("journal"),
         terms: terms_in(matches),
     }
 }

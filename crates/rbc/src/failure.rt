@@ -5,9 +5,9 @@ ghost use Rattle.rbc.specs.Statuses.{status_of};
 
 use crate::journal::JournalFault;
 use clap::error::ErrorKind;
+use rbc_desk_journal::kept::server::ServeFault;
+use rbc_desk_journal::kept::{KeptFault, RunFault};
 use rbc_journal_file::OpenFault;
-use rbc_kept::server::ServeFault;
-use rbc_kept::{KeptFault, RunFault};
 use rbc_model::Memory;
 use rbc_trackfile::LoadFault;
 use rbc_words::{SessionFault, WriteFailed};
@@ -77,7 +77,8 @@ impl Failure {
             Failure::Session(_) | Failure::History => SESSION_FAULT,
             Failure::Journal(JournalFault::InUse | JournalFault::Failed) => SESSION_FAULT,
             Failure::Serve(ServeFault::Close(_)) => UNMATCHED,
-            Failure::Serve(ServeFault::Port | ServeFault::Write) => SESSION_FAULT,
+            Failure::Serve(ServeFault::Port | ServeFault::Write | ServeFault::Journal) =>
+                SESSION_FAULT,
         }
     }
 

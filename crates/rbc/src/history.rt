@@ -3,7 +3,7 @@
 ghost use Rattle.rbc_session_laws.specs.Retelling.{IsRetold};
 
 use crate::failure::Failure;
-use rbc_kept::server::{Record, print_history};
+use rbc_desk_journal::kept::server::{Record, print_history};
 use rbc_words::Stream;
 use std::fs;
 use std::fs::Files;

@@ -1,15 +1,23 @@
-//! A centre whose history is kept in a journal.
+//! Centres whose history is kept in a journal.
 
 ghost use Rattle.std.specs.Prelude.{◌≡◌, []};
 
+use crate::command_line::Service;
 use crate::failure::Failure;
 use crate::history::write_history;
-use rbc_kept::Kept;
-use rbc_kept::server::Record;
+use crate::serve::open_port;
+use crate::serve_kept::serve_kept;
+use rbc_desk_journal::kept::server::Record;
+use rbc_desk_journal::kept::{self, Kept};
+use rbc_model::Memory;
+use rbc_track::Track;
 use rbc_words::Stream;
 use std::fs::{File, Files};
-use std::io;
+use std::io::{self, Eprint};
+use std::net::{Net, TcpListener, TcpStream};
+use std::sync::{Arc, Wait};
 use std::thread::Threads;
+use std::time::Clock;
 use thiserror::Error;
 
 /// Why there is no journal.
@@ -49,7 +57,7 @@ pub(crate) fn run_kept(
         Ok(kept) => kept,
         Err((fault, _)) => return Err(fault.into()),
     };
-    let ended = rbc_kept::run(
+    let ended = kept::run(
         rt,
         alloc,
         &mut Stream::reader(rt.reader()),
@@ -62,6 +70,41 @@ pub(crate) fn run_kept(
     };
     ended?;
     written
+}
+
+/// Serves connections on a port, from what a journal tells on. The port is opened once the journal is.
+///
+/// # Errors
+///
+/// `Journal`, where the journal is not opened; `Memory`; `Serve`, also where the journal fails; `Session`.
+pub(crate) fn serve_with(
+    rt: &(impl Files<File = File>
+        + Print
+        + AllocGlobal
+        + Threads
+        + Wait
+        + Clock
+        + Eprint
+        + Net<Listener = TcpListener, Stream = TcpStream>
+        + Sync),
+    journal: &str,
+    track: Arc<Track>,
+    service: &Service,
+) -> Result<(), Failure> {
+    let alloc = rt.alloc();
+    let lent = Arc::try_clone(&track).map_err(Memory::from)?;
+    let empty = Record::new(alloc, track)?;
+    let (bytes, device) = rbc_journal_file::open(rt, journal)?;
+    if !is_journal(bytes.as_slice()) {
+        return Err(Failure::Journal(JournalFault::Foreign(1)));
+    }
+    let kept = match Kept::open(rt, alloc, empty, bytes.as_slice(), device) {
+        Ok(kept) => kept,
+        Err((fault, _)) => return Err(fault.into()),
+    };
+    let mut writer = Stream::writer(alloc, io::writer(rt))?;
+    let port = open_port(rt, service, &mut writer)?;
+    serve_kept(rt, alloc, port, &lent, kept, service, &mut writer)
 }
 
 /// How many bytes a file has at most whose first gate is still closed: a line was being put behind it.

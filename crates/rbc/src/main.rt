@@ -6,25 +6,26 @@ mod failure;
 mod history;
 mod journal;
 mod serve;
+mod serve_kept;
 
 use command_line::{Centre, Printing, Service, Task};
 use failure::Failure;
 use history::write_history;
 pub use journal::JournalFault;
-use journal::run_kept;
+use journal::{run_kept, serve_with};
 pub use rbc_certifier::steps;
+use rbc_desk_journal::kept::server::{self, Record};
 pub use rbc_draw::{check, draw};
 pub use rbc_fields::{Form, Json, Plain, decode};
-use rbc_kept::server::{Port, Record, ServeFault};
 use rbc_model::Memory;
 use rbc_track::Track;
 pub use rbc_trackfile::{LoadFault, load};
 use rbc_words::Stream;
-use serve::{print_listening, serve};
+use serve::{open_port, serve};
 use std::env::Env;
 use std::fs::{File, Files};
 use std::io::Eprint;
-use std::net::{Ipv4Addr, Net, TcpListener, TcpStream};
+use std::net::{Net, TcpListener, TcpStream};
 use std::process::ExitCode;
 use std::sync::{Arc, Wait};
 use std::thread::Threads;
@@ -132,7 +133,7 @@ fn run_centre(
     if let Some(journal) = centre.journal {
         return run_kept(rt, journal, centre.history, record);
     }
-    let ended = rbc_kept::server::run(
+    let ended = server::run(
         rt,
         alloc,
         &mut Stream::reader(rt.reader()),
@@ -149,7 +150,7 @@ fn run_centre(
 
 /// Serves connections on a port, on the track of a file.
 fn serve_centre(
-    rt: &(impl Files
+    rt: &(impl Files<File = File>
         + Print
         + AllocGlobal
         + Threads
@@ -162,12 +163,11 @@ fn serve_centre(
 ) -> Result<(), Failure> {
     let alloc = rt.alloc();
     let track = Arc::new(alloc, read_track(rt, service.track)?).map_err(Memory::from)?;
-    let Ok(listener) = TcpListener::bind(rt, (Ipv4Addr::LOCALHOST, service.port)) else {
-        return Err(Failure::Serve(ServeFault::Port));
-    };
+    if let Some(journal) = service.journal {
+        return serve_with(rt, journal, track, service);
+    }
     let mut writer = Stream::writer(alloc, io::writer(rt))?;
-    print_listening(service.port, &mut writer)?;
-    let port = Port::new(rt, listener, service.terms);
+    let port = open_port(rt, service, &mut writer)?;
     serve(rt, alloc, port, track, service, &mut writer)
 }
 

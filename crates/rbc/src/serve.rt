@@ -6,23 +6,47 @@ ghost use Rattle.rbc.specs.Listening.{listening_line};
 
 use crate::command_line::Service;
 use crate::failure::Failure;
-use rbc_kept::server::{Blank, Client, Clients, Desk, DeskName, Record};
+use rbc_desk_journal::kept::server::{
+    self, Blank, Client, Clients, Desk, DeskName, NoJournal, Port, Record, ServeFault, Staff,
+    no_pens,
+};
 use rbc_model::Memory;
 use rbc_track::Track;
 use rbc_words::{Sink, Source, Word, WriteFailed, print_line};
 use std::alloc::Global;
 use std::io::Eprint;
 use std::marker::Brand;
+use std::net::{Ipv4Addr, Net, TcpListener, TcpStream};
 use std::sync::{Arc, Wait};
 use std::thread::Threads;
 use std::time::Clock;
+
+/// Opens the port that a centre is asked to serve, and tells that it is open.
+///
+/// # Errors
+///
+/// `Serve`, where the port can't be had; `Session`, where the writer fails.
+pub(crate) fn open_port<N: Net<Listener = TcpListener, Stream = TcpStream> + Clock, W: Sink>(
+    rt: &N,
+    service: &Service,
+    writer: &mut W,
+) -> Result<Port<TcpListener>, Failure>
+    requires { W.failed writer.old ≡ false }
+    ensures { OnOk result (W.failed writer.new ≡ false) }
+{
+    let Ok(listener) = TcpListener::bind(rt, (Ipv4Addr::LOCALHOST, service.port)) else {
+        return Err(Failure::Serve(ServeFault::Port));
+    };
+    print_listening(service.port, writer)?;
+    Ok(Port::new(rt, listener, service.terms))
+}
 
 /// Tells that the port is open, and hands it on.
 ///
 /// # Errors
 ///
 /// `WriteFailed`, where the writer fails.
-pub(crate) fn print_listening<W: Sink>(port: u16, writer: &mut W) -> Result<(), WriteFailed>
+fn print_listening<W: Sink>(port: u16, writer: &mut W) -> Result<(), WriteFailed>
     requires { W.failed writer.old ≡ false }
     ensures text { Prints (W.written writer.old) (W.written writer.new) (W.failed writer.new)
         (listening_line port) result }
@@ -44,7 +68,7 @@ fn print_port<W: Sink>(port: u16, writer: &mut W) -> Result<(), WriteFailed>
 ///
 /// # Errors
 ///
-/// `Memory` for the record or the desk, and those of [`rbc_kept::server::serve`].
+/// `Memory` for the record or the desk, and those of [`server::serve`].
 pub(crate) fn serve<
     I: Source + Send + Drop,
     O: Sink + Send + Drop,
@@ -113,15 +137,14 @@ fn open<
     requires few { seats ≤ 16 }
 {
     let (desk, seats) = Desk::<L>::new(rt, alloc, log, seats, blank)?;
-    let _served = rbc_kept::server::serve(
-        rt,
-        alloc,
-        port,
-        track,
-        desk,
-        seats,
-        connections,
-        writer,
-    )?;
+    let Ok(pens) = no_pens(alloc, connections) else {
+        desk.end(rt);
+        return Err(Failure::Memory);
+    };
+    let Ok(staff) = Staff::new(alloc, seats, pens) else {
+        desk.end(rt);
+        return Err(Failure::Memory);
+    };
+    let _served = server::serve(rt, alloc, port, track, &NoJournal, desk, staff, writer)?;
     Ok(())
 }

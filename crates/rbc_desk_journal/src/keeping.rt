@@ -10,6 +10,7 @@ use std::alloc::Global;
 use std::sync::Wait;
 
 /// The journal of a desk, for its seats: a scribe that hears what they are told.
+#[derive(Drop)]
 pub struct DeskJournal<'a, T: Told + Drop, D: Device, N: ScribeName> {
     scribe: &'a Scribe<T, D, N>,
 }

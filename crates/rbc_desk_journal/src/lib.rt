@@ -12,6 +12,7 @@ pub use closing::close;
 pub use keeping::DeskJournal;
 pub use laws::{kept_lines_last, lines_tell_first_entries};
 pub use opening::{Opened, open};
+pub use rbc_journal::Device;
 pub use rbc_kept as kept;
 pub use rbc_scribe as scribe;
 pub use request_line::RequestLine;

@@ -1,17 +1,19 @@
 -- Connections: each client is served from a seat.
-use Rattle.std.proofs.Common.{◌≡◌, ℕ, ◌+◌, ◌<◌, ◌≤◌, Bool, false, List, [], ◌∷◌, ◌++◌, length, take, map, Option, Some, None, Result, Err, refl, sym, ap, ◌∙◌, subst, append_assoc, lit≤, arith}
-use Rattle.std.specs.Prelude.{◌↔◌, All, IsTrue, OnOk}
+use Rattle.std.proofs.Common.{◌≡◌, ℕ, ◌+◌, ◌<◌, ◌≤◌, Bool, true, false, List, [], ◌∷◌, ◌++◌, length, take, map, Option, Some, None, Result, Err, refl, sym, ap, ◌∙◌, subst, append_assoc, lit≤, arith}
+use Rattle.std.specs.Prelude.{◌↔◌, ◌||◌, All, IsTrue, OnOk}
 use Rattle.std.proofs.lemmas.List.{append-nil, length-map, map_push}
-use Rattle.std.proofs.lemmas.List.Elements.{All-nil, All-cons}
-use Rattle.std.specs.List.{AllZip}
+use Rattle.std.proofs.lemmas.List.Elements.{All-nil, All-cons, All-map}
+use Rattle.std.specs.List.{AllZip, list_any}
 use Rattle.std.specs.Io.KnownBytes.{Appends, Consumes, IsAtEnd}
 use Rattle.rbc_model.specs.declared.sessions.SessionFault.{SessionFault}
 use Rattle.rbc_model.specs.declared.sessions.SessionFault.TheVariants.{Read, Write, Memory}
 use Rattle.rbc_port.specs.Clients.{Came, Coming, FewerCome, NoneComes, Parting, unheard}
 use Rattle.rbc_sweep.specs.Seats.{Seated}
-use Rattle.rbc_server.specs.Connections.{AreConnections, Connection, IsConnection}
+use Rattle.rbc_server.specs.Connections.{AreConnections, AreParted, Connection, IsConnection}
 use Rattle.rbc_server.specs.SeatAnswers.{AreLineAnswers}
-use Rattle.rbc_server.specs.SeatSessions.{IsSeatSession}
+use Rattle.rbc_server.specs.SeatSessions.{IsSeatSession, SeatTurn}
+use Rattle.rbc_server.specs.Sittings.{AreToldKept, IsKept, StaysKept}
+use Rattle.rbc_server.specs.declared.sitting.Sitting.{Sitting}
 
 pub take_append : {A : Type 0} (xs ys : List A) → take (length xs) (xs ++ ys) ≡ xs
 take_append [] ys = refl
@@ -19,36 +21,48 @@ take_append (x ∷ xs) ys = ap (λ l. x ∷ l) (take_append xs ys)
 
 -- ---- one connection
 
--- a session with the client, from the seat
-pub talked : (came : Coming) (before after : Seated) (went : Parting) (left unread written told : Option (List ℕ)) (held : List ℕ) (read_failed write_failed : Bool)
-    (ended : Result (Unit {0}) SessionFault) (input : List ℕ) → left ≡ came.says → written ≡ came.told
-    → went ≡ record { unread = unread; told = told; held_back = held; read_failed = read_failed; write_failed = write_failed; ended = ended }
-    → Consumes left unread input → (session : IsSeatSession before after input written told ended) → AreLineAnswers before.told session.turns
-    → OnOk ended (IsAtEnd unread) → ((ended ≡ Err Read) ↔ IsTrue read_failed) → ((ended ≡ Err Write) ↔ IsTrue write_failed)
-    → (ended ≡ Err Memory → (unread ≡ left) × (told ≡ written) × (after ≡ before)) → (write_failed ≡ false → held ≡ [])
-    → IsConnection (record { came = came; before = before; after = after; went = went })
-talked came before after went left unread written told held read_failed write_failed ended input says tells parted read session answers end reading writing memory handed =
-    let begun : (s : IsSeatSession before after input came.told told ended) × AreLineAnswers before.told s.turns =
-    subst (λ (w : Option (List ℕ)). (s : IsSeatSession before after input w told ended) × AreLineAnswers before.told s.turns) tells (session, answers) in
-    let parting : Parting = record { unread = unread; told = told; held_back = held; read_failed = read_failed; write_failed = write_failed; ended = ended } in
-    let whole : IsConnection (record { came = came; before = before; after = after; went = parting }) = record {
-      input = input;
-      read = subst (λ (l : Option (List ℕ)). Consumes l unread input) says read;
-      session = begun.0;
-      answers = begun.1;
-      end = end;
-      read_fault = reading;
-      write_fault = writing;
-      memory = λ none. let same = memory none in (same.0 ∙ says, same.1 ∙ tells, same.2);
-      handed_on = handed;
-    } in
-    subst (λ (w : Parting). IsConnection (record { came = came; before = before; after = after; went = w })) (sym parted) whole
+module _ {L P : Type 0} (kept : P → ℕ → Type 0) where
+  -- a session with the client, from the seat
+  pub talked : (came : Coming) (before after : Sitting L P) (went : Parting) (left unread written told : Option (List ℕ)) (held : List ℕ) (read_failed write_failed : Bool)
+      (ended : Result (Unit {0}) SessionFault) (input : List ℕ) → left ≡ came.says → written ≡ came.told
+      → went ≡ record { unread = unread; told = told; held_back = held; read_failed = read_failed; write_failed = write_failed; ended = ended }
+      → Consumes left unread input
+      → (session : IsSeatSession before.seat after.seat input written told ended) × AreToldKept (kept after.pen) after.has_failed session.turns written told
+      → ((s : IsSeatSession before.seat after.seat input written told ended) → AreLineAnswers before.seat.told s.turns)
+      → StaysKept kept before.pen after.pen
+      → OnOk ended (IsAtEnd unread) → ((ended ≡ Err Read) ↔ IsTrue read_failed) → (ended ≡ Err Write → IsTrue (after.has_failed || write_failed)) → (IsTrue write_failed → ended ≡ Err Write)
+      → (ended ≡ Err Memory → (unread ≡ left) × (told ≡ written) × (after ≡ before)) → ((after.has_failed || write_failed) ≡ false → held ≡ [])
+      → IsConnection kept (record { came = came; before = before; after = after; went = went })
+  talked came before after went left unread written told held read_failed write_failed ended input says tells parted read session answers stays end reading writing failing memory handed =
+      let begun : (s : IsSeatSession before.seat after.seat input came.told told ended) × AreToldKept (kept after.pen) after.has_failed s.turns came.told told × AreLineAnswers before.seat.told s.turns =
+      subst (λ (w : Option (List ℕ)). (s : IsSeatSession before.seat after.seat input w told ended) × AreToldKept (kept after.pen) after.has_failed s.turns w told × AreLineAnswers before.seat.told s.turns)
+      tells (session.0, session.1, answers session.0) in
+      let parting : Parting = record { unread = unread; told = told; held_back = held; read_failed = read_failed; write_failed = write_failed; ended = ended } in
+      let whole : IsConnection kept (record { came = came; before = before; after = after; went = parting }) = record {
+        input = input;
+        read = subst (λ (l : Option (List ℕ)). Consumes l unread input) says read;
+        session = begun.0;
+        answers = begun.2;
+        is_kept = begun.1;
+        stays = stays;
+        end = end;
+        read_fault = reading;
+        write_fault = writing;
+        write_failed = failing;
+        memory = λ none. let same = memory none in (same.0 ∙ says, same.1 ∙ tells, same.2);
+        handed_on = handed;
+      } in
+      subst (λ (w : Parting). IsConnection kept (record { came = came; before = before; after = after; went = w })) (sym parted) whole
+
+pub or_right : (a b : Bool) → IsTrue b → IsTrue (a || b)
+or_right true b is = refl
+or_right false b is = is
 
 consumes_nothing : (known : Option (List ℕ)) → Consumes known known []
 consumes_nothing None = tt
 consumes_nothing (Some bytes) = refl
 
-appends_nothing : (known : Option (List ℕ)) → Appends known known []
+pub appends_nothing : (known : Option (List ℕ)) → Appends known known []
 appends_nothing None = tt
 appends_nothing (Some bytes) = sym (append-nil bytes)
 
@@ -58,16 +72,41 @@ no_truth e = cc
 not_read : (r : Result (Unit {0}) SessionFault) → r ≡ Err Memory → r ≡ Err Read → IsTrue false
 not_read r memory read = cc
 
-not_write : (r : Result (Unit {0}) SessionFault) → r ≡ Err Memory → r ≡ Err Write → IsTrue false
-not_write r memory write = cc
+not_write : {X : Type 0} (r : Result (Unit {0}) SessionFault) → r ≡ Err Memory → r ≡ Err Write → X
+not_write r memory write = absurd (let c : ⊥ = cc in c)
 
 -- memory was refused before anything was read
-pub none_begun : (came : Coming) (seat : Seated) (went : Parting) → went ≡ unheard came → IsConnection (record { came = came; before = seat; after = seat; went = went })
-none_begun came seat went parted =
+pub none_begun : {L P : Type 0} (kept : P → ℕ → Type 0) (came : Coming) (sitting : Sitting L P) (went : Parting) → went ≡ unheard came
+    → IsConnection kept (record { came = came; before = sitting; after = sitting; went = went })
+none_begun kept came sitting went parted =
+    let seat = sitting.seat in
     let session : IsSeatSession seat seat [] came.told came.told (Err Memory) =
     record { turns = []; rest = []; lines = refl; few = lit≤ tt; each = refl; receipts = sym (append-nil seat.receipts); ends = (appends_nothing came.told, refl) } in
-    talked came seat seat went came.says came.says came.told came.told [] false false (Err Memory) [] refl refl parted (consumes_nothing came.says) session tt tt
-    ((λ e. not_read (Err Memory) refl e), (λ e. absurd (no_truth e))) ((λ e. not_write (Err Memory) refl e), (λ e. absurd (no_truth e))) (λ e. (refl, refl, refl)) (λ e. refl)
+    let none : AreToldKept (kept sitting.pen) sitting.has_failed [] came.told came.told = record {
+      told = [];
+      untold = [];
+      all = refl;
+      none_untold = λ _. refl;
+      one_untold = lit≤ tt;
+      written = ([], [], refl, appends_nothing came.told);
+      each = All-nil (λ (turn : SeatTurn). IsKept (kept sitting.pen) turn.receipt);
+    } in
+    let parting : Parting = record { unread = came.says; told = came.told; held_back = []; read_failed = false; write_failed = false; ended = Err Memory } in
+    let whole : IsConnection kept (record { came = came; before = sitting; after = sitting; went = parting }) = record {
+      input = [];
+      read = consumes_nothing came.says;
+      session = session;
+      answers = tt;
+      is_kept = none;
+      stays = λ place k. k;
+      end = tt;
+      read_fault = ((λ e. not_read (Err Memory) refl e), (λ e. absurd (no_truth e)));
+      write_fault = λ e. not_write (Err Memory) refl e;
+      write_failed = λ e. absurd (no_truth e);
+      memory = λ e. (refl, refl, refl);
+      handed_on = λ e. refl;
+    } in
+    subst (λ (w : Parting). IsConnection kept (record { came = came; before = sitting; after = sitting; went = w })) (sym parted) whole
 
 -- ---- the clients that came
 
@@ -121,52 +160,52 @@ one_handed promised handles more h s left rest all was next is mine =
     ∙ ap (λ x. map promised handles ++ x ∷ rest) mine ∙ ap (λ l. map promised handles ++ l) (sym next) ∙ was
 
 -- What each handle promised, of its client and its seat, was kept by the visit that came back.
-module _ {H V : Type 0} (came : H → Coming) (before : H → Seated) (after : V → Seated) (went : V → Parting) where
-  abbrev joined : H → V → Connection
+module _ {H V L P : Type 0} (keeps : P → ℕ → Type 0) (came : H → Coming) (before : H → Sitting L P) (after : V → Sitting L P) (went : V → Parting) where
+  abbrev joined : H → V → Connection L P
   joined h v = record { came = came h; before = before h; after = after v; went = went v }
 
-  abbrev all_joined : List H → List V → List Connection
+  abbrev all_joined : List H → List V → List (Connection L P)
   all_joined [] vs = []
   all_joined (h ∷ hs) [] = []
   all_joined (h ∷ hs) (v ∷ vs) = joined h v ∷ all_joined hs vs
 
   abbrev Kept : H → V → Type 0
-  Kept h v = IsConnection (joined h v)
+  Kept h v = IsConnection keeps (joined h v)
 
-  all_kept : (hs : List H) (vs : List V) → AllZip Kept hs vs → All IsConnection (all_joined hs vs)
-  all_kept [] [] z = All-nil IsConnection
+  all_kept : (hs : List H) (vs : List V) → AllZip Kept hs vs → All (IsConnection keeps) (all_joined hs vs)
+  all_kept [] [] z = All-nil (IsConnection keeps)
   all_kept [] (v ∷ vs) z = absurd z
   all_kept (h ∷ hs) [] z = absurd z
-  all_kept (h ∷ hs) (v ∷ vs) z = All-cons IsConnection (joined h v) (all_joined hs vs) z.0 (all_kept hs vs z.1)
+  all_kept (h ∷ hs) (v ∷ vs) z = All-cons (IsConnection keeps) (joined h v) (all_joined hs vs) z.0 (all_kept hs vs z.1)
 
-  all_came_so : (hs : List H) (vs : List V) → AllZip Kept hs vs → map (λ (c : Connection). c.came) (all_joined hs vs) ≡ map came hs
+  all_came_so : (hs : List H) (vs : List V) → AllZip Kept hs vs → map (λ (c : Connection L P). c.came) (all_joined hs vs) ≡ map came hs
   all_came_so [] [] z = refl
   all_came_so [] (v ∷ vs) z = absurd z
   all_came_so (h ∷ hs) [] z = absurd z
   all_came_so (h ∷ hs) (v ∷ vs) z = ap (λ l. came h ∷ l) (all_came_so hs vs z.1)
 
-  all_before : (hs : List H) (vs : List V) → AllZip Kept hs vs → map (λ (c : Connection). c.before) (all_joined hs vs) ≡ map before hs
+  all_before : (hs : List H) (vs : List V) → AllZip Kept hs vs → map (λ (c : Connection L P). c.before) (all_joined hs vs) ≡ map before hs
   all_before [] [] z = refl
   all_before [] (v ∷ vs) z = absurd z
   all_before (h ∷ hs) [] z = absurd z
   all_before (h ∷ hs) (v ∷ vs) z = ap (λ l. before h ∷ l) (all_before hs vs z.1)
 
-  all_after : (hs : List H) (vs : List V) → AllZip Kept hs vs → map (λ (c : Connection). c.after) (all_joined hs vs) ≡ map after vs
+  all_after : (hs : List H) (vs : List V) → AllZip Kept hs vs → map (λ (c : Connection L P). c.after) (all_joined hs vs) ≡ map after vs
   all_after [] [] z = refl
   all_after [] (v ∷ vs) z = absurd z
   all_after (h ∷ hs) [] z = absurd z
   all_after (h ∷ hs) (v ∷ vs) z = ap (λ l. after v ∷ l) (all_after hs vs z.1)
 
-  all_went : (hs : List H) (vs : List V) → AllZip Kept hs vs → map (λ (c : Connection). c.went) (all_joined hs vs) ≡ map went vs
+  all_went : (hs : List H) (vs : List V) → AllZip Kept hs vs → map (λ (c : Connection L P). c.went) (all_joined hs vs) ≡ map went vs
   all_went [] [] z = refl
   all_went [] (v ∷ vs) z = absurd z
   all_went (h ∷ hs) [] z = absurd z
   all_went (h ∷ hs) (v ∷ vs) z = ap (λ l. went v ∷ l) (all_went hs vs z.1)
 
-  pub connected : (handles : List H) (visits : List V) (seats left : List Seated) (coming later : Option (List Coming)) → AllZip Kept handles visits
-      → map before handles ++ left ≡ seats → length left ≡ 0 → Came coming later (map came handles) → AreConnections coming seats (map after visits) (map went visits)
-  connected handles visits seats left coming later kept begun over came_first =
-      let whole : map before handles ≡ seats = sym (append-nil (map before handles)) ∙ ap (λ l. map before handles ++ l) (sym (no_items left over)) ∙ begun in
+  pub connected : (handles : List H) (visits : List V) (sittings left : List (Sitting L P)) (coming later : Option (List Coming)) → AllZip Kept handles visits
+      → map before handles ++ left ≡ sittings → length left ≡ 0 → Came coming later (map came handles) → AreConnections keeps coming sittings (map after visits) (map went visits)
+  connected handles visits sittings left coming later kept begun over came_first =
+      let whole : map before handles ≡ sittings = sym (append-nil (map before handles)) ∙ ap (λ l. map before handles ++ l) (sym (no_items left over)) ∙ begun in
       record {
         connections = all_joined handles visits;
         each = all_kept handles visits kept;
@@ -183,8 +222,27 @@ map_twice : {V G A : Type 0} (f : V → G) (h : G → A) (vs : List V) → map h
 map_twice f h [] = refl
 map_twice f h (v ∷ vs) = ap (λ l. h (f v) ∷ l) (map_twice f h vs)
 
-pub parted : {V G : Type 0} (seat : V → Seated) (gone : V → G) (parting : G → Parting) (coming : Option (List Coming)) (seats : List Seated) (visits : List V) (back : List Seated) (left : List G)
-    → AreConnections coming seats (map seat visits) (map (λ v. parting (gone v)) visits) → back ≡ map seat visits → left ≡ map gone visits → AreConnections coming seats back (map parting left)
-parted seat gone parting coming seats visits back left connections in_seats in_order =
+neither : (a b : Bool) → (a || b) ≡ false → (a ≡ false) × (b ≡ false)
+neither true b e = absurd (let c : ⊥ = cc in c)
+neither false b e = (refl, e)
+
+none_failed : {V : Type 0} (failed : V → Bool) (vs : List V) → list_any failed vs ≡ false → All (λ v. failed v ≡ false) vs
+none_failed failed [] none = All-nil (λ v. failed v ≡ false)
+none_failed failed (v ∷ vs) none =
+    let parts = neither (failed v) (list_any failed vs) none in
+    All-cons (λ x. failed x ≡ false) v vs parts.0 (none_failed failed vs parts.1)
+
+-- keeping failed in none of these visits
+pub parted : {V G L P : Type 0} (keeps : P → ℕ → Type 0) (sitting : V → Sitting L P) (gone : V → G) (parting : G → Parting) (coming : Option (List Coming)) (sittings : List (Sitting L P)) (visits : List V)
+    (seats : List Seated) (pens : List P) (left : List G)
+    → AreConnections keeps coming sittings (map sitting visits) (map (λ v. parting (gone v)) visits) → list_any (λ v. (sitting v).has_failed) visits ≡ false
+    → seats ≡ map (λ v. (sitting v).seat) visits → pens ≡ map (λ v. (sitting v).pen) visits → left ≡ map gone visits → AreParted keeps coming sittings seats pens (map parting left)
+parted {L = L} {P = P} keeps sitting gone parting coming sittings visits seats pens left connections whole in_seats in_pens in_order =
     let went : map (λ v. parting (gone v)) visits ≡ map parting left = sym (ap (map parting) in_order ∙ map_twice gone parting visits) in
-    subst (λ (b : List Seated). AreConnections coming seats b (map parting left)) (sym in_seats) (subst (λ (w : List Parting). AreConnections coming seats (map seat visits) w) went connections)
+    record {
+      served = map sitting visits;
+      connections = subst (λ (w : List Parting). AreConnections keeps coming sittings (map sitting visits) w) went connections;
+      whole = All-map (λ (s : Sitting L P). s.has_failed ≡ false) sitting visits (none_failed (λ v. (sitting v).has_failed) visits whole);
+      seats_are = in_seats ∙ sym (map_twice sitting (λ (s : Sitting L P). s.seat) visits);
+      pens_are = in_pens ∙ sym (map_twice sitting (λ (s : Sitting L P). s.pen) visits);
+    }

@@ -12,3 +12,7 @@ pub mod OutcomeLemmas
 pub mod ServingLemmas
 pub mod AnsweredLemmas
 pub mod HistoryLemmas
+pub mod SittingLemmas
+pub mod KeepingLemmas
+pub mod GrantLemmas
+pub mod TreatingLemmas

@@ -1,7 +1,7 @@
 -- What is told and asked at a desk: the desk's answer as the reply to its line.
-use Rattle.std.proofs.Common.{◌≡◌, ℕ, ◌+◌, ◌<◌, false, List, [], ◌∷◌, ◌++◌, length, Some, None, Result, Ok, Err, refl, sym, ap, ◌∙◌, subst, inl, inr, ℤ, append-nil, arith}
+use Rattle.std.proofs.Common.{◌≡◌, ℕ, ◌+◌, ◌<◌, false, List, length, Option, Some, None, Result, Ok, Err, refl, sym, ap, ◌∙◌, subst, inl, inr, ℤ, arith}
 use Rattle.std.proofs.lemmas.Bool.Decides.{nat_tests}
-use Rattle.std.specs.Prelude.{nat_le, IfOk, OnErr}
+use Rattle.std.specs.Prelude.{nat_le, IfOk}
 use Rattle.std.specs.Result.{result_map_both}
 use Rattle.rbc_model.specs.declared.memory.OrMemory.{OrMemory}
 use Rattle.rbc_model.specs.declared.memory.OrMemory.TheVariants.{Refused, Memory as NoMemory}
@@ -15,7 +15,7 @@ use Rattle.rbc_model.specs.SoundTracks.{IsInForm, IsSound}
 use Rattle.rbc_model.specs.Tracks.{Track}
 use Rattle.rbc_model.specs.Views.{View, view}
 use Rattle.rbc_model.specs.Histories.{Entry, Receipt, replay}
-use Rattle.rbc_model.specs.SessionReply.{SessionRefusal, BadEvent, Full, Memory, accepted_reply, blocked_reply, refused_reply}
+use Rattle.rbc_model.specs.SessionReply.{BadEvent, Full, Memory, accepted_reply, blocked_reply, refused_reply}
 use Rattle.rbc_grant_laws.specs.Candidates.{IsCandidateOf}
 use Rattle.rbc_grant_laws.proofs.CandidateLemmas.{view-train}
 use Rattle.rbc_sweep.specs.Candidates.{HasChosenProfiles}
@@ -32,13 +32,9 @@ use Rattle.rbc_sweep.specs.Telling.{IsToldThen}
 use Rattle.rbc_replies.specs.Replies.{refusal_view, ObstacleIsOfTrack, RefusalIsOfTrack, ReplyIsWhole, grant_text}
 use Rattle.rbc_replies.specs.declared.replies.Granted.{Granted as ToldGrant}
 use Rattle.rbc_replies.specs.declared.replies.SessionReply.{SessionReply}
-use Rattle.rbc_session_laws.specs.declared.demand.Demand.{Demand}
-use Rattle.rbc_session_laws.specs.declared.demand.Demand.TheVariants.{Nothing, Event, Authority}
 use Rattle.rbc_model.specs.HistoryText.{IsToldOfTrack}
-use Rattle.rbc_session_laws.specs.Demands.{demand_in}
-use Rattle.rbc_server.specs.SeatChanges.{SeatComes, SeatGoes}
-use Rattle.rbc_server.specs.SeatTurns.{AnswersAsked}
-use Rattle.rbc_session_laws.specs.Turns.{AnswersEvent}
+use Rattle.rbc_server.specs.SeatTurns.{AnswersAsked, IsAnsweredSince}
+use Rattle.rbc_session_laws.specs.Turns.{AnswersAuthority, AnswersEvent}
 use Rattle.rbc_server.specs.Shown.{told_refusal, entry_granted_in, IsToldOf}
 use Rattle.rbc_server.proofs.AskingLemmas.{asked_answers, blocked_named, shown_named, granted_answers, told_whole}
 use Rattle.rbc_server.proofs.TellingLemmas.{entered_free, nothing_added, told_answers, not_told_answers, not_told_named}
@@ -54,36 +50,28 @@ told_on : (begun after : HistoryOnTrack) (told : Told) (answer : Result Receipt 
 told_on begun after told answer track on since = let later = since.later in later.track ∙ on
 
 pub told_at_desk : (told : Told) (receipt : Receipt) (place : ℕ) (old new : Seated) → IsToldThen old.told new.told told (Ok receipt) → place ≡ receipt.place
-    → new.receipts ≡ old.receipts ++ receipt ∷ [] → SeatComes (Ok (Event told)) old (accepted_reply (place + 1)) new
-told_at_desk told receipt place old new since at gains =
-    let entered = since.entered in (
-      Some receipt,
-      record {
-        before = since.before;
-        later = since.later;
-        answered = told_answers since.before told receipt place entered.0 entered.1 at;
-        next = entered.1;
-        told = entered.2;
-      },
-      gains,
-    )
+    → IsAnsweredSince (λ track entries added. AnswersEvent track entries (accepted_reply (place + 1)) added told) old.told new.told (Some receipt)
+told_at_desk told receipt place old new since at =
+    let entered = since.entered in record {
+      before = since.before;
+      later = since.later;
+      answered = told_answers since.before told receipt place entered.0 entered.1 at;
+      next = entered.1;
+      told = entered.2;
+    }
 
 pub not_told_at_desk : (told : Told) (fault : OrMemory ApplyFault) (track : Track) (old new : Seated) → old.told.track ≡ track → IsToldThen old.told new.told told (Err fault)
-    → new.receipts ≡ old.receipts → SeatComes (Ok (Event told)) old (refused_reply track (refusal_view (told_refusal fault))) new
-not_told_at_desk told fault track old new on since same =
+    → IsAnsweredSince (λ t entries added. AnswersEvent t entries (refused_reply track (refusal_view (told_refusal fault))) added told) old.told new.told None
+not_told_at_desk told fault track old new on since =
     let entered = since.entered in
-    let before = since.before in (
-      None,
-      record {
-        before = before;
-        later = since.later;
-        answered = subst (λ t. AnswersEvent before.track before.entries (refused_reply t (refusal_view (told_refusal fault))) None told) (told_on old.told new.told told (Err fault) track on since)
-            (not_told_answers before told fault entered.0 (λ e. since.needed (ap Err e)));
-        next = tt;
-        told = entered.1 ∙ nothing_added before;
-      },
-      same ∙ sym (append-nil old.receipts),
-    )
+    let before = since.before in record {
+      before = before;
+      later = since.later;
+      answered = subst (λ t. AnswersEvent before.track before.entries (refused_reply t (refusal_view (told_refusal fault))) None told) (told_on old.told new.told told (Err fault) track on since)
+          (not_told_answers before told fault entered.0 (λ e. since.needed (ap Err e)));
+      next = tt;
+      told = entered.1 ∙ nothing_added before;
+    }
 
 pub not_told_named_at_desk : (told : Told) (fault : OrMemory ApplyFault) (track : Track) (begun after : HistoryOnTrack) → IsSound track → IsToldOfTrack track told → begun.track ≡ track
     → IsToldThen begun after told (Err fault) → RefusalIsOfTrack track (told_refusal fault)
@@ -174,40 +162,43 @@ asked_on begun after train answer track on since =
     let later = since.later in
     subst (λ t. IsAnswered (history_on t since.before.entries) train answer) (later.track ∙ on) since.answered
 
+-- the receipt for what a train is granted, if it is
+abbrev pub receipt_in : Result GrantedAtDesk (OrMemory AskFault) → Option Receipt
+receipt_in (Ok granted) = Some granted.receipt
+receipt_in (Err fault) = None
+
 -- the answer after a history that goes on from what the seat had been told, as a reply to a train that asks
 pub asked_at_desk : (train : ℕ) (track : Track) (reply : List ℕ) (answer : Result GrantedAtDesk (OrMemory AskFault)) (old new : Seated) → old.told.track ≡ track
     → IsAnsweredThen old.told new.told train answer
     → ((entries : List Entry) → IsAnswered (history_on track entries) train answer → AnswersAsked track entries reply (entry_granted_in answer) train)
-    → IfOk answer (λ granted. new.receipts ≡ old.receipts ++ granted.receipt ∷ []) → OnErr answer (new.receipts ≡ old.receipts)
-    → SeatComes (Ok (Authority train)) old reply new
-asked_at_desk train track reply (Ok granted) old new on since says gains kept =
+    → IsAnsweredSince (λ t entries added. AnswersAsked t entries reply added train) old.told new.told (receipt_in answer)
+asked_at_desk train track reply (Ok granted) old new on since says =
     let before = since.before in
     let later = since.later in
-    let answered = since.answered in (
-      Some granted.receipt,
-      record {
-        before = before;
-        later = later;
-        answered = subst (λ t. AnswersAsked t before.entries reply (Some granted.receipt.entry) train) (sym (later.track ∙ on))
-            (says before.entries (asked_on old.told new.told train (Ok granted) track on since));
-        next = answered.2;
-        told = since.told;
-      },
-      gains,
-    )
-asked_at_desk train track reply (Err fault) old new on since says gains kept =
+    let answered = since.answered in record {
+      before = before;
+      later = later;
+      answered = subst (λ t. AnswersAsked t before.entries reply (Some granted.receipt.entry) train) (sym (later.track ∙ on))
+          (says before.entries (asked_on old.told new.told train (Ok granted) track on since));
+      next = answered.2;
+      told = since.told;
+    }
+asked_at_desk train track reply (Err fault) old new on since says =
     let before = since.before in
-    let later = since.later in (
-      None,
-      record {
-        before = before;
-        later = later;
-        answered = subst (λ t. AnswersAsked t before.entries reply None train) (sym (later.track ∙ on)) (says before.entries (asked_on old.told new.told train (Err fault) track on since));
-        next = tt;
-        told = since.told ∙ nothing_added before;
-      },
-      kept ∙ sym (append-nil old.receipts),
-    )
+    let later = since.later in record {
+      before = before;
+      later = later;
+      answered = subst (λ t. AnswersAsked t before.entries reply None train) (sym (later.track ∙ on)) (says before.entries (asked_on old.told new.told train (Err fault) track on since));
+      next = tt;
+      told = since.told ∙ nothing_added before;
+    }
+
+-- what is granted is what the train would be granted alone
+pub granted_alone : (track : Track) (entries : List Entry) (reply : List ℕ) (entry : Entry) (train : ℕ) → AnswersAsked track entries reply (Some entry) train
+    → AnswersAuthority track entries reply (Some entry) train
+granted_alone track entries reply entry train (inl answers) = answers
+granted_alone track entries reply entry train (inr (known, inl (full, (said, none)))) = absurd (let c : ⊥ = cc in c)
+granted_alone track entries reply entry train (inr (known, inr (said, none))) = absurd (let c : ⊥ = cc in c)
 
 pub asked_below : (begun after : HistoryOnTrack) (train : ℕ) (answer : Result GrantedAtDesk (OrMemory AskFault)) → IsAnsweredThen begun after train answer → IfOk answer (λ granted. granted.receipt.place < MOST_ENTRIES)
 asked_below begun after train (Ok granted) since = let answered = since.answered in let below = below_most (length since.before.entries) answered.0 in let at = answered.2 in omega arith
@@ -216,18 +207,3 @@ asked_below begun after train (Err fault) since = tt
 pub asked_whole : (train : ℕ) (track : Track) (answer : Result GrantedAtDesk (OrMemory AskFault)) (reply : SessionReply) (begun after : HistoryOnTrack) → begun.track ≡ track
     → IsAnsweredThen begun after train answer → ((entries : List Entry) → IsAnswered (history_on track entries) train answer → ReplyIsWhole track reply) → ReplyIsWhole track reply
 asked_whole train track answer reply begun after on since whole = whole since.before.entries (asked_on begun after train answer track on since)
-
--- ---- lines
-
-pub seat_line_comes : (before after : Seated) (line reply : List ℕ) (demand : Result Demand SessionRefusal) (track : Track) → track ≡ before.told.track → demand ≡ demand_in track line
-    → SeatComes demand before reply after → SeatGoes before line reply after
-seat_line_comes before after line reply demand track is e comes = subst (λ d. SeatComes d before reply after) (e ∙ ap (λ t. demand_in t line) is) comes
-
--- a line that asks for nothing, and one that is refused, change nothing
-pub seat_idle : (seat : Seated) (line : List ℕ) (track : Track) → track ≡ seat.told.track → Ok Nothing ≡ demand_in track line → SeatGoes seat line [] seat
-seat_idle seat line track is e = seat_line_comes seat seat line [] (Ok Nothing) track is e (None, (refl, (refl, refl)), sym (append-nil seat.receipts))
-
-pub seat_refused : (seat : Seated) (line : List ℕ) (refusal : SessionRefusal) (track : Track) → track ≡ seat.told.track → Err refusal ≡ demand_in track line
-    → SeatGoes seat line (refused_reply track refusal) seat
-seat_refused seat line refusal track is e =
-    seat_line_comes seat seat line (refused_reply track refusal) (Err refusal) track is e (None, (ap (λ t. refused_reply t refusal) is, (refl, refl)), sym (append-nil seat.receipts))

@@ -1,42 +1,56 @@
 -- Connections: each client that comes is served from a seat of its own.
-use Rattle.std.specs.Prelude.{◌≡◌, ◌↔◌, ℕ, List, [], false, map, All, IsTrue, OnOk, Option, Err}
+use Rattle.std.specs.Prelude.{◌≡◌, ◌↔◌, ◌||◌, ℕ, List, [], false, map, All, IsTrue, OnOk, Option, Err}
 use Rattle.std.specs.Io.KnownBytes.{Consumes, IsAtEnd}
 use Rattle.rbc_model.specs.declared.sessions.SessionFault.TheVariants.{Read, Write, Memory}
 use Rattle.rbc_port.specs.Clients.{Came, Coming, Parting}
 use Rattle.rbc_sweep.specs.Seats.{Seated}
 use Rattle.rbc_server.specs.SeatAnswers.{AreLineAnswers}
 use Rattle.rbc_server.specs.SeatSessions.{IsSeatSession}
+use Rattle.rbc_server.specs.Sittings.{AreToldKept, StaysKept}
+use Rattle.rbc_server.specs.declared.sitting.Sitting.{Sitting}
 
--- a client that came, the seat that it was served from, before that and after it, and how the client went
-pub record Connection : Type 0 where
+-- a client that came, the seat that it was served from with its pen, before that and after it, and how the client went
+pub record Connection (L P : Type 0) : Type 0 where
   pub came : Coming
-  pub before : Seated
-  pub after : Seated
+  pub before : Sitting L P
+  pub after : Sitting L P
   pub went : Parting
 
--- The client was served from the seat.
-pub record IsConnection (c : Connection) : Type 0 where
+-- The client was served from the seat. By what a pen knows, what led to an entry is kept.
+pub record IsConnection {L P : Type 0} (kept : P → ℕ → Type 0) (c : Connection L P) : Type 0 where
   -- What was read of this client is the input of a session from the seat, line by line. What this client was told are the replies. So it ended.
   pub input : List ℕ
   pub read : Consumes c.came.says c.went.unread input
-  pub session : IsSeatSession c.before c.after input c.came.told c.went.told c.went.ended
-  pub answers : AreLineAnswers c.before.told session.turns
-  -- It ended well only at the end of what this client says, and with a read or write fault just where a read or a write failed.
+  pub session : IsSeatSession c.before.seat c.after.seat input c.came.told c.went.told c.went.ended
+  pub answers : AreLineAnswers c.before.seat.told session.turns
+  -- What it was told are the replies to the first lines, and what these led to is kept: so it is with all lines, unless keeping failed.
+  pub is_kept : AreToldKept (kept c.after.pen) c.after.has_failed session.turns c.came.told c.went.told
+  pub stays : StaysKept kept c.before.pen c.after.pen
+  -- It ended well only at the end of what this client says, and with a read or write fault just where a read or a write failed, or keeping.
   pub end : OnOk c.went.ended (IsAtEnd c.went.unread)
   pub read_fault : (c.went.ended ≡ Err Read) ↔ IsTrue c.went.read_failed
-  pub write_fault : (c.went.ended ≡ Err Write) ↔ IsTrue c.went.write_failed
+  pub write_fault : c.went.ended ≡ Err Write → IsTrue (c.after.has_failed || c.went.write_failed)
+  pub write_failed : IsTrue c.went.write_failed → c.went.ended ≡ Err Write
   -- Without memory it did not begin.
   pub memory : c.went.ended ≡ Err Memory → (c.went.unread ≡ c.came.says) × (c.went.told ≡ c.came.told) × (c.after ≡ c.before)
-  -- All that this client was told was handed on to it, unless a write failed.
-  pub handed_on : c.went.write_failed ≡ false → c.went.held_back ≡ []
+  -- All that this client was told was handed on to it, unless a write failed, or keeping.
+  pub handed_on : (c.after.has_failed || c.went.write_failed) ≡ false → c.went.held_back ≡ []
 
 -- Of the clients that come, where it is known who comes, the first came, in order: one for each of these seats, also in order, which then were so. So
 -- the clients went.
-pub record AreConnections (coming : Option (List Coming)) (seats served : List Seated) (partings : List Parting) : Type 0 where
-  pub connections : List Connection
-  pub each : All IsConnection connections
+pub record AreConnections {L P : Type 0} (kept : P → ℕ → Type 0) (coming : Option (List Coming)) (sittings served : List (Sitting L P)) (partings : List Parting) : Type 0 where
+  pub connections : List (Connection L P)
+  pub each : All (IsConnection kept) connections
   pub still_to_come : Option (List Coming)
-  pub clients : Came coming still_to_come (map (λ (c : Connection). c.came) connections)
-  pub before : map (λ (c : Connection). c.before) connections ≡ seats
-  pub after : map (λ (c : Connection). c.after) connections ≡ served
-  pub went : map (λ (c : Connection). c.went) connections ≡ partings
+  pub clients : Came coming still_to_come (map (λ (c : Connection L P). c.came) connections)
+  pub before : map (λ (c : Connection L P). c.before) connections ≡ sittings
+  pub after : map (λ (c : Connection L P). c.after) connections ≡ served
+  pub went : map (λ (c : Connection L P). c.went) connections ≡ partings
+
+-- The same where keeping failed in none. The seats and the pens came back, in order.
+pub record AreParted {L P : Type 0} (kept : P → ℕ → Type 0) (coming : Option (List Coming)) (sittings : List (Sitting L P)) (seats : List Seated) (pens : List P) (partings : List Parting) : Type 0 where
+  pub served : List (Sitting L P)
+  pub connections : AreConnections kept coming sittings served partings
+  pub whole : All (λ (s : Sitting L P). s.has_failed ≡ false) served
+  pub seats_are : seats ≡ map (λ (s : Sitting L P). s.seat) served
+  pub pens_are : pens ≡ map (λ (s : Sitting L P). s.pen) served

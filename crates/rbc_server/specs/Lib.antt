@@ -6,6 +6,7 @@ pub mod SeatChanges
 pub mod SeatSessions
 pub mod SeatAnswers
 pub mod SeatTurns
+pub mod Sittings
 pub mod Shown
 pub mod Serving
 pub use Rattle.rbc_sweep.specs.Later

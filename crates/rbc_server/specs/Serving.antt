@@ -1,9 +1,9 @@
 -- What a centre that serves connections prints at the end, and what comes of it.
-use Rattle.std.specs.Prelude.{◌≡◌, ℕ, ◌+◌, ◌<◌, ◌⊎◌, List, [], ◌∷◌, ◌++◌, length, map, take, drop, codes, decimal, All, IsPermutation, Option}
+use Rattle.std.specs.Prelude.{◌≡◌, ℕ, ◌+◌, ◌<◌, ◌⊎◌, List, [], ◌∷◌, ◌++◌, length, map, take, codes, decimal, All, IsPermutation, Option}
 use Rattle.std.specs.List.{AllZip}
 use Rattle.std.specs.Io.KnownBytes.{Appends}
 use Rattle.rbc_model.specs.Levels.{speed_levels, grade_levels}
-use Rattle.rbc_model.specs.Histories.{Matches}
+use Rattle.rbc_model.specs.Histories.{Matches, Receipt}
 use Rattle.rbc_model.specs.PriceTables.{IsGreatestSoundTable}
 use Rattle.rbc_model.specs.Scales.{unit_of}
 use Rattle.rbc_port.specs.Clients.{Coming, Parting}
@@ -23,10 +23,14 @@ use Rattle.rbc_sweep.specs.declared.outcome.Answer.{Answer}
 use Rattle.rbc_sweep.specs.declared.outcome.Answer.TheVariants.{Granted, Blocked, Gone, Full, Memory}
 use Rattle.rbc_sweep.specs.declared.outcome.Outcome.{Outcome}
 use Rattle.rbc_server.specs.declared.connections.ConnectFault.{ConnectFault}
-use Rattle.rbc_server.specs.declared.connections.ConnectFault.TheVariants.{Port as NoConnection, Memory as NoThread}
-use Rattle.rbc_server.specs.Connections.{AreConnections}
+use Rattle.rbc_server.specs.declared.connections.ConnectFault.TheVariants.{Port as NoConnection, Memory as NoThread, Journal as NotKeptInSession}
+use Rattle.rbc_server.specs.Connections.{AreParted}
+use Rattle.rbc_server.specs.declared.keeping.KeepFault.{KeepFault}
+use Rattle.rbc_server.specs.declared.keeping.KeepFault.TheVariants.{Journal as KeeperFailed, Memory as NoTextMemory}
+use Rattle.rbc_server.specs.Sittings.{StaysKept}
 use Rattle.rbc_server.specs.declared.serving.ServeFault.{ServeFault}
-use Rattle.rbc_server.specs.declared.serving.ServeFault.TheVariants.{Port, Write, Memory as NoServeMemory, Close}
+use Rattle.rbc_server.specs.declared.staff.Staff.{Staff}
+use Rattle.rbc_server.specs.declared.serving.ServeFault.TheVariants.{Port, Write, Memory as NoServeMemory, Journal, Close}
 
 -- ---- what is printed
 
@@ -80,28 +84,49 @@ pub record IsBrought (others : List Seated) (had has : Seated) : Type 0 where
   pub told : Begins had.told has.told
   pub all : All (λ (other : Seated). Begins other.told has.told) others
 
--- So many of the clients that come were served from the first of these seats, and went so; and a sweep with these outcomes was made with the seats that
--- are left. These seats came back.
-pub record IsSwept (coming : Option (List Coming)) (partings : List Parting) (connections : ℕ) (seats kept : List Seated) (outcomes : List Outcome) : Type 0 where
-  -- Each client was served from a seat of its own, in order. Before the sweep, the seats that are left were told all that those were told by the end of their
-  -- sessions. All seats have first what they had then, of receipts and of what they were told.
+-- The first of the seats was told all that these others were told, and by what its pen then knows what led to the entries that were granted is kept.
+-- These seats and pens came back.
+pub record AreKept {P : Type 0} (kept : P → ℕ → Type 0) (others : List Seated) (seats : List Seated) (pens : List P) (outcomes : List Outcome) (heard : List Seated) (last : List P) : Type 0 where
+  pub seat : Seated
+  pub more : List Seated
+  pub pen : P
+  pub other_pens : List P
+  pub told : Seated
+  pub knows : P
+  pub seats_were : seats ≡ seat ∷ more
+  pub pens_were : pens ≡ pen ∷ other_pens
+  pub heard_is : heard ≡ told ∷ more
+  pub last_is : last ≡ knows ∷ other_pens
+  pub brought : IsBrought others seat told
+  pub stays : StaysKept kept pen knows
+  pub granted_kept : All (λ (receipt : Receipt). kept knows receipt.place) (granted outcomes)
+
+-- A client that comes was served from each of the sittings, and went so; and a sweep with these outcomes was made with the workers' seats. These seats
+-- and these pens came back.
+pub record IsSwept {L P : Type 0} (kept : P → ℕ → Type 0) (coming : Option (List Coming)) (partings : List Parting) (staff : Staff L P) (seats : List Seated) (pens : List P) (outcomes : List Outcome) : Type 0 where
+  -- Each client was served from a sitting of its own, in order. Before the sweep, the workers' seats were told all that the others were told by the end of
+  -- their sessions. These have first what they had then, of receipts and of what they were told.
   pub served : List Seated
+  pub served_pens : List P
   pub brought : List Seated
   pub swept : List Seated
-  pub all : kept ≡ served ++ swept
-  pub after_connections : AreConnections coming (take connections seats) served partings
-  pub before_sweep : AllZip (IsBrought served) (drop connections seats) brought
+  pub after_connections : AreParted kept coming staff.sittings.items served served_pens partings
+  pub before_sweep : AllZip (IsBrought served) staff.workers.items brought
   pub after_sweep : AllZip AreFirst brought swept
   -- The sweep served, in order of arrival, each train that its first seat was told of, and each is answered as one of its seats was told. What the
   -- seats gained is what it granted.
   pub trains : AreTrainsOfFirst brought swept (map train_of outcomes)
   pub answered : All (IsToldToOne brought swept) outcomes
   pub gained : IsPermutation (all_receipts brought ++ granted outcomes) (all_receipts swept)
+  -- What led to the entries that it granted is kept.
+  pub heard : List Seated
+  pub is_kept : AreKept kept swept served served_pens outcomes heard pens
+  pub all : seats ≡ heard ++ swept
 
 -- The same, and what was written on this track tells the outcomes.
-pub record IsAttended (track : Track) (coming : Option (List Coming)) (partings : List Parting) (connections : ℕ) (seats kept : List Seated) (old new : Option (List ℕ)) : Type 0 where
+pub record IsAttended {L P : Type 0} (kept : P → ℕ → Type 0) (track : Track) (coming : Option (List Coming)) (partings : List Parting) (staff : Staff L P) (seats : List Seated) (pens : List P) (old new : Option (List ℕ)) : Type 0 where
   pub outcomes : List Outcome
-  pub sweep : IsSwept coming partings connections seats kept outcomes
+  pub sweep : IsSwept kept coming partings staff seats pens outcomes
   pub told : List ℕ
   pub tells : TellsAll track outcomes told
   pub written : Appends old new told
@@ -113,21 +138,27 @@ pub record IsClosed (opened : HistoryOnTrack) (kept : List Seated) (log : Histor
   pub goes_on : All (λ (seat : Seated). IsLater seat.told log) kept
 
 -- Clients were served, and went so, and a sweep was made, at the desk that was opened with this history; then the desk was closed. This was written,
--- and this record came back.
-pub record IsServed (opened : HistoryOnTrack) (coming : Option (List Coming)) (partings : List Parting) (connections : ℕ) (seats : List Seated) (old new : Option (List ℕ)) (log : HistoryOnTrack) : Type 0 where
-  pub kept : List Seated
+-- and these pens and this record came back.
+pub record IsServed {L P : Type 0} (kept : P → ℕ → Type 0) (opened : HistoryOnTrack) (coming : Option (List Coming)) (partings : List Parting) (staff : Staff L P) (pens : List P) (old new : Option (List ℕ)) (log : HistoryOnTrack) : Type 0 where
+  pub seats : List Seated
   pub so_far : Option (List ℕ)
-  pub attended : IsAttended opened.track coming partings connections seats kept old so_far
-  pub closing : IsClosed opened kept log
+  pub attended : IsAttended kept opened.track coming partings staff seats pens old so_far
+  pub closing : IsClosed opened seats log
   -- Last of all it is told how many entries the record has.
   pub closed : Appends so_far new (closed_line (length log.entries))
 
 -- ---- faults
 
+-- why what a sweep granted is not kept
+abbrev pub keep_fault : KeepFault → ServeFault
+keep_fault KeeperFailed = Journal
+keep_fault NoTextMemory = NoServeMemory
+
 -- why not all connections were served
 abbrev pub serve_fault : ConnectFault → ServeFault
 serve_fault NoConnection = Port
 serve_fault NoThread = NoServeMemory
+serve_fault NotKeptInSession = Journal
 
 -- A desk was closed with these seats. Where it could not be closed, some of its seats were not handed in; or in a legal history that goes on from its
 -- opening, a receipt of a seat is not at its place. Nothing was written then. Where the writer failed the desk was closed, and a part of the last line
@@ -135,33 +166,38 @@ serve_fault NoThread = NoServeMemory
 abbrev pub IsCloseFault : HistoryOnTrack → ℕ → List Seated → Option (List ℕ) → Option (List ℕ) → ServeFault → Type 0
 IsCloseFault opened parts kept old new Port = ⊥
 IsCloseFault opened parts kept old new NoServeMemory = ⊥
+IsCloseFault opened parts kept old new Journal = ⊥
 IsCloseFault opened parts kept old new Write = (log : HistoryOnTrack) × IsClosed opened kept log × WritesPart old new (closed_line (length log.entries))
 IsCloseFault opened parts kept old new (Close fault) = IsUnmatched opened parts kept fault × (new ≡ old)
 
 -- The writer failed while the outcomes of a sweep were told. What was written is a part, from its start, of what tells the first of them.
-pub record IsCutOff (track : Track) (coming : Option (List Coming)) (connections : ℕ) (seats : List Seated) (old new : Option (List ℕ)) : Type 0 where
+pub record IsCutOff {L P : Type 0} (kept : P → ℕ → Type 0) (track : Track) (coming : Option (List Coming)) (staff : Staff L P) (old new : Option (List ℕ)) : Type 0 where
   pub partings : List Parting
-  pub kept : List Seated
+  pub seats : List Seated
+  pub pens : List P
   pub outcomes : List Outcome
-  pub sweep : IsSwept coming partings connections seats kept outcomes
+  pub sweep : IsSwept kept coming partings staff seats pens outcomes
   pub count : ℕ
   pub told : List ℕ
   pub tells : TellsAll track (take count outcomes) told
   pub written : WritesPart old new told
 
 -- the same while the last line was told, or the desk could not be closed
-pub record IsUnclosed (opened : HistoryOnTrack) (coming : Option (List Coming)) (parts connections : ℕ) (seats : List Seated) (old new : Option (List ℕ)) (fault : ServeFault) : Type 0 where
+pub record IsUnclosed {L P : Type 0} (kept : P → ℕ → Type 0) (opened : HistoryOnTrack) (coming : Option (List Coming)) (parts : ℕ) (staff : Staff L P) (old new : Option (List ℕ)) (fault : ServeFault) : Type 0 where
   pub partings : List Parting
-  pub kept : List Seated
+  pub seats : List Seated
+  pub pens : List P
   pub so_far : Option (List ℕ)
-  pub attended : IsAttended opened.track coming partings connections seats kept old so_far
-  pub unclosed : IsCloseFault opened parts kept so_far new fault
+  pub attended : IsAttended kept opened.track coming partings staff seats pens old so_far
+  pub unclosed : IsCloseFault opened parts seats so_far new fault
 
--- What is known after a fault. Of a connection that could not be had, and of memory that was refused, nothing is: nothing was written before either.
-abbrev pub IsServeFault : HistoryOnTrack → Option (List Coming) → ℕ → ℕ → List Seated → Option (List ℕ) → Option (List ℕ) → ServeFault → Type 0
-IsServeFault opened coming parts connections seats old new Port = Unit {0}
-IsServeFault opened coming parts connections seats old new NoServeMemory = Unit {0}
-IsServeFault opened coming parts connections seats old new Write =
-    IsCutOff opened.track coming connections seats old new ⊎ IsUnclosed opened coming parts connections seats old new Write
-IsServeFault opened coming parts connections seats old new (Close fault) =
-    IsUnclosed opened coming parts connections seats old new (Close fault)
+-- What is known after a fault. Of a connection that could not be had, of memory that was refused and of a request that could not be kept nothing is:
+-- nothing was written before either.
+abbrev pub IsServeFault : {L P : Type 0} → (P → ℕ → Type 0) → HistoryOnTrack → Option (List Coming) → ℕ → Staff L P → Option (List ℕ) → Option (List ℕ) → ServeFault → Type 0
+IsServeFault kept opened coming parts staff old new Port = Unit {0}
+IsServeFault kept opened coming parts staff old new NoServeMemory = Unit {0}
+IsServeFault kept opened coming parts staff old new Journal = Unit {0}
+IsServeFault kept opened coming parts staff old new Write =
+    IsCutOff kept opened.track coming staff old new ⊎ IsUnclosed kept opened coming parts staff old new Write
+IsServeFault kept opened coming parts staff old new (Close fault) =
+    IsUnclosed kept opened coming parts staff old new (Close fault)

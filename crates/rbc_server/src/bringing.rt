@@ -9,7 +9,7 @@ use rbc_sweep::{DeskName, Seat};
 
 /// Tells a seat all that these others were told.
 #[tactic(auto, using(crate::proofs::BringingLemmas::none_brought))]
-fn bring<L: DeskName>(seat: &mut Seat<L>, others: &[Seat<L>])
+pub(crate) fn bring<L: DeskName>(seat: &mut Seat<L>, others: &[Seat<L>])
     ensures { IsBrought others.now seat.old seat.new }
 {
     for other in others {

@@ -1,13 +1,13 @@
 //! Connections, each with a thread and a seat of its own.
 
-ghost use Rattle.std.specs.Prelude.{◌≡◌, ◌+◌, ◌≤◌, ◌<◌, ◌^◌, map, IfOk, Err, vec_len, vec_capacity};
-ghost use Rattle.std.specs.List.{AllZip};
+ghost use Rattle.std.specs.Prelude.{◌≡◌, ◌+◌, ◌≤◌, ◌<◌, ◌^◌, List, All, false, map, IfOk, Err, vec_len, vec_capacity};
+ghost use Rattle.std.specs.List.{AllZip, list_any};
 ghost use Rattle.std.specs.Thread.{IsSend, IsSync};
 ghost use Rattle.rbc_port.specs.Clients.{FewerCome};
-ghost use Rattle.rbc_server.specs.Connections.{AreConnections, IsConnection};
+ghost use Rattle.rbc_server.specs.Connections.{AreConnections, AreParted, IsConnection};
 ghost use Rattle.rbc_server.specs.declared.connections.ConnectFault.TheVariants.{Port as NoClient};
 
-use crate::session;
+use crate::{Counter, Keeper, Sitting, session};
 use rbc_port::{Client, Clients, Ends, PortFailed};
 use rbc_streams::{Sink, Source};
 use rbc_sweep::{Desk, DeskName, OpenGate, Seat};
@@ -28,6 +28,8 @@ pub(crate) enum ConnectFault {
     Port,
     /// No thread could be started for a connection, or there was no room for the seats.
     Memory,
+    /// A request could not be kept.
+    Journal,
 }
 
 impl From<AllocError> for ConnectFault {
@@ -50,42 +52,54 @@ impl From<PortFailed> for ConnectFault {
     }
 }
 
-/// A seat that a client was served from, and what is left of the client.
+/// A sitting that a client was served from, and what is left of the client.
 #[derive(Drop)]
-struct Visit<L: DeskName, G> {
-    seat: Seat<L>,
+struct Visit<L: DeskName, Q, G> {
+    sitting: Sitting<L, Q>,
     gone: G,
 }
 
-/// The client is served from the seat.
+/// The client is served from the sitting.
 #[derive(Drop)]
-struct Serves<L: DeskName, C>(Snapshot<Seat<L>>, Snapshot<C>);
+struct Serves<L: DeskName, K, Q, C>(Snapshot<Sitting<L, Q>>, Snapshot<C>, PhantomData<K>);
 
-impl<L: DeskName, G, C: Client<Gone = G>> Promise<Visit<L, G>> for Serves<L, C> {
+impl<L: DeskName, K: Keeper<L, Pen = Q>, Q, G, C: Client<Gone = G>> Promise<Visit<L, Q, G>>
+    for Serves<L, K, Q, C> {
     ghost use Rattle.rbc_server.specs.Connections.{IsConnection};
 
-    ghost kept_by = { λ promise visit. IsConnection (record {
+    ghost kept_by = { λ promise visit. IsConnection K.kept (record {
       came = C.coming promise.1.value;
       before = promise.0.value;
-      after = visit.seat;
+      after = visit.sitting;
       went = C.parting visit.gone;
     }) };
 }
 
-/// A session with a client, from this seat. A fault of the session ends the connection, and nothing else.
+/// A session with a client, from this sitting. A fault of the session ends the connection, and nothing else.
 fn connection<
     L: DeskName,
+    Q: Drop,
+    X: Drop,
+    K: Keeper<L, Pen = Q, Text = X>,
     I: Source + Drop,
     O: Sink + Drop,
     G,
     C: Client<Reader = I, Writer = O, Gone = G>,
     T: Threads + Wait + Clock + Eprint + Sync,
->(rt: &T, alloc: Global, track: &Track, desk: &Desk<L>, mut seat: Seat<L>, client: C) -> Visit<L, G>
+>(
+    rt: &T,
+    alloc: Global,
+    track: &Track,
+    desk: &Desk<L>,
+    keeper: &K,
+    sitting: Sitting<L, Q>,
+    client: C,
+) -> Visit<L, Q, G>
     requires { track.now ≡ L.opened.track }
-    ensures { IsConnection (record {
+    ensures { IsConnection K.kept (record {
       came = C.coming client;
-      before = seat;
-      after = result.seat;
+      before = sitting;
+      after = result.sitting;
       went = C.parting result.gone;
     }) }
 {
@@ -95,7 +109,13 @@ fn connection<
         lines,
     } = match client.begin(rt, alloc) {
         Ok(ends) => ends,
-        Err(gone) => return Visit { seat, gone },
+        Err(gone) => return Visit { sitting, gone },
+    };
+    let Sitting { seat, pen, .. } = sitting;
+    let mut sitting = Sitting {
+        seat,
+        pen,
+        has_failed: false,
     };
     let ended = session(
         rt,
@@ -103,27 +123,25 @@ fn connection<
         lines,
         &mut reader,
         &mut writer,
-        track,
-        desk,
-        &mut seat,
-        &OpenGate,
+        &Counter::new(desk, track, keeper, &OpenGate, rt),
+        &mut sitting,
     );
     let gone = C::let_go(rt, alloc, reader, writer, ended);
-    Visit { seat, gone }
+    Visit { sitting, gone }
 }
 
 /// Waits until these sessions have ended, and gives what came of them back in order, in the room that is there for them.
-fn join_all<L: DeskName, G: Drop, C: Client<Gone = G>, T: Threads>(
+fn join_all<L: DeskName, Q: Drop, K: Keeper<L, Pen = Q>, G: Drop, C: Client<Gone = G>, T: Threads>(
     rt: &T,
-    handles: Vec<PromisedHandle<Visit<L, G>, Serves<L, C>>>,
-    mut back: Vec<Visit<L, G>>,
-) -> Vec<Visit<L, G>>
+    handles: Vec<PromisedHandle<Visit<L, Q, G>, Serves<L, K, Q, C>>>,
+    mut back: Vec<Visit<L, Q, G>>,
+) -> Vec<Visit<L, Q, G>>
     requires empty { vec_len back ≡ 0 }
     requires room { vec_len handles ≤ vec_capacity back }
-    ensures served { AllZip (λ handle visit. IsConnection (record {
+    ensures served { AllZip (λ handle visit. IsConnection K.kept (record {
       came = C.coming handle.promise.1.value;
       before = handle.promise.0.value;
-      after = visit.seat;
+      after = visit.sitting;
       went = C.parting visit.gone;
     })) handles.items result.items }
     ensures length { vec_len result ≡ vec_len handles }
@@ -134,36 +152,66 @@ fn join_all<L: DeskName, G: Drop, C: Client<Gone = G>, T: Threads>(
     back
 }
 
-/// The seats and what is left of the clients, each in order, in the room that is there for them.
-fn part_all<L: DeskName, G: Drop>(
-    visits: Vec<Visit<L, G>>,
-    mut seats: Vec<Seat<L>>,
-    mut gone: Vec<G>,
-) -> (Vec<Seat<L>>, Vec<G>)
-    requires no_seat { vec_len seats ≡ 0 }
-    requires none_gone { vec_len gone ≡ 0 }
-    requires room_for_seats { vec_len visits ≤ vec_capacity seats }
-    requires room_for_gone { vec_len visits ≤ vec_capacity gone }
-    ensures seats { result.0.items ≡ map (λ visit. visit.seat) visits.items }
-    ensures gone { result.1.items ≡ map (λ visit. visit.gone) visits.items }
-    ensures room { vec_capacity result.0 ≡ vec_capacity seats }
-{
-    for visit in visits {
-        let Visit { seat, gone: client } = visit;
-        seats.push_reserved(seat);
-        gone.push_reserved(client);
-    }
-    (seats, gone)
+/// The seats, the pens and what is left of the clients, each in order.
+#[derive(Drop)]
+pub(crate) struct Parted<L: DeskName, Q, G> {
+    pub(crate) seats: Vec<Seat<L>>,
+    pub(crate) pens: Vec<Q>,
+    pub(crate) gone: Vec<G>,
 }
 
-/// Accepts a client for each of the seats, in order, each with a thread of its own, and closes the port. Once all
-/// sessions have ended it tells what came of them, in order.
+/// The same, in the room that is there for them.
+fn part_all<L: DeskName, Q: Drop, G: Drop>(
+    visits: Vec<Visit<L, Q, G>>,
+    room: Parted<L, Q, G>,
+) -> Parted<L, Q, G>
+    requires no_seat { vec_len room.seats ≡ 0 }
+    requires no_pen { vec_len room.pens ≡ 0 }
+    requires none_gone { vec_len room.gone ≡ 0 }
+    requires room_for_seats { vec_len visits ≤ vec_capacity room.seats }
+    requires room_for_pens { vec_len visits ≤ vec_capacity room.pens }
+    requires room_for_gone { vec_len visits ≤ vec_capacity room.gone }
+    ensures seats { result.seats.items ≡ map (λ visit. visit.sitting.seat) visits.items }
+    ensures pens { result.pens.items ≡ map (λ visit. visit.sitting.pen) visits.items }
+    ensures gone { result.gone.items ≡ map (λ visit. visit.gone) visits.items }
+    ensures room { vec_capacity result.seats ≡ vec_capacity room.seats }
+{
+    let Parted {
+        mut seats,
+        mut pens,
+        mut gone,
+    } = room;
+    for visit in visits {
+        let Visit {
+            sitting,
+            gone: left,
+        } = visit;
+        let Sitting { seat, pen, .. } = sitting;
+        seats.push_reserved(seat);
+        pens.push_reserved(pen);
+        gone.push_reserved(left);
+    }
+    Parted { seats, pens, gone }
+}
+
+/// Whether a request could not be kept in one of these visits.
+fn any_failed<L: DeskName, Q, G>(visits: &[Visit<L, Q, G>]) -> bool
+    ensures { result ≡ list_any (λ visit. visit.sitting.has_failed) visits.now }
+{
+    visits.iter().any(|visit| visit.sitting.has_failed)
+}
+
+/// Accepts a client for each of the sittings, and waits until all sessions have ended. The port is closed behind the last
+/// client.
 ///
 /// # Errors
 ///
-/// Those of [`connect`].
+/// Those of [`connect`], but for `Journal`.
 fn visit_all<
     L: DeskName + Send + Sync,
+    Q: Send + Drop,
+    X: Send + Drop,
+    K: Keeper<L, Pen = Q, Text = X> + Send + Sync,
     I: Source + Send + Drop,
     O: Sink + Send + Drop,
     G: Send + Drop,
@@ -176,32 +224,33 @@ fn visit_all<
     port: P,
     track: &Track,
     desk: &Desk<L>,
-    seats: Vec<Seat<L>>,
-) -> Result<Vec<Visit<L, G>>, ConnectFault>
+    keeper: &K,
+    sittings: Vec<Sitting<L, Q>>,
+) -> Result<Vec<Visit<L, Q, G>>, ConnectFault>
     requires track { track.now ≡ L.opened.track }
-    ensures served { IfOk result (λ visits. AreConnections (P.coming port) seats.items
-        (map (λ visit. visit.seat) visits.items) (map (λ visit. C.parting visit.gone) visits.items)
-        × (vec_len visits ≤ vec_len seats)) }
-    ensures port { result ≡ Err NoClient → FewerCome (P.coming port) (vec_len seats) }
+    ensures served { IfOk result (λ visits. AreConnections K.kept (P.coming port) sittings.items
+        (map (λ visit. visit.sitting) visits.items) (map (λ visit. C.parting visit.gone) visits.items)
+        × (vec_len visits ≤ vec_len sittings)) }
+    ensures port { result ≡ Err NoClient → FewerCome (P.coming port) (vec_len sittings) }
 {
     thread::scope(
         thread::scope_env(),
         rt,
-        move |scope| -> Result<Vec<Visit<L, G>>, ConnectFault>
-            requires { IsSync T.row × IsSend L.row × IsSync L.row × IsSend I.row × IsSend O.row × IsSend G.row × IsSend C.row
-                × (track.now ≡ L.opened.track) }
-            ensures served { IfOk result (λ visits. AreConnections (P.coming port) seats.items
-                (map (λ visit. visit.seat) visits.items) (map (λ visit. C.parting visit.gone) visits.items)
-                × (vec_len visits ≤ vec_len seats)) }
-            ensures port { result ≡ Err NoClient → FewerCome (P.coming port) (vec_len seats) }
+        move |scope| -> Result<Vec<Visit<L, Q, G>>, ConnectFault>
+            requires { IsSync T.row × IsSend L.row × IsSync L.row × IsSend Q.row × IsSend X.row × IsSend K.row × IsSync K.row × IsSend I.row
+                × IsSend O.row × IsSend G.row × IsSend C.row × (track.now ≡ L.opened.track) }
+            ensures served { IfOk result (λ visits. AreConnections K.kept (P.coming port) sittings.items
+                (map (λ visit. visit.sitting) visits.items) (map (λ visit. C.parting visit.gone) visits.items)
+                × (vec_len visits ≤ vec_len sittings)) }
+            ensures port { result ≡ Err NoClient → FewerCome (P.coming port) (vec_len sittings) }
         {
-            let mut handles = Vec::with_capacity(alloc, seats.len())?;
-            let visits = Vec::with_capacity(alloc, seats.len())?;
+            let mut handles = Vec::with_capacity(alloc, sittings.len())?;
+            let visits = Vec::with_capacity(alloc, sittings.len())?;
             let mut port = port;
             let mut fault = None;
             // What runs in a thread holds each type that it names.
-            let types = PhantomData::<(I, O, G)>;
-            for seat in seats {
+            let types = PhantomData::<(X, I, O, G)>;
+            for sitting in sittings {
                 if fault.is_some() {
                     continue;
                 }
@@ -212,21 +261,26 @@ fn visit_all<
                         continue;
                     }
                 };
-                let serves = Serves(Snapshot::of(&seat), Snapshot::of(&client));
+                let serves = Serves(
+                    Snapshot::of(&sitting),
+                    Snapshot::of(&client),
+                    PhantomData::<K>,
+                );
                 let spawned = scope.spawn_with(
                     serves,
-                    move || -> Visit<L, G>
-                        requires { IsSync T.row × IsSend L.row × IsSync L.row × IsSend I.row × IsSend O.row × IsSend G.row × IsSend C.row
+                    move || -> Visit<L, Q, G>
+                        requires { IsSync T.row × IsSend L.row × IsSync L.row × IsSend Q.row × IsSend X.row × IsSend K.row × IsSync K.row
+                            × IsSend I.row × IsSend O.row × IsSend G.row × IsSend C.row
                             × (track.now ≡ L.opened.track) }
-                        ensures { IsConnection (record {
+                        ensures { IsConnection K.kept (record {
                           came = C.coming client;
-                          before = seat;
-                          after = result.seat;
+                          before = sitting;
+                          after = result.sitting;
                           went = C.parting result.gone;
                         }) }
                     {
                         let _types = types;
-                        connection(rt, alloc, track, desk, seat, client)
+                        connection(rt, alloc, track, desk, keeper, sitting, client)
                     },
                 );
                 match spawned.ok() {
@@ -244,17 +298,22 @@ fn visit_all<
     )
 }
 
-/// Accepts a client for each of the seats, in order, each with a thread of its own, and closes the port. Once all
-/// sessions have ended it gives the seats back in their order, with room for so many more, and what is left of the
-/// clients.
+/// Accepts a client for each of the sittings, in order, each with a thread of its own, and closes the port. Once all
+/// sessions have ended it gives the seats and the pens back in their order, with room for so many seats more, and what is
+/// left of the clients.
 ///
 /// # Errors
 ///
 /// The first of these; the sessions that were begun have ended then too:
 /// - `Port`: a client could not be accepted,
-/// - `Memory`: no thread could be started for a connection, or there was no room for the seats.
+/// - `Memory`: no thread could be started for a connection, or there was no room for the seats,
+/// - `Journal`: a request could not be kept.
 pub(crate) fn connect<
+    'a,
     L: DeskName + Send + Sync,
+    Q: Send + Drop,
+    X: Send + Drop,
+    K: Keeper<L, Pen = Q, Text = X> + Send + Sync,
     I: Source + Send + Drop,
     O: Sink + Send + Drop,
     G: Send + Drop,
@@ -265,20 +324,32 @@ pub(crate) fn connect<
     rt: &T,
     alloc: Global,
     port: P,
-    track: &Track,
-    desk: &Desk<L>,
-    seats: Vec<Seat<L>>,
+    counter: &Counter<'a, L, K, OpenGate, T>,
+    sittings: Vec<Sitting<L, Q>>,
     more: usize,
-) -> Result<(Vec<Seat<L>>, Vec<G>), ConnectFault>
-    requires track { track.now ≡ L.opened.track }
-    requires fits { vec_len seats + more < 2 ^ 64 }
-    ensures served { IfOk result (λ back.
-        AreConnections (P.coming port) seats.items back.0.items (map C.parting back.1.items)) }
-    ensures room { IfOk result (λ back. vec_len back.0 + more ≤ vec_capacity back.0) }
-    ensures port { result ≡ Err NoClient → FewerCome (P.coming port) (vec_len seats) }
+) -> Result<Parted<L, Q, G>, ConnectFault>
+    requires fits { vec_len sittings + more < 2 ^ 64 }
+    ensures served { IfOk result (λ back. AreParted K.kept (P.coming port) sittings.items
+        back.seats.items back.pens.items (map C.parting back.gone.items)) }
+    ensures room { IfOk result (λ back. vec_len back.seats + more ≤ vec_capacity back.seats) }
+    ensures port { result ≡ Err NoClient → FewerCome (P.coming port) (vec_len sittings) }
 {
-    let back = Vec::with_capacity(alloc, seats.len() + more)?;
-    let gone = Vec::with_capacity(alloc, seats.len())?;
-    let visits = visit_all(rt, alloc, port, track, desk, seats)?;
-    Ok(part_all(visits, back, gone))
+    let room = Parted {
+        seats: Vec::with_capacity(alloc, sittings.len() + more)?,
+        pens: Vec::with_capacity(alloc, sittings.len())?,
+        gone: Vec::with_capacity(alloc, sittings.len())?,
+    };
+    let visits = visit_all(
+        rt,
+        alloc,
+        port,
+        counter.track,
+        counter.desk,
+        counter.keeper,
+        sittings,
+    )?;
+    if any_failed(visits.as_slice()) {
+        return Err(ConnectFault::Journal);
+    }
+    Ok(part_all(visits, room))
 }

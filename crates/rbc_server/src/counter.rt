@@ -1,83 +1,248 @@
 //! A seat at a desk answers lines.
 
-ghost use Rattle.std.specs.Prelude.{◌≡◌, ◌<◌, ℕ, List, false, Ok, IfOk};
+ghost use Rattle.std.specs.Prelude.{◌≡◌, ◌<◌, ℕ, List, true, false, Ok, IfOk, OnOk, is_err};
 ghost use Rattle.rbc_model.specs.Sessions.{Prints};
+ghost use Rattle.rbc_model.specs.SessionText.{SessionLine, IsSayable};
 ghost use Rattle.rbc_model.specs.Histories.{Entry};
 ghost use Rattle.rbc_model.specs.declared.limits.TheConstants.{MOST_ENTRIES};
 ghost use Rattle.rbc_sweep.specs.Records.{history_on};
 ghost use Rattle.rbc_sweep.specs.Asking.{IsAnswered};
 ghost use Rattle.rbc_replies.specs.Replies.{reply_text, ReplyIsWhole};
 ghost use Rattle.rbc_session_laws.specs.declared.demand.Demand.TheVariants.{Event, Authority};
+ghost use Rattle.rbc_session_laws.specs.Demands.{looked_up};
 ghost use Rattle.rbc_model.specs.HistoryText.{IsToldOfTrack};
-ghost use Rattle.rbc_server.specs.SeatChanges.{SeatComes};
+ghost use Rattle.rbc_words.specs.SessionLines.{request_view};
+ghost use Rattle.rbc_server.specs.Keeping.{AddsEntry};
 ghost use Rattle.rbc_server.specs.SeatTurns.{AnswersAsked};
 ghost use Rattle.rbc_server.specs.Shown.{entry_granted_in};
+ghost use Rattle.rbc_server.specs.Sittings.{IsTreated, StaysKept};
 
 use crate::asking::told_of;
-use crate::demand::demand_in;
+use crate::demand::looked_up;
 use crate::telling::refusal_of;
+use crate::{Keeper, NotKept, Sitting};
 use rbc_model::limits::LONGEST_LINE;
 use rbc_model::{LineFault, OrMemory, Refusal, Told};
 use rbc_replies::{SessionRefusal, SessionReply, print};
 use rbc_session_laws::Demand;
 use rbc_streams::{Answers, Sink, WriteFailed};
-use rbc_sweep::{AskFault, Desk, DeskName, Gate, Granted, Seat};
+use rbc_sweep::{AskFault, Desk, DeskName, Gate, Granted, Receipt};
 use rbc_track::Track;
+use rbc_words::{Request, parse};
 use std::alloc::Global;
 use std::sync::Wait;
 use std::thread::Threads;
 
-/// What a seat has at hand: its desk, with the track that gives the names; the gate; and a runtime that waits for the
-/// desk's lock.
+/// What the seats of a desk have at hand: the desk, with the track that gives the names; what keeps the requests that led to
+/// entries; the gate; and a runtime that waits for locks.
 #[derive(Drop)]
-pub(crate) struct Counter<'a, L: DeskName, G: Gate, R: Wait> {
+pub struct Counter<'a, L: DeskName, K, G, R> {
     pub(crate) desk: &'a Desk<L>,
     pub(crate) track: &'a Track,
+    pub(crate) keeper: &'a K,
     pub(crate) gate: &'a G,
     pub(crate) waiting: &'a R,
     pub(crate) ghost of_desk: { track.now ≡ L.opened.track },
 }
 
-impl<'a, L: DeskName, G: Gate, R: Wait> Counter<'a, L, G, R> {
-    /// The reply to what is told. Where it is accepted, the seat gains a receipt.
-    fn tell(&self, alloc: Global, seat: &mut Seat<L>, told: Told) -> SessionReply<'static>
-        requires { IsToldOfTrack L.opened.track told }
-        ensures comes { SeatComes (Ok (Event told)) seat.old (reply_text L.opened.track result) seat.new }
-        ensures whole { ReplyIsWhole L.opened.track result }
+impl<'a, L: DeskName, K, G, R> Counter<'a, L, K, G, R> {
+    /// The counter of a desk. The track is that of the desk.
+    pub fn new(
+        desk: &'a Desk<L>,
+        track: &'a Track,
+        keeper: &'a K,
+        gate: &'a G,
+        waiting: &'a R,
+    ) -> Counter<'a, L, K, G, R>
+        requires { track.now ≡ L.opened.track }
     {
-        // What a refusal names is of the track, since the track is sound. What the seat was told is on it.
-        self.track.known();
-        seat.known();
-        match self.desk.event(self.waiting, alloc, seat, told) {
-            Ok(receipt) => SessionReply::Accepted(receipt.place() + 1),
-            Err(fault) => SessionReply::Refused(refusal_of(fault)),
+        Counter {
+            desk,
+            track,
+            keeper,
+            gate,
+            waiting,
         }
     }
+}
 
-    /// Prints the reply to a train that asks for an authority. Where it is granted one, the seat gains a receipt.
+impl<'a, L: DeskName, K: Keeper<L>, G: Gate, R: Wait> Counter<'a, L, K, G, R> {
+    /// Keeps the request that led to the entry of a receipt.
     ///
     /// # Errors
     ///
-    /// `WriteFailed`, where the writer fails. What is granted is granted all the same.
+    /// It could not be kept. Then the sitting has failed.
+    fn keep(
+        &self,
+        sitting: &mut Sitting<L, K::Pen>,
+        receipt: &Receipt,
+        text: K::Text,
+    ) -> Result<(), NotKept>
+        requires whole { sitting.old.has_failed ≡ false }
+        requires told { (request : SessionLine) × K.says text request
+            × AddsEntry sitting.old.seat.told receipt.now.place request }
+        ensures seat { sitting.new.seat ≡ sitting.old.seat }
+        ensures failed { sitting.new.has_failed ≡ is_err result }
+        ensures kept { OnOk result (K.kept sitting.new.pen receipt.now.place) }
+        ensures stays { StaysKept K.kept sitting.old.pen sitting.new.pen }
+    {
+        let Sitting {
+            seat,
+            pen,
+            has_failed,
+        } = sitting;
+        let kept = self.keeper.keep(self.waiting, pen, seat, receipt, text);
+        *has_failed = kept.is_err();
+        kept
+    }
+
+    /// Prints the reply to what led to the entry of a receipt, once that is kept.
+    ///
+    /// # Errors
+    ///
+    /// It could not be kept, and nothing is printed; or the writer failed.
+    fn say<W: Sink>(
+        &self,
+        sitting: &mut Sitting<L, K::Pen>,
+        receipt: &Receipt,
+        text: K::Text,
+        reply: &SessionReply,
+        writer: &mut W,
+    ) -> Result<(), WriteFailed>
+        requires going { W.failed writer.old ≡ false }
+        requires whole { sitting.old.has_failed ≡ false }
+        requires told { (request : SessionLine) × K.says text request
+            × AddsEntry sitting.old.seat.told receipt.now.place request }
+        requires reply { ReplyIsWhole self.now.track.now reply.now }
+        ensures seat { sitting.new.seat ≡ sitting.old.seat }
+        ensures stays { StaysKept K.kept sitting.old.pen sitting.new.pen }
+        ensures kept { sitting.new.has_failed ≡ false → K.kept sitting.new.pen receipt.now.place }
+        ensures said { sitting.new.has_failed ≡ false → Prints (W.written writer.old) (W.written writer.new)
+            (W.failed writer.new) (reply_text self.now.track.now reply.now) result }
+        ensures unsaid { sitting.new.has_failed ≡ true → (writer.new ≡ writer.old) × (is_err result ≡ true) }
+    {
+        match self.keep(sitting, receipt, text) {
+            Ok(()) => print(self.track, reply, writer),
+            Err(_) => Err(WriteFailed),
+        }
+    }
+
+    /// Treats what is told.
+    ///
+    /// # Errors
+    ///
+    /// The reply is not printed whole: the writer failed, or what led to the entry could not be kept.
+    fn tell<W: Sink>(
+        &self,
+        alloc: Global,
+        sitting: &mut Sitting<L, K::Pen>,
+        request: &Request,
+        told: Told,
+        writer: &mut W,
+    ) -> Result<(), WriteFailed>
+        requires going { W.failed writer.old ≡ false }
+        requires whole { sitting.old.has_failed ≡ false }
+        requires sayable { IsSayable (request_view request.now) }
+        requires demand { looked_up L.opened.track (request_view request.now) ≡ Ok (Event told) }
+        requires of_track { IsToldOfTrack L.opened.track told }
+        ensures { IsTreated K.kept (Ok (Event told)) sitting.old sitting.new
+            (W.written writer.old) (W.written writer.new) (W.failed writer.new) result }
+    {
+        // What a refusal names is of the track, since the track is sound. What the seat was told is on it.
+        self.track.known();
+        sitting.seat.known();
+        let Ok(text) = self.keeper.prepare(alloc, request) else {
+            let fault = self
+                .desk
+                .event_in_vain(self.waiting, &mut sitting.seat, &told);
+            return print(
+                self.track,
+                &SessionReply::Refused(refusal_of(fault)),
+                writer,
+            );
+        };
+        match self
+            .desk
+            .event(self.waiting, alloc, &mut sitting.seat, told)
+        {
+            Ok(receipt) => {
+                let accepted = SessionReply::Accepted(receipt.place() + 1);
+                self.say(sitting, &receipt, text, &accepted, writer)
+            }
+            Err(fault) => print(
+                self.track,
+                &SessionReply::Refused(refusal_of(fault)),
+                writer,
+            ),
+        }
+    }
+
+    /// Treats a train that asks for an authority.
+    ///
+    /// # Errors
+    ///
+    /// As above. What is granted is granted all the same.
     fn ask<T: Threads + Sync, W: Sink>(
         &self,
         rt: &T,
         alloc: Global,
-        seat: &mut Seat<L>,
+        sitting: &mut Sitting<L, K::Pen>,
+        request: &Request,
         train: u32,
         writer: &mut W,
     ) -> Result<(), WriteFailed>
-        requires { W.failed writer.old ≡ false }
-        ensures { (reply : List ℕ)
-            × SeatComes (Ok (Authority train)) seat.old reply seat.new
-            × Prints (W.written writer.old) (W.written writer.new) (W.failed writer.new) reply result }
+        requires going { W.failed writer.old ≡ false }
+        requires whole { sitting.old.has_failed ≡ false }
+        requires sayable { IsSayable (request_view request.now) }
+        requires demand { looked_up L.opened.track (request_view request.now) ≡ Ok (Authority train) }
+        ensures { IsTreated K.kept (Ok (Authority train)) sitting.old sitting.new
+            (W.written writer.old) (W.written writer.new) (W.failed writer.new) result }
     {
-        // What the seat was told is on the desk's track.
-        seat.known();
-        let answer = self
-            .desk
-            .ask_by(rt, self.waiting, alloc, seat, train, self.gate);
-        print(self.track, &reply_to(self.track, train, &answer), writer)
+        // As above.
+        self.track.known();
+        sitting.seat.known();
+        let Ok(text) = self.keeper.prepare(alloc, request) else {
+            let fault = Err(
+                self.desk
+                    .ask_in_vain(self.waiting, &mut sitting.seat, train),
+            );
+            return print(self.track, &reply_to(self.track, train, &fault), writer);
+        };
+        let answer = self.desk.ask_by(rt, self.waiting, alloc, &mut sitting.seat, train, self.gate);
+        let reply = reply_to(self.track, train, &answer);
+        match &answer {
+            Ok(granted) => self.say(sitting, &granted.receipt, text, &reply, writer),
+            Err(_) => print(self.track, &reply, writer),
+        }
+    }
+
+    /// Treats what a line says.
+    ///
+    /// # Errors
+    ///
+    /// As above.
+    fn treat<T: Threads + Sync, W: Sink>(
+        &self,
+        rt: &T,
+        alloc: Global,
+        sitting: &mut Sitting<L, K::Pen>,
+        request: &Request,
+        writer: &mut W,
+    ) -> Result<(), WriteFailed>
+        requires going { W.failed writer.old ≡ false }
+        requires whole { sitting.old.has_failed ≡ false }
+        requires sayable { IsSayable (request_view request.now) }
+        ensures { IsTreated K.kept (looked_up sitting.old.seat.told.track (request_view request.now)) sitting.old sitting.new
+            (W.written writer.old) (W.written writer.new) (W.failed writer.new) result }
+    {
+        // As above.
+        sitting.seat.known();
+        match looked_up(self.track, *request) {
+            Ok(Demand::Nothing) => print(self.track, &SessionReply::Nothing, writer),
+            Ok(Demand::Event(told)) => self.tell(alloc, sitting, request, told, writer),
+            Ok(Demand::Authority(train)) => self.ask(rt, alloc, sitting, request, train, writer),
+            Err(refusal) => print(self.track, &SessionReply::Refused(refusal), writer),
+        }
     }
 }
 
@@ -111,27 +276,27 @@ pub(crate) fn reply_to<'a>(
     }
 }
 
-impl<'a, L: DeskName, G: Gate, R: Wait> Answers<Counter<'a, L, G, R>> for Seat<L> {
-    type State = Seat<L>;
+impl<'a, L: DeskName, K: Keeper<L>, G: Gate, R: Wait> Answers<Counter<'a, L, K, G, R>>
+    for Sitting<L, K::Pen> {
+    type State = Sitting<L, K::Pen>;
 
-    ghost use Rattle.std.specs.Prelude.{◌≡◌, ◌≤◌, ⊤, false, refl};
+    ghost use Rattle.std.specs.Prelude.{◌≡◌, ◌≤◌, false};
     ghost use Rattle.rbc_model.specs.declared.limits.TheConstants.{LONGEST_CHECK_LINE, LONGEST_LINE};
-    ghost use Rattle.rbc_server.specs.SeatChanges.{SeatGoes};
+    ghost use Rattle.rbc_server.specs.Sittings.{Advances};
 
     ghost longest = { LONGEST_LINE };
 
-    ghost state = { λ seat. seat };
+    ghost state = { λ sitting. sitting };
 
-    ghost answers = { SeatGoes };
+    ghost answers = { Advances K.kept };
 
-    // A seat never fails.
-    ghost ready = { λ _. ⊤ };
+    ghost ready = { λ sitting. sitting.has_failed ≡ false };
 
-    ghost broken = { λ _. false };
+    ghost broken = { λ sitting. sitting.has_failed };
 
-    ghost works = { λ _ _. refl };
+    ghost works = { λ _ whole. whole };
 
-    ghost goes_on = { λ _ _ _ _ _ _. tt };
+    ghost goes_on = { λ _ _ _ _ _ whole. whole };
 
     ghost rests = { λ _. 0 };
 
@@ -146,31 +311,29 @@ impl<'a, L: DeskName, G: Gate, R: Wait> Answers<Counter<'a, L, G, R>> for Seat<L
         &mut self,
         rt: &T,
         alloc: Global,
-        counter: &Counter<'a, L, G, R>,
+        counter: &Counter<'a, L, K, G, R>,
         line: &[u8],
         _more: bool,
         writer: &mut W,
     ) -> Result<(), WriteFailed> {
         // What the seat was told is on the desk's track.
-        self.known();
-        match demand_in(counter.track, line) {
-            Ok(Demand::Nothing) => print(counter.track, &SessionReply::Nothing, writer),
-            Ok(Demand::Event(told)) => {
-                let reply = counter.tell(alloc, self, told);
-                print(counter.track, &reply, writer)
+        self.seat.known();
+        match parse(line) {
+            Ok(request) => counter.treat(rt, alloc, self, &request, writer),
+            Err(fault) => {
+                let refused = SessionReply::Refused(SessionRefusal::BadLine(fault));
+                print(counter.track, &refused, writer)
             }
-            Ok(Demand::Authority(train)) => counter.ask(rt, alloc, self, train, writer),
-            Err(refusal) => print(counter.track, &SessionReply::Refused(refusal), writer),
         }
     }
 
     fn refuse<W: Sink>(
         &mut self,
-        counter: &Counter<'a, L, G, R>,
+        counter: &Counter<'a, L, K, G, R>,
         writer: &mut W,
     ) -> Result<(), WriteFailed> {
         // As above.
-        self.known();
+        self.seat.known();
         let overlong = SessionReply::Refused(SessionRefusal::BadLine(LineFault::Overlong));
         print(counter.track, &overlong, writer)
     }

@@ -17,6 +17,17 @@ use thiserror::Error;
 #[error("journal fault")]
 pub struct NotKept;
 
+/// Why a request is not kept.
+#[derive(Clone, Copy, Debug, PartialEq, Eq, Error)]
+pub enum KeepFault {
+    /// What keeps has failed.
+    #[error("journal fault")]
+    Journal,
+    /// There is no memory for the request.
+    #[error("out of memory")]
+    Memory,
+}
+
 /// Keeps the requests that led to the entries of a desk. Each of its seats has a pen.
 pub trait Keeper<L: DeskName> {
     /// What a seat keeps with.

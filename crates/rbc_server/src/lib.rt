@@ -7,17 +7,21 @@ mod centre;
 mod connections;
 mod counter;
 mod demand;
+mod grants;
 mod histories;
 mod keeping;
 mod outcomes;
 mod serving;
 mod sessions;
+mod sitting;
+mod staff;
 mod telling;
 
 pub use asking::{commit, stopped};
+pub use counter::Counter;
 pub use demand::{demand_in, looked_up};
 pub use histories::print_history;
-pub use keeping::{Keeper, NoJournal, NotKept};
+pub use keeping::{KeepFault, Keeper, NoJournal, NotKept};
 pub use rbc_port::{Client, Clients, Ends, Port, PortFailed, Terms};
 pub use rbc_streams::SessionFault;
 pub use rbc_sweep::{
@@ -25,4 +29,6 @@ pub use rbc_sweep::{
 };
 pub use serving::{ServeFault, Served, serve};
 pub use sessions::{run, session};
+pub use sitting::Sitting;
+pub use staff::{Staff, no_pens};
 pub use telling::{in_vain, tell};

@@ -1,19 +1,24 @@
 //! A centre that serves connections.
 
-ghost use Rattle.std.specs.Prelude.{◌≡◌, ◌↔◌, ◌<◌, ◌≤◌, [], All, false, take, map, length, vec_len, IsTrue, IfOk, IfErr, OnOk, Err};
+ghost use Rattle.std.specs.Prelude.{◌≡◌, ◌↔◌, ◌+◌, ◌<◌, ◌≤◌, [], List, All, false, take, map, length, vec_len, vec_capacity, IsTrue, IfOk, IfErr, OnOk, Err};
 ghost use Rattle.std.specs.Io.KnownBytes.{Appends};
 ghost use Rattle.rbc_model.specs.Histories.{IsLegal};
 ghost use Rattle.rbc_port.specs.Clients.{FewerCome};
-ghost use Rattle.rbc_server.specs.Serving.{closed_line, IsAttended, IsClosed, IsCloseFault, IsServed, IsServeFault};
-ghost use Rattle.rbc_server.specs.declared.serving.ServeFault.TheVariants.{Port as PortFault, Write as WriteFault, Memory as NoMemory};
+ghost use Rattle.rbc_sweep.specs.Later.{IsLater};
+ghost use Rattle.rbc_sweep.specs.Outcomes.{IsToldToOne};
+ghost use Rattle.rbc_sweep.specs.Records.{HistoryOnTrack};
+ghost use Rattle.rbc_sweep.specs.Seats.{Seated};
+ghost use Rattle.rbc_server.specs.Serving.{closed_line, AreKept, IsAttended, IsClosed, IsCloseFault, IsServed, IsServeFault};
+ghost use Rattle.rbc_server.specs.declared.serving.ServeFault.TheVariants.{Port as PortFault, Write as WriteFault, Memory as NoMemory, Journal as JournalFault};
 
-use crate::bringing::bring_all;
-use crate::connections::{ConnectFault, connect};
+use crate::bringing::{bring, bring_all};
+use crate::connections::{ConnectFault, Parted, connect};
 use crate::outcomes::{print_closed, print_outcomes};
+use crate::{Counter, KeepFault, Keeper, Staff};
 use rbc_model::Memory;
 use rbc_port::{Client, Clients};
 use rbc_streams::{Sink, Source, WriteFailed};
-use rbc_sweep::{CloseFault, Desk, DeskName, OpenGate, Record, Seat, sweep};
+use rbc_sweep::{CloseFault, Desk, DeskName, OpenGate, Outcome, Record, Seat, Sight, sweep};
 use rbc_track::Track;
 use std::alloc::{AllocError, Global};
 use std::io::Eprint;
@@ -34,6 +39,9 @@ pub enum ServeFault {
     /// The allocator refused memory, or no thread could be started for a connection.
     #[error("out of memory")]
     Memory,
+    /// A request could not be kept.
+    #[error("journal fault")]
+    Journal,
     /// The desk could not be closed.
     #[error("unmatched")]
     Close(CloseFault),
@@ -48,6 +56,7 @@ impl From<ConnectFault> for ServeFault {
         match fault {
             ConnectFault::Port => ServeFault::Port,
             ConnectFault::Memory => ServeFault::Memory,
+            ConnectFault::Journal => ServeFault::Journal,
         }
     }
 }
@@ -82,6 +91,19 @@ impl From<WriteFailed> for ServeFault {
     }
 }
 
+impl From<KeepFault> for ServeFault {
+    ghost use Rattle.rbc_server.specs.Serving.{keep_fault};
+
+    ghost from_gives = { λ kept fault. fault ≡ keep_fault kept };
+
+    fn from(fault: KeepFault) -> ServeFault {
+        match fault {
+            KeepFault::Journal => ServeFault::Journal,
+            KeepFault::Memory => ServeFault::Memory,
+        }
+    }
+}
+
 impl From<CloseFault> for ServeFault {
     ghost use Rattle.rbc_server.specs.declared.serving.ServeFault.TheVariants.{Close};
 
@@ -101,15 +123,55 @@ fn are_on_track<L: DeskName>(seats: &[Seat<L>])
     }
 }
 
-/// Serves so many connections from the first of these seats. Once all have ended those that are left are told what these
-/// were told, and serve a sweep, whose outcomes are printed. Gives all seats back, in their
-/// order, and what is left of the clients.
+/// The first of the seats is told all that the others were told, and by its pen the requests of all trains that were
+/// granted something are kept, in the order of the entries.
+///
+/// # Errors
+///
+/// As [`Counter::keep_grants`] has them.
+fn keep_swept<'a, L: DeskName, K: Keeper<L>, R: Wait>(
+    alloc: Global,
+    counter: &Counter<'a, L, K, OpenGate, R>,
+    mut seats: Vec<Seat<L>>,
+    mut pens: Vec<K::Pen>,
+    swept: &[Seat<L>],
+    outcomes: &[Outcome],
+) -> Result<(Vec<Seat<L>>, Vec<K::Pen>), KeepFault>
+    requires some { 1 ≤ vec_len seats }
+    requires one_each { vec_len pens ≡ vec_len seats }
+    requires told { (before : List Seated) × All (IsToldToOne before swept.now) outcomes.now }
+    ensures kept { IfOk result (λ back. AreKept K.kept swept.now seats.items pens.items outcomes.now back.0.items back.1.items) }
+    ensures room { IfOk result (λ back. vec_capacity back.0 ≡ vec_capacity seats) }
+{
+    let first = &mut seats[0];
+    bring(first, swept);
+    let pen = &mut pens[0];
+    counter.keep_grants(alloc, pen, first, outcomes)?;
+    Ok((seats, pens))
+}
+
+/// What the first of these seats was told, as a moment of the desk's history.
+fn first_sight<L: DeskName>(seats: &[Seat<L>]) -> Sight
+    requires { 0 < length seats.now }
+    ensures book { result.book ≡ L.book }
+    ensures earlier { (log : HistoryOnTrack) → All (λ seat. IsLater seat.told log) seats.now → IsLater result.history log }
+{
+    seats[0].sight()
+}
+
+/// Serves a client from each of the sittings. Once all sessions have ended the workers are told what these were told, and
+/// serve a sweep. What it granted is kept, and its outcomes are printed. Gives all seats back, in their order, with the pens
+/// and what is left of the clients.
 ///
 /// # Errors
 ///
 /// Those of [`serve`], but for `Close`.
 fn attend<
+    'a,
     L: DeskName + Send + Sync,
+    Q: Send + Drop,
+    X: Send + Drop,
+    K: Keeper<L, Pen = Q, Text = X> + Send + Sync,
     I: Source + Send + Drop,
     O: Sink + Send + Drop,
     G: Send + Drop,
@@ -121,38 +183,45 @@ fn attend<
     rt: &T,
     alloc: Global,
     port: P,
-    track: &Track,
-    desk: &Desk<L>,
-    seats: Vec<Seat<L>>,
-    connections: usize,
+    counter: &Counter<'a, L, K, OpenGate, T>,
+    staff: Staff<L, Q>,
     writer: &mut W,
-) -> Result<(Vec<Seat<L>>, Vec<G>), ServeFault>
+) -> Result<Parted<L, Q, G>, ServeFault>
     requires going { W.failed writer.old ≡ false }
-    requires track { track.now ≡ L.opened.track }
-    requires some { 1 ≤ connections }
-    requires workers { connections < vec_len seats }
-    ensures attended { IfOk result (λ kept. IsAttended L.opened.track (P.coming port) (map C.parting kept.1.items)
-        connections seats.items kept.0.items (W.written writer.old) (W.written writer.new)) }
+    requires some { 1 ≤ vec_len staff.sittings }
+    requires workers { 1 ≤ vec_len staff.workers }
+    requires few { vec_len staff.sittings + vec_len staff.workers ≤ 16 }
+    ensures attended { IfOk result (λ back. IsAttended K.kept L.opened.track (P.coming port) (map C.parting back.gone.items)
+        staff back.seats.items back.pens.items (W.written writer.old) (W.written writer.new)) }
     ensures port { result ≡ Err PortFault → writer.new ≡ writer.old }
-    ensures no_client { result ≡ Err PortFault → FewerCome (P.coming port) connections }
+    ensures no_client { result ≡ Err PortFault → FewerCome (P.coming port) (vec_len staff.sittings) }
     ensures memory { result ≡ Err NoMemory → writer.new ≡ writer.old }
+    ensures journal { result ≡ Err JournalFault → writer.new ≡ writer.old }
     ensures write { (result ≡ Err WriteFault) ↔ IsTrue (W.failed writer.new) }
-    ensures fault { IfErr result (IsServeFault L.opened (P.coming port) L.parts connections seats.items
+    ensures fault { IfErr result (IsServeFault K.kept L.opened (P.coming port) L.parts staff
         (W.written writer.old) (W.written writer.new)) }
 {
     // The track is sound, so what stands beyond an end, or in the way, is of the track.
-    track.known();
-    let mut seats = seats;
-    let workers = seats.split_off(connections)?;
-    let visited = connect(rt, alloc, port, track, desk, seats, workers.len())?;
-    let (mut served, gone) = visited;
-    let workers = bring_all(workers, served.as_slice());
+    counter.track.known();
+    let Staff { sittings, workers } = staff;
+    let visited = connect(rt, alloc, port, counter, sittings, workers.len())?;
+    let Parted { seats, pens, gone } = visited;
+    let workers = bring_all(workers, seats.as_slice());
     are_on_track(workers.as_slice());
-    let (mut workers, outcomes) = sweep(rt, alloc, desk, workers, &OpenGate);
+    let (mut workers, outcomes) = sweep(rt, alloc, counter.desk, workers, &OpenGate);
     let outcomes = outcomes?;
-    print_outcomes(track, outcomes.as_slice(), writer)?;
-    served.append(&mut workers)?;
-    Ok((served, gone))
+    let kept = keep_swept(
+        alloc,
+        counter,
+        seats,
+        pens,
+        workers.as_slice(),
+        outcomes.as_slice(),
+    )?;
+    print_outcomes(counter.track, outcomes.as_slice(), writer)?;
+    let (mut seats, pens) = kept;
+    seats.append(&mut workers)?;
+    Ok(Parted { seats, pens, gone })
 }
 
 /// Closes the desk, and prints how many entries the record has.
@@ -184,30 +253,40 @@ fn close_desk<L: DeskName, W: Sink, T: Wait>(
     Ok(log)
 }
 
-/// What serving clients gives back: the record, and what is left of the clients, in the order in which they came.
+/// What serving clients gives back: the record, what was told of it, the pens, and what is left of the clients, in the order
+/// in which they came.
 #[derive(Drop)]
-pub struct Served<G> {
+pub struct Served<Q, G> {
     /// The record, with the receipts of all seats.
     pub record: Record,
+    /// All that any seat was told before the desk was closed, as a moment of its history.
+    pub told: Sight,
+    /// The pens of the connections, in order.
+    pub pens: Vec<Q>,
     /// What is left of each client, which tells how its session ended.
     pub clients: Vec<G>,
 }
 
-/// Serves so many clients at a desk, in the order in which they come, each in a session with a thread and a seat of its
-/// own: the first seats, in order. A fault of a session ends its connection, and no other: how each session ended is told
-/// by what is left of its client. Once all have ended, each train is served once more in a sweep with the seats that are
-/// left; its outcomes are printed, the desk is closed, and how many entries the record has is printed. The track is that
-/// of the desk, which is ended on each way out.
+/// Serves a client from each of the sittings at a desk, in the order in which they come, each in a session with a thread of
+/// its own. A fault of a session ends its connection, and no other: how each session ended is told by what is left of its
+/// client. Once all have ended, each train is served once more in a sweep with the workers' seats; its outcomes are printed,
+/// the desk is closed, and how many entries the record has is printed. A reply that tells of an entry is written, and an
+/// outcome that does is printed, once the request that led to it is kept. The track is that of the desk, which is ended on
+/// each way out.
 ///
 /// # Errors
 ///
 /// The first of these. The sessions that were begun have ended then.
 /// - `Port`: a client could not be accepted; nothing was printed,
-/// - `Memory`: the allocator refused it, or no thread could be started for a connection,
+/// - `Memory`: the allocator refused it, or no thread could be started for a connection; nothing was printed,
+/// - `Journal`: a request could not be kept, in a session or behind the sweep; nothing was printed,
 /// - `Write`: the writer failed,
 /// - `Close`: the desk could not be closed.
 pub fn serve<
     L: DeskName + Send + Sync,
+    Q: Send + Drop,
+    X: Send + Drop,
+    K: Keeper<L, Pen = Q, Text = X> + Send + Sync,
     I: Source + Send + Drop,
     O: Sink + Send + Drop,
     G: Send + Drop,
@@ -220,15 +299,16 @@ pub fn serve<
     alloc: Global,
     port: P,
     track: &Track,
+    keeper: &K,
     desk: Desk<L>,
-    seats: Vec<Seat<L>>,
-    connections: usize,
+    staff: Staff<L, Q>,
     writer: &mut W,
-) -> Result<Served<G>, ServeFault>
+) -> Result<Served<Q, G>, ServeFault>
     requires going { W.failed writer.old ≡ false }
     requires track { track.now ≡ L.opened.track }
-    requires some { 1 ≤ connections }
-    requires workers { connections < vec_len seats }
+    requires some { 1 ≤ vec_len staff.sittings }
+    requires workers { 1 ≤ vec_len staff.workers }
+    requires few { vec_len staff.sittings + vec_len staff.workers ≤ 16 }
 
     // The record goes on from the one at the desk's opening, and is legal.
     ensures grown { IfOk result (λ served. take (length L.opened.entries) served.record.entries ≡ L.opened.entries) }
@@ -236,28 +316,53 @@ pub fn serve<
     ensures legal { IfOk result (λ served. IsLegal served.record.track served.record.entries) }
 
     // The clients that came, in order, were served from the seats, in order: what each said was answered to it, line by
-    // line, and what is left of it tells how far, and why no further. The sweep is of a history that goes on from all that
-    // these sessions were told. No receipt is lost, and nothing that a seat was told. What was written tells what came of
-    // the sweep, and then how many entries the record has.
-    ensures served { IfOk result (λ served. IsServed L.opened (P.coming port) (map C.parting served.clients.items)
-        connections seats.items (W.written writer.old) (W.written writer.new) served.record) }
+    // line, and what is left of it tells how far, and why no further. What led to the entries that it was told of is kept.
+    // The sweep is of a history that goes on from all that these sessions were told, and what it granted is kept too. No
+    // receipt is lost, and nothing that a seat was told. What was written tells what came of the sweep, and then how many
+    // entries the record has.
+    ensures served { IfOk result (λ served. IsServed K.kept L.opened (P.coming port) (map C.parting served.clients.items)
+        staff served.pens.items (W.written writer.old) (W.written writer.new) served.record) }
     ensures handed_on { OnOk result (W.held_back writer.new ≡ []) }
 
-    // Where a client could not be had, or memory was refused, nothing is written; and where it is known who comes, fewer
-    // come than are to be served. A write fault is answered just where the writer failed; then a part of the text is
-    // written, from its start. Where the desk can't be closed the outcomes are told.
+    // The record is what was told of it, or goes on from that.
+    ensures book { IfOk result (λ served. served.told.book ≡ L.book) }
+    ensures told { IfOk result (λ served. IsLater served.told.history served.record) }
+
+    // Where a client could not be had, memory was refused or a request could not be kept, nothing is written; and where it is
+    // known who comes, fewer come than are to be served. A write fault is answered just where the writer failed; then a part
+    // of the text is written, from its start. Where the desk can't be closed the outcomes are told.
     ensures port { result ≡ Err PortFault → writer.new ≡ writer.old }
-    ensures no_client { result ≡ Err PortFault → FewerCome (P.coming port) connections }
+    ensures no_client { result ≡ Err PortFault → FewerCome (P.coming port) (vec_len staff.sittings) }
     ensures memory { result ≡ Err NoMemory → writer.new ≡ writer.old }
+    ensures journal { result ≡ Err JournalFault → writer.new ≡ writer.old }
     ensures write { (result ≡ Err WriteFault) ↔ IsTrue (W.failed writer.new) }
-    ensures fault { IfErr result (IsServeFault L.opened (P.coming port) L.parts connections seats.items
+    ensures fault { IfErr result (IsServeFault K.kept L.opened (P.coming port) L.parts staff
         (W.written writer.old) (W.written writer.new)) }
 {
-    match attend(rt, alloc, port, track, &desk, seats, connections, writer) {
-        Ok(attended) => {
-            let (seats, clients) = attended;
+    let attended = attend(
+        rt,
+        alloc,
+        port,
+        &Counter::new(&desk, track, keeper, &OpenGate, rt),
+        staff,
+        writer,
+    );
+    match attended {
+        Ok(
+            Parted {
+                seats,
+                pens,
+                gone: clients,
+            },
+        ) => {
+            let told = first_sight(seats.as_slice());
             match close_desk(rt, desk, seats, writer) {
-                Ok(record) => Ok(Served { record, clients }),
+                Ok(record) => Ok(Served {
+                    record,
+                    told,
+                    pens,
+                    clients,
+                }),
                 Err(fault) => Err(fault),
             }
         }

@@ -1,22 +1,21 @@
 //! Sessions over a record, and at a desk.
 
-ghost use Rattle.std.specs.Prelude.{◌≡◌, ◌≢◌, ◌↔◌, ℕ, List, [], true, false, IsTrue, OnOk, Err};
+ghost use Rattle.std.specs.Prelude.{◌≡◌, ◌≢◌, ◌↔◌, ◌||◌, ℕ, List, [], true, false, IsTrue, OnOk, Err};
 ghost use Rattle.std.specs.Io.KnownBytes.{Consumes, IsAtEnd};
 ghost use Rattle.rbc_model.specs.declared.limits.TheConstants.{LONGEST_LINE};
 ghost use Rattle.rbc_streams.specs.LineReading.{at_start};
 ghost use Rattle.rbc_sweep.specs.Outcomes.{AreFirst};
 ghost use Rattle.rbc_server.specs.SeatAnswers.{AreLineAnswers};
 ghost use Rattle.rbc_server.specs.SeatSessions.{IsSeatSession};
+ghost use Rattle.rbc_server.specs.Sittings.{AreToldKept, StaysKept};
 ghost use Rattle.rbc_session_laws.specs.Retelling.{IsRetold};
 ghost use Rattle.rbc_session_laws.specs.SessionRuns.{IsSession};
 ghost use Rattle.rbc_server.specs.Answered.{AnswersAll};
 
-use crate::SessionFault;
 use crate::centre::Centre;
-use crate::counter::Counter;
+use crate::{Counter, Keeper, SessionFault, Sitting};
 use rbc_streams::{LineReader, Sink, Source, answer_lines, converse};
-use rbc_sweep::{Desk, DeskName, Gate, Record, Seat};
-use rbc_track::Track;
+use rbc_sweep::{DeskName, Gate, Record};
 use std::alloc::Global;
 use std::sync::Wait;
 use std::thread::Threads;
@@ -75,64 +74,72 @@ pub fn run<R: Source, W: Sink>(
 }
 
 /// Answers each line of the reader at a desk, in order, up to the end of the input or the first fault. The seat gains a
-/// receipt for each line that is accepted, and none for any other. Each line is answered as after a history that goes on
-/// from all that the seat had been told, and the seat is told that history: other seats may enter what they are told and
-/// asked meanwhile. Before each read of the reader all replies so far are handed on. The track is that of the desk.
-/// Trains that ask pass the gate, outside the desk's lock. There is room for the lines: a reader of lines that was not
-/// begun.
+/// receipt for each line that is accepted, and none for any other; the reply to such a line is written once the request that
+/// it says is kept. Each line is answered as after a history that goes on from all that the seat had been told, and the seat
+/// is told that history: other seats may enter what they are told and asked meanwhile. Before each read of the reader all
+/// replies so far are handed on. Trains that ask pass the counter's gate, outside the desk's lock. There is room for the
+/// lines: a reader of lines that was not begun.
 ///
 /// # Errors
 ///
-/// Those of [`run`], but for `Memory`. The seat keeps the receipts for all lines that were treated.
-pub fn session<R: Source, W: Sink, L: DeskName, G: Gate, T: Threads + Wait + Sync>(
+/// Those of [`run`], but for `Memory`; `Write` too where a request could not be kept: then the sitting has failed, and the
+/// last line has no reply. The seat keeps the receipts for all lines that were treated.
+pub fn session<
+    'a,
+    I: Source,
+    W: Sink,
+    L: DeskName,
+    K: Keeper<L>,
+    G: Gate,
+    R: Wait,
+    T: Threads + Sync,
+>(
     rt: &T,
     alloc: Global,
     lines: LineReader,
-    reader: &mut R,
+    reader: &mut I,
     writer: &mut W,
-    track: &Track,
-    desk: &Desk<L>,
-    seat: &mut Seat<L>,
-    gate: &G,
+    counter: &Counter<'a, L, K, G, R>,
+    sitting: &mut Sitting<L, K::Pen>,
 ) -> Result<(), SessionFault>
     requires lines { lines ≡ at_start LONGEST_LINE }
-    requires reader { R.failed reader.old ≡ false }
+    requires reader { I.failed reader.old ≡ false }
     requires writer { W.failed writer.old ≡ false }
-    requires track { track.now ≡ L.opened.track }
+    requires whole { sitting.old.has_failed ≡ false }
 
-    // A read or write fault is answered just where the reader or the writer failed.
-    ensures read { (result ≡ Err SessionFault.Read) ↔ IsTrue (R.failed reader.new) }
-    ensures write { (result ≡ Err SessionFault.Write) ↔ IsTrue (W.failed writer.new) }
+    // A read fault is answered just where the reader failed; a write fault where the writer did, or keeping.
+    ensures read { (result ≡ Err SessionFault.Read) ↔ IsTrue (I.failed reader.new) }
+    ensures write { (result ≡ Err SessionFault.Write) ↔ IsTrue (sitting.new.has_failed || W.failed writer.new) }
 
     // None that begins ends for want of memory.
     ensures begins { result ≢ Err SessionFault.Memory }
 
     // Ok is answered at the end of the input.
-    ensures end { OnOk result (IsAtEnd (R.left reader.new)) }
+    ensures end { OnOk result (IsAtEnd (I.left reader.new)) }
 
     // The seat loses no receipt, and nothing that it was told. Each line of what was read was answered after all that the
-    // seat had been told by then, and what was gained for it is told in its reply.
-    ensures grown { AreFirst seat.old seat.new }
-    ensures session { (input : List ℕ) × Consumes (R.left reader.old) (R.left reader.new) input
-        × IsSeatSession seat.old seat.new input (W.written writer.old) (W.written writer.new) result }
+    // seat had been told by then, and what was gained for it is told in its reply. What was written is made of the replies
+    // to the first lines, and what these led to is kept: so it is with all lines, unless keeping failed.
+    ensures grown { AreFirst sitting.old.seat sitting.new.seat }
+    ensures session { (input : List ℕ) × Consumes (I.left reader.old) (I.left reader.new) input
+        × (session : IsSeatSession sitting.old.seat sitting.new.seat input (W.written writer.old) (W.written writer.new) result)
+        × AreToldKept (K.kept sitting.new.pen) sitting.new.has_failed session.turns (W.written writer.old) (W.written writer.new) }
+
+    // What was kept before still is.
+    ensures stays { StaysKept K.kept sitting.old.pen sitting.new.pen }
 
     // Each reply is the one that is computed for its line, after the history that the seat was told with it, but where
     // memory was refused, or the history was full by the time of a grant.
     ensures answers { (input : List ℕ)
-        (session : IsSeatSession seat.old seat.new input (W.written writer.old) (W.written writer.new) result)
-        → AreLineAnswers seat.old.told session.turns }
+        (session : IsSeatSession sitting.old.seat sitting.new.seat input (W.written writer.old) (W.written writer.new) result)
+        → AreLineAnswers sitting.old.seat.told session.turns }
 
-    // What was written was handed on, unless the writer failed.
-    ensures handed_on { W.failed writer.new ≡ false → W.held_back writer.old ≡ [] → W.held_back writer.new ≡ [] }
+    // What was written was handed on, unless the writer failed, or keeping.
+    ensures handed_on { (sitting.new.has_failed || W.failed writer.new) ≡ false
+        → W.held_back writer.old ≡ [] → W.held_back writer.new ≡ [] }
 {
     // The desk's track is in form, and what the seat was told is on it.
-    track.known();
-    seat.known();
-    let counter = Counter {
-        desk,
-        track,
-        gate,
-        waiting: rt,
-    };
-    answer_lines(rt, alloc, lines, reader, writer, seat, &counter)
+    counter.track.known();
+    sitting.seat.known();
+    answer_lines(rt, alloc, lines, reader, writer, sitting, counter)
 }

@@ -5,7 +5,7 @@ ghost use Rattle.std.specs.Prelude.{◌≡◌};
 use super::telling::{closed, record_of, shared_track};
 use super::{BRANCH, PLAIN};
 use rbc_model::limits::LONGEST_LINE;
-use rbc_server::{SessionFault, run, session};
+use rbc_server::{Counter, NoJournal, SessionFault, Sitting, run, session};
 use rbc_streams::{LineReader, Stream};
 use rbc_sweep::{Blank, Desk, DeskName, OpenGate, Record};
 use std::io::{Read, Write};
@@ -165,7 +165,8 @@ where
     let alloc = rt.alloc();
     let track = shared_track(rt, &history);
     let (desk, mut seats) = Desk::<L>::new(rt, alloc, history, 1, blank).expect(rt, "seats");
-    let mut seat = seats.pop().expect(rt, "a seat");
+    let seat = seats.pop().expect(rt, "a seat");
+    let mut sitting = Sitting::new(seat, ());
     let mut reader = Stream::reader(case.lines.as_bytes());
     let mut writer = Stream::writer(alloc, Vec::new(alloc)).expect(rt, "room");
     let lines = LineReader::new(alloc, LONGEST_LINE).expect(rt, "room");
@@ -175,12 +176,11 @@ where
         lines,
         &mut reader,
         &mut writer,
-        &track,
-        &desk,
-        &mut seat,
-        &OpenGate,
+        &Counter::new(&desk, &track, &NoJournal, &OpenGate, rt),
+        &mut sitting,
     );
     assert_eq!(rt; outcome, Ok(()));
+    let (seat, ()) = sitting.into_parts();
     seats.push(seat).expect(rt, "room");
     assert_eq!(rt; closed(rt, desk, seats).version(), case.entries);
     let alone = written_alone(rt, case);

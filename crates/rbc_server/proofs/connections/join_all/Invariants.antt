@@ -9,9 +9,9 @@ use Rattle.rbc_server.proofs.connections.join_all.Given as goal
 abbrev pub invariant-loop-handle : goal.invariant-loop-handle
 invariant-loop-handle g l =
     ((rest : List _)
-    → AllZip (λ h v. IsConnection (record { came = g.C.Client.coming h.promise.1.value; before = h.promise.0.value; after = v.seat; went = g.C.Client.parting v.gone }))
+    → AllZip (λ h v. IsConnection g.K.Keeper.kept (record { came = g.C.Client.coming h.promise.1.value; before = h.promise.0.value; after = v.sitting; went = g.C.Client.parting v.gone }))
     (into_iter_items l.handle-iterator) rest
-    → AllZip (λ h v. IsConnection (record { came = g.C.Client.coming h.promise.1.value; before = h.promise.0.value; after = v.seat; went = g.C.Client.parting v.gone }))
+    → AllZip (λ h v. IsConnection g.K.Keeper.kept (record { came = g.C.Client.coming h.promise.1.value; before = h.promise.0.value; after = v.sitting; went = g.C.Client.parting v.gone }))
     (into_iter_items l.initial.handle-iterator) (l.back.items ++ rest))
     × (length l.back.items + length (into_iter_items l.handle-iterator) ≡ length (into_iter_items l.initial.handle-iterator))
     × (vec_capacity l.back ≡ vec_capacity l.initial.back)

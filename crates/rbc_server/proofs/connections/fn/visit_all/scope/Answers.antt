@@ -5,43 +5,43 @@ use Rattle.rbc_server.proofs.connections.fn.visit_all.scope.Goals as goal
 
 pub returns-in-None-fault : goal.returns-in-None-fault
 returns-in-None-fault g c =
-    let inv = c.loop-seat.invariant in
+    let inv = c.loop-sitting.invariant in
     let good = inv.0 c.in-None-fault.is in
     record {
       served = (
-        connected (λ h. g.C.Client.coming h.promise.1.value) (λ h. h.promise.0.value) (λ v. v.seat) (λ v. g.C.Client.parting v.gone) c.loop-seat.handles.items
-            c.join_all-visits.result.items c.captures.seats.items (into_iter_items c.loop-seat.seat-iterator) (g.P.Clients.coming c.captures.port)
-            (g.P.Clients.coming c.loop-seat.port) c.join_all-visits.ensures.served (good.0 ∙ c.into_iter-seat-iterator.ensures.into_iter_gives.0) (search rules) good.1,
+        connected g.K.Keeper.kept (λ h. g.C.Client.coming h.promise.1.value) (λ h. h.promise.0.value) (λ v. v.sitting) (λ v. g.C.Client.parting v.gone) c.loop-sitting.handles.items
+            c.join_all-visits.result.items c.captures.sittings.items (into_iter_items c.loop-sitting.sitting-iterator) (g.P.Clients.coming c.captures.port)
+            (g.P.Clients.coming c.loop-sitting.port) c.join_all-visits.ensures.served (good.0 ∙ c.into_iter-sitting-iterator.ensures.into_iter_gives.0) (search rules) good.1,
         search rules,
       );
       port = search rules;
     }
 
-pub loop-seat-preserved-in-Err : goal.loop-seat-preserved-in-Err
-loop-seat-preserved-in-Err g c =
-    let inv = c.loop-seat.invariant in
-    let was : c.loop-seat.fault ≡ None = search rules in
+pub loop-sitting-preserved-in-Err : goal.loop-sitting-preserved-in-Err
+loop-sitting-preserved-in-Err g c =
+    let inv = c.loop-sitting.invariant in
+    let was : c.loop-sitting.fault ≡ None = search rules in
     let good = inv.0 was in (
       search rules,
-      (λ port. none_for_the_rest (λ h. g.C.Client.coming h.promise.1.value) c.loop-seat.handles.items (g.P.Clients.coming c.captures.port) (g.P.Clients.coming c.loop-seat.port)
-          (length (into_iter_items c.loop-seat.seat-iterator)) (length (into_iter_items c.into_iter-seat-iterator.result)) good.1 c.in-Err.ensures.none inv.2 (search rules)),
+      (λ port. none_for_the_rest (λ h. g.C.Client.coming h.promise.1.value) c.loop-sitting.handles.items (g.P.Clients.coming c.captures.port) (g.P.Clients.coming c.loop-sitting.port)
+          (length (into_iter_items c.loop-sitting.sitting-iterator)) (length (into_iter_items c.into_iter-sitting-iterator.result)) good.1 c.in-Err.ensures.none inv.2 (search rules)),
       search rules,
       search rules,
     )
 
-pub loop-seat-preserved-in-Some-ok : goal.loop-seat-preserved-in-Some-ok
-loop-seat-preserved-in-Some-ok g c =
-    let inv = c.loop-seat.invariant in
-    let was : c.loop-seat.fault ≡ None = search rules in
+pub loop-sitting-preserved-in-Some-ok : goal.loop-sitting-preserved-in-Some-ok
+loop-sitting-preserved-in-Some-ok g c =
+    let inv = c.loop-sitting.invariant in
+    let was : c.loop-sitting.fault ≡ None = search rules in
     let good = inv.0 was in (
       (λ none. (
-        one_handed (λ h. h.promise.0.value) c.loop-seat.handles.items c.push_reserved.new.self.items c.in-Some-ok.handle c.in-Some.seat
-            (into_iter_items c.loop-seat.seat-iterator) (into_iter_items c.next.new.self) (into_iter_items c.into_iter-seat-iterator.result)
+        one_handed (λ h. h.promise.0.value) c.loop-sitting.handles.items c.push_reserved.new.self.items c.in-Some-ok.handle c.in-Some.sitting
+            (into_iter_items c.loop-sitting.sitting-iterator) (into_iter_items c.next.new.self) (into_iter_items c.into_iter-sitting-iterator.result)
             good.0 (search rules) (search rules) (search rules),
-        one_came (g.P.Clients.coming c.captures.port) (g.P.Clients.coming c.loop-seat.port) (g.P.Clients.coming c.accept.new.self)
-            (map (λ h. g.C.Client.coming h.promise.1.value) c.loop-seat.handles.items) (map (λ h. g.C.Client.coming h.promise.1.value) c.push_reserved.new.self.items)
+        one_came (g.P.Clients.coming c.captures.port) (g.P.Clients.coming c.loop-sitting.port) (g.P.Clients.coming c.accept.new.self)
+            (map (λ h. g.C.Client.coming h.promise.1.value) c.loop-sitting.handles.items) (map (λ h. g.C.Client.coming h.promise.1.value) c.push_reserved.new.self.items)
             (g.C.Client.coming c.in-Ok.client) good.1 c.in-Ok.ensures.next
-            (one_mapped (λ h. g.C.Client.coming h.promise.1.value) c.loop-seat.handles.items c.push_reserved.new.self.items c.in-Some-ok.handle
+            (one_mapped (λ h. g.C.Client.coming h.promise.1.value) c.loop-sitting.handles.items c.push_reserved.new.self.items c.in-Some-ok.handle
             (g.C.Client.coming c.in-Ok.client) (search rules) (search rules)),
       )),
       search rules,

@@ -5,12 +5,12 @@ use Rattle.rbc_port.specs.Clients.{Came, FewerCome}
 use Rattle.rbc_server.specs.declared.connections.ConnectFault.TheVariants.{Port}
 use Rattle.rbc_server.proofs.connections.fn.visit_all.scope.Given as goal
 
--- As long as no fault came, each of the seats so far went to a thread that serves a client from it: the next one that came. There is room for a handle
--- for each seat.
-abbrev pub invariant-loop-seat : goal.invariant-loop-seat
-invariant-loop-seat g l =
-    (l.fault ≡ None → (map (λ h. h.promise.0.value) l.handles.items ++ into_iter_items l.seat-iterator ≡ into_iter_items l.initial.seat-iterator)
+-- As long as no fault came, each of the sittings so far went to a thread that serves a client from it: the next one that came. There is room for a handle
+-- for each sitting.
+abbrev pub invariant-loop-sitting : goal.invariant-loop-sitting
+invariant-loop-sitting g l =
+    (l.fault ≡ None → (map (λ h. h.promise.0.value) l.handles.items ++ into_iter_items l.sitting-iterator ≡ into_iter_items l.initial.sitting-iterator)
     × Came (g.P.Clients.coming l.initial.port) (g.P.Clients.coming l.port) (map (λ h. g.C.Client.coming h.promise.1.value) l.handles.items))
-    × (l.fault ≡ Some Port → FewerCome (g.P.Clients.coming l.initial.port) (length (into_iter_items l.initial.seat-iterator)))
-    × (length l.handles.items + length (into_iter_items l.seat-iterator) ≤ length (into_iter_items l.initial.seat-iterator))
+    × (l.fault ≡ Some Port → FewerCome (g.P.Clients.coming l.initial.port) (length (into_iter_items l.initial.sitting-iterator)))
+    × (length l.handles.items + length (into_iter_items l.sitting-iterator) ≤ length (into_iter_items l.initial.sitting-iterator))
     × (vec_capacity l.handles ≡ vec_capacity l.initial.handles)

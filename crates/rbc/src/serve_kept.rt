@@ -1,0 +1,123 @@
+//! A centre that serves connections, and keeps its history in a journal.
+
+ghost use Rattle.std.specs.Prelude.{◌≡◌, ◌<◌, ◌≤◌, false};
+ghost use Rattle.rbc_desk_journal.specs.Kept.{IsReady};
+
+use crate::command_line::Service;
+use crate::failure::Failure;
+use rbc_desk_journal::kept::Kept;
+use rbc_desk_journal::kept::server::{Blank, Client, Clients, DeskName, Served, Staff, serve};
+use rbc_desk_journal::scribe::{self, ScribeName};
+use rbc_desk_journal::{DeskJournal, Device, Opened, SeatTold, close};
+use rbc_track::Track;
+use rbc_words::{Sink, Source};
+use std::alloc::Global;
+use std::io::Eprint;
+use std::marker::Brand;
+use std::sync::Wait;
+use std::thread::Threads;
+use std::time::Clock;
+
+/// Serves connections over the record that a journal tells, and keeps in the journal what led to each entry before its
+/// reply is written.
+///
+/// # Errors
+///
+/// `Memory` for the desk, and those of [`serve`].
+pub(crate) fn serve_kept<
+    I: Source + Send + Drop,
+    O: Sink + Send + Drop,
+    G: Send + Drop,
+    C: Client<Reader = I, Writer = O, Gone = G> + Send + Drop,
+    P: Clients<Each = C> + Drop,
+    W: Sink,
+    D: Device + Send + Drop,
+    T: Threads + Wait + Clock + Eprint + Sync,
+>(
+    rt: &T,
+    alloc: Global,
+    port: P,
+    track: &Track,
+    kept: Kept<D>,
+    service: &Service,
+    writer: &mut W,
+) -> Result<(), Failure>
+    requires going { W.failed writer.old ≡ false }
+    requires ready { IsReady D.seen D.may_leave kept }
+    requires track { track.now ≡ kept.history.track }
+{
+    let seats = service.connections + service.workers;
+    let blank = Blank::new(seats);
+    let stamps = scribe::Blank::new();
+    open::<Brand, Brand, I, O, G, C, P, W, D, T>(
+        rt,
+        alloc,
+        port,
+        track,
+        kept,
+        seats,
+        blank,
+        stamps,
+        service.connections,
+        writer,
+    )
+}
+
+/// Serves connections at a desk over the record, each from a seat with its pen. At the end the journal is closed.
+fn open<
+    L: DeskName + Send + Sync,
+    N: ScribeName + Send + Sync,
+    I: Source + Send + Drop,
+    O: Sink + Send + Drop,
+    G: Send + Drop,
+    C: Client<Reader = I, Writer = O, Gone = G> + Send + Drop,
+    P: Clients<Each = C> + Drop,
+    W: Sink,
+    D: Device + Send + Drop,
+    T: Threads + Wait + Clock + Eprint + Sync,
+>(
+    rt: &T,
+    alloc: Global,
+    port: P,
+    track: &Track,
+    kept: Kept<D>,
+    seats: usize,
+    blank: Blank,
+    stamps: scribe::Blank,
+    connections: usize,
+    writer: &mut W,
+) -> Result<(), Failure>
+    requires going { W.failed writer.old ≡ false }
+    requires ready { IsReady D.seen D.may_leave kept }
+    requires track { track.now ≡ kept.history.track }
+    requires opened { kept.history ≡ L.opened }
+    requires name { blank.ledger.name ≡ L.name }
+    requires parts { blank.ledger.parts ≡ L.parts }
+    requires book { blank.journal ≡ L.book }
+    requires stamps { stamps ≡ N.book }
+    requires one_each { seats ≡ L.parts }
+    requires some { 1 ≤ connections }
+    requires workers { connections < seats }
+    requires few { seats ≤ 16 }
+{
+    let opened = rbc_desk_journal::open::<L, D, N, T>(rt, alloc, kept, seats, blank, stamps);
+    let Opened {
+        desk,
+        seats,
+        scribe,
+        mut pens,
+    } = match opened {
+        Ok(opened) => opened,
+        Err((fault, _)) => return Err(fault.into()),
+    };
+    pens.truncate(connections);
+    let Ok(staff) = Staff::new(alloc, seats, pens) else {
+        desk.end(rt);
+        return Err(Failure::Memory);
+    };
+    let journal = DeskJournal::over(&scribe);
+    let served = serve(rt, alloc, port, track, &journal, desk, staff, writer)?;
+    let Served { told, pens, .. } = served;
+    let _page = close(rt, scribe, &SeatTold::<L>::seen(told), pens.as_slice());
+    Ok(())
+}

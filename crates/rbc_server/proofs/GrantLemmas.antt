@@ -1,0 +1,188 @@
+-- What a sweep granted is kept, entry by entry.
+use Rattle.std.proofs.Common.{◌≡◌, ℕ, zero, suc, ◌+◌, ◌≤◌, ◌<◌, List, [], ◌∷◌, ◌++◌, length, take, get_or, Option, Some, None, Result, Ok, Err, ◌⊎◌, inl, inr, refl, sym, ap, ◌∙◌, subst, arith}
+use Rattle.std.specs.Prelude.{All, IsPermutation, OnOk, slice_get}
+use Rattle.std.proofs.lemmas.List.{get_or_read, take-take}
+use Rattle.std.proofs.lemmas.List.Elements.{All-nil, All-cons, All-append, All-contains, All-head, All-more, All-tail, All-weaker, Contains-append_left, Contains-push}
+use Rattle.std.proofs.lemmas.List.Sorted.{Contains-permutation}
+use Rattle.std.proofs.lemmas.Option.{get_or_from_slice_get, slice_get_within}
+use Rattle.rbc_model.specs.declared.limits.TheConstants.{MOST_ENTRIES}
+use Rattle.rbc_model.specs.Histories.{Entry, Receipt}
+use Rattle.rbc_model.specs.SessionText.{IsSayable, SessionLine, Ask}
+use Rattle.rbc_model.specs.SoundTracks.{IsInForm}
+use Rattle.rbc_grant_laws.specs.Candidates.{IsCandidateOf}
+use Rattle.rbc_replies.specs.Replies.{grant_text}
+use Rattle.rbc_replies.specs.declared.replies.Granted.{Granted as ToldGrant}
+use Rattle.rbc_session_laws.specs.declared.demand.Demand.TheVariants.{Authority}
+use Rattle.rbc_session_laws.specs.Answers.{demand_answer}
+use Rattle.rbc_session_laws.specs.Demands.{looked_up}
+use Rattle.rbc_sweep.specs.Asking.{IsAnswered, after_answer}
+use Rattle.rbc_sweep.specs.Candidates.{HasChosenProfiles}
+use Rattle.rbc_sweep.specs.Granted.{Granted as Grant}
+use Rattle.rbc_sweep.specs.Outcomes.{Begins, IsToldToOne, asked, granted, receipts_of}
+use Rattle.rbc_sweep.specs.Records.{HistoryOnTrack, history_on, with_entry}
+use Rattle.rbc_sweep.specs.Seats.{Seated}
+use Rattle.rbc_sweep.specs.declared.outcome.Answer.{Answer}
+use Rattle.rbc_sweep.specs.declared.outcome.Answer.TheVariants.{Granted, Blocked, Gone, Full, Memory}
+use Rattle.rbc_sweep.specs.declared.outcome.Outcome.{Outcome}
+use Rattle.rbc_sweep.proofs.WorkLemmas.{begins_still}
+use Rattle.rbc_server.specs.Keeping.{AddsEntry, HasAnswer, HasGrant, HasOutcome}
+use Rattle.rbc_server.specs.Serving.{IsBrought}
+use Rattle.rbc_server.specs.Shown.{IsToldOf}
+use Rattle.rbc_server.specs.Sittings.{AreKeptOf, HasRank, IsKeptAt}
+use Rattle.rbc_server.specs.declared.grants.Rank.{Rank}
+use Rattle.rbc_server.proofs.ConnectionLemmas.{take_append}
+use Rattle.rbc_server.proofs.KeepingLemmas.{demand_adds, last_stands}
+use Rattle.rbc_server.proofs.SeatLemmas.{asked_granted, below_most, granted_alone}
+
+-- ---- the entry that was granted
+
+module _ {A : Type 0} where
+  none_is_some : {X : Type 0} (b : A) → (let o : Option A = None in o) ≡ Some b → X
+  none_is_some b e = absurd (let c : ⊥ = cc in c)
+
+  -- what stands at a place of the first elements stands there in all
+  front_get : (n : ℕ) (xs : List A) (place : ℕ) (x : A) → slice_get (take n xs) place ≡ Some x → slice_get xs place ≡ Some x
+  front_get zero xs place x is = none_is_some x is
+  front_get (suc n) [] place x is = none_is_some x is
+  front_get (suc n) (y ∷ ys) zero x is = is
+  front_get (suc n) (y ∷ ys) (suc place) x is = front_get n ys place x is
+
+-- a history that begins so has the entry too
+adds_still : (a b : HistoryOnTrack) (place : ℕ) (said : SessionLine) → Begins a b → AddsEntry a place said → AddsEntry b place said
+adds_still a b place said begins is =
+    let n = length a.entries in
+    let below = slice_get_within a.entries place is.entry is.stands in
+    let first : take place b.entries ≡ take place a.entries =
+    sym (take-take place n b.entries (omega (arith, below))) ∙ ap (λ l. take place l) begins.opening in
+    record {
+      entry = is.entry;
+      stands = front_get n b.entries place is.entry (subst (λ l. slice_get l place ≡ Some is.entry) (sym begins.opening) is.stands);
+      adds = subst (λ t. (demand_answer t (take place b.entries) (looked_up t said)).added ≡ Some is.entry) (sym begins.track)
+          (subst (λ l. (demand_answer a.track l (looked_up a.track said)).added ≡ Some is.entry) (sym first) is.adds);
+    }
+
+pub grant_adds : (history : HistoryOnTrack) (train : ℕ) (grant : Grant) (place : ℕ) (told : ToldGrant) → HasGrant history train grant → IsToldOf grant.candidate (place + 1) told
+    → IsCandidateOf grant.candidate.view grant.candidate.grant → HasChosenProfiles grant.candidate.view grant.candidate.grant → place ≡ grant.receipt.place → IsInForm history.track
+    → IsSayable (Ask train) → AddsEntry history grant.receipt.place (Ask train)
+grant_adds history train grant place told has is best chosen at form sayable =
+    let before = has.before in
+    let begins = has.begins in
+    let entry = grant.receipt.entry in
+    let answered = has.answered in
+    let in_form = subst IsInForm begins.track form in
+    let answers = asked_granted before.track before.entries train grant answered place told is best chosen at in_form in
+    let adds = demand_adds before.track before.entries (Ask train) (Ok (Authority train)) (grant_text before.track told) entry in_form sayable refl
+    (granted_alone before.track before.entries (grant_text before.track told) entry train answers) in
+    let here : AddsEntry (with_entry before entry) (length before.entries) (Ask train) = record {
+      entry = entry;
+      stands = last_stands before.entries entry;
+      adds = subst (λ b. (demand_answer before.track b (looked_up before.track (Ask train))).added ≡ Some entry) (sym (take_append before.entries (entry ∷ []))) adds;
+    } in
+    subst (λ n. AddsEntry history n (Ask train)) (sym answered.2) (adds_still (with_entry before entry) history (length before.entries) (Ask train) begins here)
+
+-- a record has few entries
+pub grant_below : (history : HistoryOnTrack) (train : ℕ) (grant : Grant) → HasGrant history train grant → grant.receipt.place < MOST_ENTRIES
+grant_below history train grant is =
+    let before = is.before in
+    let answered = is.answered in
+    let below = below_most (length before.entries) answered.0 in
+    omega (arith, answered.2)
+
+-- ---- what the seat was told that heard the others
+
+answer_told : (before told : HistoryOnTrack) (train : ℕ) (answer : Answer) → Begins (after_answer before (asked answer)) told → IsAnswered before train (asked answer) → HasAnswer told train answer
+answer_told before told train (Granted grant) begins answered = record { before = before; begins = begins; answered = answered }
+answer_told before told train (Blocked obstacle at version) begins answered = tt
+answer_told before told train Gone begins answered = tt
+answer_told before told train Full begins answered = tt
+answer_told before told train Memory begins answered = tt
+
+outcome_told : (had has : List Seated) (was heard : Seated) (outcome : Outcome) → IsBrought has was heard → IsToldToOne had has outcome → HasOutcome heard.told outcome
+outcome_told had has was heard outcome brought one =
+    let told = one.told in
+    let at : get_or has one.place one.after ≡ one.after = get_or_from_slice_get has one.place one.after one.after one.has_it in
+    let here : Begins one.after.told heard.told =
+    subst (λ (s : Seated). Begins s.told heard.told) at (brought.all one.place one.after (slice_get_within has one.place one.after one.has_it)) in
+    answer_told told.history heard.told outcome.train outcome.answer
+    (begins_still (after_answer told.history (asked outcome.answer)) one.after.told heard.told told.told here) told.answered
+
+pub all_told : (had has : List Seated) (was heard : Seated) (outcomes : List Outcome) → IsBrought has was heard → All (IsToldToOne had has) outcomes → All (HasOutcome heard.told) outcomes
+all_told had has was heard outcomes brought told =
+    All-weaker (IsToldToOne had has) (HasOutcome heard.told) (λ outcome one. outcome_told had has was heard outcome brought one) outcomes told
+
+-- ---- rank by rank
+
+-- one rank more
+pub ranks_next : (ranks more : List Rank) (rank : Rank) (count : ℕ) → more ≡ ranks ++ rank ∷ [] → rank.number ≡ count → ((k : ℕ) → k < count → HasRank ranks k) → (k : ℕ) → k < count + 1 → HasRank more k
+ranks_next ranks more rank count is here below k less = subst (λ (l : List Rank). HasRank l k) (sym is) (by (lower k less))
+  where
+    lower : (n : ℕ) → n < count + 1 → (n < count) ⊎ (n ≡ count)
+    lower n l = grind arith
+
+    by : (k < count) ⊎ (k ≡ count) → HasRank (ranks ++ rank ∷ []) k
+    by (inl low) = let w = below k low in (w.0, Contains-append_left ranks (rank ∷ []) w.0 w.1, w.2)
+    by (inr same) = (rank, Contains-push ranks rank, here ∙ sym same)
+
+pub ranks_sorted : (ranks sorted : List Rank) (count : ℕ) → IsPermutation ranks sorted → ((k : ℕ) → k < count → HasRank ranks k) → (k : ℕ) → k < count → HasRank sorted k
+ranks_sorted ranks sorted count same has k less = let w = has k less in (w.0, Contains-permutation ranks sorted w.0 same w.1, w.2)
+
+-- what led to the entry that the outcome of a rank tells of is kept
+abbrev pub IsKeptRank : (ℕ → Type 0) → List Outcome → Rank → Type 0
+IsKeptRank kept outcomes rank = IsKeptAt kept outcomes rank.number
+
+still_kept : (before after : ℕ → Type 0) → ((n : ℕ) → before n → after n) → (outcome : Outcome) → AreKeptOf before outcome → AreKeptOf after outcome
+still_kept before after stays outcome is =
+    All-weaker (λ (r : Receipt). before r.place) (λ (r : Receipt). after r.place) (λ r k. stays r.place k) (receipts_of outcome.answer) is
+
+pub kept_next : (before after : ℕ → Type 0) (outcomes : List Outcome) (ranks : List Rank) (index : ℕ) (d : Rank) → index < length ranks → ((n : ℕ) → before n → after n)
+    → All (IsKeptRank before outcomes) (take index ranks) → IsKeptRank after outcomes (get_or ranks index d) → All (IsKeptRank after outcomes) (take (index + 1) ranks)
+kept_next before after outcomes ranks index d inside stays so_far here =
+    All-more (IsKeptRank after outcomes) ranks index d inside
+    (All-weaker (IsKeptRank before outcomes) (IsKeptRank after outcomes) (λ r is d within. still_kept before after stays (get_or outcomes r.number d) (is d within)) (take index ranks) so_far)
+    here
+
+granted_kept : (kept : ℕ → Type 0) (outcomes : List Outcome) → All (AreKeptOf kept) outcomes → All (λ (r : Receipt). kept r.place) (granted outcomes)
+granted_kept kept [] is = All-nil (λ (r : Receipt). kept r.place)
+granted_kept kept (o ∷ outcomes) is =
+    All-append (λ (r : Receipt). kept r.place) (receipts_of o.answer) (granted outcomes) (All-head (AreKeptOf kept) o outcomes is) (granted_kept kept outcomes (All-tail (AreKeptOf kept) o outcomes is))
+
+-- all of them, where each outcome has a rank
+pub all_kept : (kept : ℕ → Type 0) (outcomes : List Outcome) (ranks : List Rank) → ((k : ℕ) → k < length outcomes → HasRank ranks k) → All (IsKeptRank kept outcomes) ranks
+    → All (λ (r : Receipt). kept r.place) (granted outcomes)
+all_kept kept outcomes ranks has is =
+    granted_kept kept outcomes (λ k d inside.
+    let w = has k inside in
+    let here : IsKeptRank kept outcomes w.0 = All-contains (IsKeptRank kept outcomes) ranks w.0 is w.1 in
+    subst (λ n. n < length outcomes → AreKeptOf kept (get_or outcomes n d)) w.2 (here d) inside)
+
+-- ---- one outcome
+
+-- what was granted is the entry of its receipt
+pub one_kept : (kept : ℕ → Type 0) (outcome : Outcome) (grant : Grant) → outcome.answer ≡ Granted grant → kept grant.receipt.place → AreKeptOf kept outcome
+one_kept kept outcome grant is k =
+    subst (λ a. All (λ (r : Receipt). kept r.place) (receipts_of a)) (sym is) (All-cons (λ (r : Receipt). kept r.place) grant.receipt [] k (All-nil (λ (r : Receipt). kept r.place)))
+
+-- nothing was granted
+pub none_kept : (kept : ℕ → Type 0) (outcome : Outcome) → ((grant : Grant) → outcome.answer ≡ Granted grant → ⊥) → AreKeptOf kept outcome
+none_kept kept outcome none = by outcome.answer none
+  where
+    by : (answer : Answer) → ((grant : Grant) → answer ≡ Granted grant → ⊥) → All (λ (r : Receipt). kept r.place) (receipts_of answer)
+    by (Granted grant) never = absurd (never grant refl)
+    by (Blocked obstacle at version) never = All-nil (λ (r : Receipt). kept r.place)
+    by Gone never = All-nil (λ (r : Receipt). kept r.place)
+    by Full never = All-nil (λ (r : Receipt). kept r.place)
+    by Memory never = All-nil (λ (r : Receipt). kept r.place)
+
+-- the outcome with this number
+pub kept_at : (kept : ℕ → Type 0) (outcomes : List Outcome) (number : ℕ) (outcome : Outcome) → number < length outcomes → outcome ≡ get_or outcomes number outcome → AreKeptOf kept outcome
+    → IsKeptAt kept outcomes number
+kept_at kept outcomes number outcome inside is k = λ d within. subst (AreKeptOf kept) (get_or_read outcomes number outcome within is d) k
+
+pub kept_if_ok : {T E : Type 0} (kept : ℕ → Type 0) (outcomes : List Outcome) (number : ℕ) (outcome : Outcome) (r : Result T E) → number < length outcomes → outcome ≡ get_or outcomes number outcome
+    → OnOk r (AreKeptOf kept outcome) → OnOk r (IsKeptAt kept outcomes number)
+kept_if_ok kept outcomes number outcome (Ok x) inside is k = kept_at kept outcomes number outcome inside is k
+kept_if_ok kept outcomes number outcome (Err e) inside is k = tt
+
+-- what was granted is told
+pub grant_told : (history : HistoryOnTrack) (outcome : Outcome) (grant : Grant) → outcome.answer ≡ Granted grant → HasOutcome history outcome → HasGrant history outcome.train grant
+grant_told history outcome grant is has = subst (λ a. HasAnswer history outcome.train a) is has

@@ -1,0 +1,23 @@
+use Rattle.std.proofs.Common.{rules}
+use Rattle.rbc_server.proofs.connections.visit_all.Goals as goal
+
+pub scoped-requires : goal.scoped-requires
+scoped-requires g c = record {
+  at = λ a. (
+    (
+      search rules,
+      search rules,
+      search rules,
+      search rules,
+      search rules,
+      search rules,
+      search rules,
+      search rules,
+      search rules,
+      search rules,
+      search rules,
+      c.requires.track,
+    ),
+    search rules,
+  );
+}

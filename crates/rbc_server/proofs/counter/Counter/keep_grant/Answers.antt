@@ -1,0 +1,17 @@
+use Rattle.std.proofs.Common.{◌∙◌, subst, sym}
+use Rattle.rbc_model.specs.SessionText.{Ask}
+use Rattle.rbc_model.specs.SoundTracks.{IsInForm}
+use Rattle.rbc_server.proofs.GrantLemmas.{grant_adds}
+use Rattle.rbc_server.proofs.counter.Counter.keep_grant.Goals as goal
+
+pub keep-requires : goal.keep-requires
+keep-requires g c =
+    let later = c.known-2.ensures in
+    record {
+      told = (
+        Ask c.args.train,
+        c.in_ok-text.ensures.says,
+        grant_adds c.args.seat.now.told c.args.train c.args.granted.now c.place.result c.told_of-told.result c.requires.told c.told_of-told.ensures.told c.told_of-told.ensures.best
+            c.told_of-told.ensures.chosen c.place.ensures (subst IsInForm (c.args.self.now.of_desk ∙ sym later.track) c.known.ensures.form) c.in_ok-text.ensures.sayable,
+      );
+    }

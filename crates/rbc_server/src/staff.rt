@@ -1,0 +1,63 @@
+//! Those who serve clients.
+
+ghost use Rattle.std.specs.Prelude.{◌≡◌, ◌+◌, ◌≤◌, map, take, drop, IfOk, vec_len};
+
+use crate::Sitting;
+use rbc_sweep::{DeskName, Seat};
+use std::alloc::{AllocError, Global};
+
+/// Those who serve clients at a desk: each connection has a seat with its pen, and each worker of the sweep behind them a
+/// seat.
+#[derive(Drop)]
+pub struct Staff<L: DeskName, Q> {
+    /// For each connection.
+    pub sittings: Vec<Sitting<L, Q>>,
+    /// For each worker.
+    pub workers: Vec<Seat<L>>,
+}
+
+impl<L: DeskName, Q: Drop> Staff<L, Q> {
+    /// The first of the seats, in order, with the pens, in order, for connections; the other seats for workers.
+    ///
+    /// # Errors
+    ///
+    /// The allocator refuses memory.
+    pub fn new(
+        alloc: Global,
+        mut seats: Vec<Seat<L>>,
+        pens: Vec<Q>,
+    ) -> Result<Staff<L, Q>, AllocError>
+        requires { vec_len pens ≤ vec_len seats }
+        ensures seats { IfOk result (λ staff.
+            map (λ sitting. sitting.seat) staff.sittings.items ≡ take (vec_len pens) seats.items) }
+        ensures pens { IfOk result (λ staff. map (λ sitting. sitting.pen) staff.sittings.items ≡ pens.items) }
+        ensures workers { IfOk result (λ staff. staff.workers.items ≡ drop (vec_len pens) seats.items) }
+        ensures connections { IfOk result (λ staff. vec_len staff.sittings ≡ vec_len pens) }
+        ensures others { IfOk result (λ staff. vec_len pens + vec_len staff.workers ≡ vec_len seats) }
+    {
+        let mut sittings = Vec::with_capacity(alloc, pens.len())?;
+        let workers = seats.split_off(pens.len())?;
+        let mut pens = pens.into_iter();
+        for seat in seats {
+            if let Some(pen) = pens.next() {
+                sittings.push_reserved(Sitting::new(seat, pen));
+            }
+        }
+        Ok(Staff { sittings, workers })
+    }
+}
+
+/// So many pens that keep nothing.
+///
+/// # Errors
+///
+/// The allocator refuses memory.
+pub fn no_pens(alloc: Global, count: usize) -> Result<Vec<()>, AllocError>
+    ensures { IfOk result (λ pens. vec_len pens ≡ count) }
+{
+    let mut pens = Vec::with_capacity(alloc, count)?;
+    for _ in 0..count {
+        pens.push_reserved(());
+    }
+    Ok(pens)
+}
