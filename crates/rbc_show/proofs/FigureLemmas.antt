@@ -1,10 +1,13 @@
 -- The shapes of a figure, in parts.
-use Rattle.std.proofs.Common.{◌≡◌, ℕ, Bool, Option, Result, List, [], ◌∷◌, ◌++◌, suc, refl, ap, ap₂, ◌∙◌, subst}
+use Rattle.std.proofs.Common.{◌≡◌, ℕ, Bool, Option, Result, List, [], ◌∷◌, ◌++◌, suc, refl, sym, append_assoc, ap, ap₂, ◌∙◌, subst}
 use Rattle.std.specs.Prelude.{flat_map, map, length, codes, decimal}
 use Rattle.std.proofs.lemmas.Grind.{flat_map-append}
 use Rattle.rbc_draw.specs.declared.chart.Chart.{Chart}
+use Rattle.rbc_draw.specs.declared.chart.Place.{Place}
+use Rattle.rbc_model.specs.GroupNames.{GroupName}
 use Rattle.rbc_model.specs.Sessions.{Prints}
 use Rattle.rbc_model.specs.Tracks.{Track}
+use Rattle.rbc_show.specs.Figures.{marks_on, metre_marks, value_marks}
 use Rattle.rbc_show.specs.Strips.{Strip}
 use Rattle.rbc_show.specs.Pages.{heading_text, strip_text, strips_text}
 use Rattle.rbc_draw.specs.declared.chart.Point.{Point}
@@ -39,6 +42,15 @@ caption_cut look place text =
     flat_map-append (λ t. t)
     (codes "<text class='" ∷ look ∷ codes "' x='" ∷ decimal place.x ∷ codes "' y='" ∷ decimal place.y ∷ codes "'>" ∷ [])
     ([] ∷ text ∷ [] ∷ codes "</text>\n" ∷ [])
+
+-- the figure of a stair, by its marks, where its chart is another one
+pub stair_drawn : (made told : Chart) (origin : ℕ) (group : GroupName) (places : List Place) → made ≡ told
+    → flat_map mark_text (marks_on told origin group places) ++ codes "</svg>\n"
+    ≡ flat_map mark_text (value_marks made places) ++ (flat_map mark_text (metre_marks made origin group) ++ codes "</svg>\n")
+stair_drawn made told origin group places same =
+    ap (λ (chart : Chart). flat_map mark_text (marks_on chart origin group places) ++ codes "</svg>\n") (sym same)
+    ∙ ap (λ text. text ++ codes "</svg>\n") (flat_map-append mark_text (value_marks made places) (metre_marks made origin group))
+    ∙ append_assoc (flat_map mark_text (value_marks made places)) (flat_map mark_text (metre_marks made origin group)) (codes "</svg>\n")
 
 -- a text that is printed is another one
 pub prints_as : {E : Type 0} (a b : Option (List ℕ)) (failed : Bool) (x y : List ℕ) (r : Result (Unit {0}) E) → x ≡ y → Prints a b failed x r → Prints a b failed y r

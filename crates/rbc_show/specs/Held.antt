@@ -24,4 +24,6 @@ strip_view strip = record {
   metres = strip.metres;
   parts = strip.parts.items;
   bars = strip.bars.items;
+  speeds = strip.stairs.speeds.items;
+  grades = strip.stairs.grades.items;
 }

@@ -1,7 +1,6 @@
 -- The figure of a strip: its shapes in whole pixels, and their text in SVG.
-use Rattle.std.specs.Prelude.{ℕ, ◌+◌, ◌*◌, ◌-◌, max, nat_le, if◌then◌else◌, Bool, List, [], ◌∷◌, ◌++◌, flat_map, Option, None, Some, codes, decimal}
+use Rattle.std.specs.Prelude.{ℕ, ◌+◌, ◌-◌, max, nat_le, if◌then◌else◌, Bool, List, [], ◌∷◌, ◌++◌, flat_map, Option, None, Some, codes, decimal}
 use Rattle.rbc_model.specs.Tracks.{Track}
-use Rattle.rbc_draw.specs.declared.chart.TheConstants.{LEFT}
 use Rattle.rbc_draw.specs.declared.chart.Measure.TheVariants.{Speed}
 use Rattle.rbc_draw.specs.declared.chart.Point.{Point}
 use Rattle.rbc_draw.specs.declared.chart.Chart.{Chart}
@@ -120,10 +119,10 @@ row_marks =
 abbrev pub scale_marks : Chart → ℕ → Strip → List Mark
 scale_marks chart origin strip =
     line (codes "axis") (at (across chart 0) 300) (at (across chart strip.metres) 300)
-    ∷ Caption (codes "behind") (at (across chart 0) 318) (metre_text origin 0)
-    ∷ Caption (codes "before") (at (across chart strip.metres) 318) (metre_text origin strip.metres)
-    ∷ line (codes "tick") (at (across chart strip.origin) 294) (at (across chart strip.origin) 336)
-    ∷ named chart strip.origin 336 (origin_text strip.group)
+    ∷ Caption (codes "behind") (at (across chart 0) 336) (metre_text origin 0)
+    ∷ Caption (codes "before") (at (across chart strip.metres) 336) (metre_text origin strip.metres)
+    ∷ line (codes "tick") (at (across chart strip.origin) 294) (at (across chart strip.origin) 318)
+    ∷ named chart strip.origin 318 (origin_text strip.group)
     ∷ []
 
 -- ---- the figure

@@ -6,6 +6,7 @@ use Rattle.rbc_draw.specs.Texts.{joined, escaped}
 use Rattle.rbc_show.specs.Strips.{Strip, strips_of}
 use Rattle.rbc_show.specs.Words.{train_text, part_text, bar_text}
 use Rattle.rbc_show.specs.Marks.{mark_text, shapes_of}
+use Rattle.rbc_show.specs.Figures.{stairs_text}
 
 -- a train's heading, and its figure's beginning: a title, and in words what the figure shows
 abbrev pub opening_text : Track → ℕ → Strip → List ℕ
@@ -18,9 +19,9 @@ opening_text track origin strip = joined (
 abbrev pub closing_text : Track → ℕ → Strip → List ℕ
 closing_text track origin strip = joined (codes "</svg>\n<p>" ∷ train_text track origin strip ∷ codes "</p>\n" ∷ [])
 
--- a train with its figure
+-- a train with its figure, and those of its way's speeds and gradients
 abbrev pub strip_text : Track → Strip → List ℕ
-strip_text track strip = opening_text track strip.origin strip ++ (flat_map mark_text (shapes_of track strip) ++ closing_text track strip.origin strip)
+strip_text track strip = opening_text track strip.origin strip ++ (flat_map mark_text (shapes_of track strip) ++ (closing_text track strip.origin strip ++ stairs_text strip.origin strip))
 
 abbrev pub head_text : List ℕ
 head_text = joined (
@@ -28,10 +29,10 @@ head_text = joined (
     ∷ codes "<meta name='viewport' content='width=device-width, initial-scale=1'>\n<title>Scene</title>\n<style>\n"
     ∷ codes "body{max-width:60rem;margin:1rem auto;padding:0 1rem;font-family:sans-serif}\n"
     ∷ codes "svg{width:100%;break-inside:avoid;break-after:avoid}\n"
-    ∷ codes "line{stroke:#000;stroke-width:1}\ntext{font-size:14px}\n@media(max-width:40rem){text{font-size:18px}svg{min-width:36rem}}\n.before{text-anchor:end}\n"
+    ∷ codes "line,path{fill:none;stroke:#000;stroke-width:1}\ntext{font-size:14px}\n@media(max-width:40rem){text{font-size:18px}svg{min-width:36rem}}\n.before{text-anchor:end}\n"
     ∷ codes ".tick,.axis{stroke:#777}\n.locked{stroke-width:7}\n.unlocked{stroke-width:3;stroke-dasharray:4 4}\n"
-    ∷ codes ".stands{stroke-width:14}\n.held{stroke:#f2a900;stroke-width:8}\n.end{stroke:#0b4f8a;stroke-width:3;stroke-dasharray:6 3}\n.reach{stroke-width:2}\n"
-    ∷ codes "h2{margin:2rem 0 0;font-size:1.1rem;break-after:avoid}\np{margin:0 0 1rem}\n"
+    ∷ codes ".stands{stroke-width:14}\n.held{stroke:#f2a900;stroke-width:8}\n.end{stroke:#0b4f8a;stroke-width:3;stroke-dasharray:6 3}\n.reach{stroke-width:2}\n.stair{stroke:#0b4f8a;stroke-width:3}\n"
+    ∷ codes "h1{margin:2.5rem 0 .5rem;font-size:1.4rem;break-after:avoid}\nh2{margin:2rem 0 0;font-size:1.1rem;break-after:avoid}\np{margin:0 0 1rem}\n"
     ∷ codes "</style>\n</head>\n<body>\n" ∷ [])
 
 abbrev pub foot_text : List ℕ

@@ -13,6 +13,8 @@ use Rattle.rbc_model.specs.Trains.{Train}
 use Rattle.rbc_model.specs.Scenes.{Scene, others, extent_has, authority_has}
 use Rattle.rbc_model.specs.Obstacles.{way, is_locked}
 use Rattle.rbc_model.specs.Views.{reach, stop, greatest_end}
+use Rattle.rbc_draw.specs.declared.chart.Place.{Place}
+use Rattle.rbc_show.specs.Stairs.{speeds_along, grades_along}
 use Rattle.rbc_show.specs.declared.parts.Part.{Part}
 use Rattle.rbc_show.specs.declared.bars.Bar.{Bar}
 
@@ -67,7 +69,8 @@ bars_along track other begin (leg ∷ legs) = bars_on track other begin leg ++ b
 
 -- ---- the strip
 
--- A train with its extent and its authority, how far it may run and what stands beyond, the legs of its way, and the bars of the other trains.
+-- A train with its extent and its authority, how far it may run and what stands beyond, the legs of its way, the bars of the other trains, and the speeds
+-- and gradients along the way.
 pub record Strip : Type 0 where
   pub train : ℕ
   pub group : GroupName
@@ -82,6 +85,8 @@ pub record Strip : Type 0 where
   pub metres : ℕ
   pub parts : List Part
   pub bars : List Bar
+  pub speeds : List Place
+  pub grades : List Place
 
 -- the strip of a train
 abbrev pub strip_of : Track → Scene → Train → Strip
@@ -99,6 +104,8 @@ strip_of track scene train = record {
   metres = line_length track (way track scene train);
   parts = parts_along track scene.locks None first_height 0 (way track scene train);
   bars = flat_map (λ other. bars_along track other 0 (way track scene train)) (others scene train);
+  speeds = speeds_along track 0 (way track scene train);
+  grades = grades_along track 0 (way track scene train);
 }
 
 -- the strips of all trains, in order of arrival

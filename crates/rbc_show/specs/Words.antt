@@ -1,5 +1,5 @@
 -- What a strip says in words. Metres are counted from the train's group, as in replies: those before it are negative.
-use Rattle.std.specs.Prelude.{ℕ, ◌-◌, ◌==◌, Bool, if◌then◌else◌, List, [], ◌∷◌, ◌++◌, flat_map, Option, None, Some, pos, ◌-ℤ◌, codes, decimal}
+use Rattle.std.specs.Prelude.{ℕ, ◌==◌, Bool, if◌then◌else◌, List, [], ◌∷◌, Option, None, Some, pos, ◌-ℤ◌, codes, decimal}
 use Rattle.std.specs.Fmt.{signed_decimal}
 use Rattle.rbc_model.specs.declared.places.Direction.{Direction}
 use Rattle.rbc_model.specs.declared.places.Direction.TheVariants.{Rising, Falling}

@@ -2,11 +2,13 @@
 #![tactic(auto)]
 
 mod bars;
+mod figure;
 mod marks;
 mod page;
 mod parts;
 mod phrases;
 mod pieces;
+mod stairs;
 mod strip;
 mod way;
 mod words;

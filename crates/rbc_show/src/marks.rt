@@ -97,7 +97,7 @@ pub(crate) fn scale_of(metres: u32) -> Chart
 }
 
 /// A point where a place stands, so many pixels from the top.
-fn at(chart: Chart, place: u32, y: u64) -> Point
+pub(crate) fn at(chart: Chart, place: u32, y: u64) -> Point
     ensures { result ≡ point_at (pixels_of chart place) y }
 {
     Point {
@@ -233,14 +233,14 @@ pub(crate) fn print_train_marks<W: Sink>(
 }
 
 /// The look of a text beside a line: on the side that has more room.
-fn side(x: u64) -> &'static [u8]
+pub(crate) fn side(x: u64) -> &'static [u8]
     ensures { result.now ≡ side x }
 {
     if x <= 480 { b"behind" } else { b"before" }
 }
 
 /// Where a text beside a line stands.
-fn beside(x: u64, y: u64) -> Point
+pub(crate) fn beside(x: u64, y: u64) -> Point
     requires { x < 2 ^ 48 }
     ensures { result ≡ beside x y }
 {
@@ -340,13 +340,13 @@ pub(crate) fn print_scale_marks<W: Sink>(
     let (chart, end, origin) = (canvas.chart, strip.metres, strip.origin);
     let x = chart.across(origin);
     let axis = Shape::Line(b"axis", at(chart, 0, 300), at(chart, end, 300));
-    let group = Shape::Line(b"tick", at(chart, origin, 294), at(chart, origin, 336));
+    let group = Shape::Line(b"tick", at(chart, origin, 294), at(chart, origin, 318));
     let marks = [
         Mark::Drawn(axis),
-        Mark::Caption(b"behind", at(chart, 0, 318), Phrase::Metre(0)),
-        Mark::Caption(b"before", at(chart, end, 318), Phrase::Metre(end)),
+        Mark::Caption(b"behind", at(chart, 0, 336), Phrase::Metre(0)),
+        Mark::Caption(b"before", at(chart, end, 336), Phrase::Metre(end)),
         Mark::Drawn(group),
-        Mark::Caption(side(x), beside(x, 336), Phrase::Origin(strip.group)),
+        Mark::Caption(side(x), beside(x, 318), Phrase::Origin(strip.group)),
     ];
     print_each(&canvas.basis, &marks, writer)
 }

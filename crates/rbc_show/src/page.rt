@@ -7,6 +7,7 @@ ghost use Rattle.rbc_show.specs.Marks.{mark_text, shapes_on};
 ghost use Rattle.rbc_show.specs.Pages.{closing_text, foot_text, head_text, heading_text, opening_text, scene_text, strip_text, strips_text};
 ghost use Rattle.rbc_show.specs.declared.page.ShowFault.TheVariants.{Memory as NoMemory, Write as NoWrite};
 
+use crate::figure::print_stairs;
 use crate::marks::{
     Canvas, print_bars, print_end_marks, print_parts, print_reach_marks, print_row_marks,
     print_scale_marks, print_train_marks, scale_of,
@@ -112,7 +113,8 @@ impl Printed<Track> for Strip {
         };
         print_opening(&basis, self, writer)?;
         print_shapes(&canvas, self, writer)?;
-        print_closing(&basis, self, writer)
+        print_closing(&basis, self, writer)?;
+        print_stairs(&basis, self, writer)
     }
 }
 
@@ -135,16 +137,16 @@ pub fn print_head<W: Sink>(track: &Track, writer: &mut W) -> Result<(), WriteFai
         ),
         Piece::Text(b"svg{width:100%;break-inside:avoid;break-after:avoid}\n"),
         Piece::Text(
-            b"line{stroke:#000;stroke-width:1}\ntext{font-size:14px}\n@media(max-width:40rem){text{font-size:18px}svg{min-width:36rem}}\n.before{text-anchor:end}\n",
+            b"line,path{fill:none;stroke:#000;stroke-width:1}\ntext{font-size:14px}\n@media(max-width:40rem){text{font-size:18px}svg{min-width:36rem}}\n.before{text-anchor:end}\n",
         ),
         Piece::Text(
             b".tick,.axis{stroke:#777}\n.locked{stroke-width:7}\n.unlocked{stroke-width:3;stroke-dasharray:4 4}\n",
         ),
         Piece::Text(
-            b".stands{stroke-width:14}\n.held{stroke:#f2a900;stroke-width:8}\n.end{stroke:#0b4f8a;stroke-width:3;stroke-dasharray:6 3}\n.reach{stroke-width:2}\n",
+            b".stands{stroke-width:14}\n.held{stroke:#f2a900;stroke-width:8}\n.end{stroke:#0b4f8a;stroke-width:3;stroke-dasharray:6 3}\n.reach{stroke-width:2}\n.stair{stroke:#0b4f8a;stroke-width:3}\n",
         ),
         Piece::Text(
-            b"h2{margin:2rem 0 0;font-size:1.1rem;break-after:avoid}\np{margin:0 0 1rem}\n",
+            b"h1{margin:2.5rem 0 .5rem;font-size:1.4rem;break-after:avoid}\nh2{margin:2rem 0 0;font-size:1.1rem;break-after:avoid}\np{margin:0 0 1rem}\n",
         ),
         Piece::Text(b"</style>\n</head>\n<body>\n"),
     ];

@@ -1,7 +1,8 @@
 //! The pieces of a train's figure.
 
-ghost use Rattle.std.specs.Prelude.{◌≡◌, false};
+ghost use Rattle.std.specs.Prelude.{◌≡◌, false, flat_map};
 ghost use Rattle.rbc_model.specs.Sessions.{Prints};
+ghost use Rattle.rbc_show.specs.Figures.{stair_word};
 ghost use Rattle.rbc_show.specs.Words.{train_text};
 ghost use Rattle.rbc_show.specs.Held.{strip_view};
 ghost use Rattle.rbc_show.specs.Pieces.{piece_text};
@@ -10,8 +11,8 @@ use crate::bars::Bar;
 use crate::parts::Part;
 use crate::phrases::Phrase;
 use crate::strip::Strip;
-use crate::words::Ground;
-use rbc_draw::{Printed, print_each, print_number};
+use crate::words::{Ground, Scale};
+use rbc_draw::{Measure, Place, Printed, print_each, print_number};
 use rbc_streams::{Sink, WriteFailed, put};
 
 /// A piece of a figure.
@@ -29,6 +30,8 @@ pub(crate) enum Piece<'a> {
     Parts(&'a [Part]),
     /// What other trains have, in words.
     Bars(&'a [Bar]),
+    /// A stair, in words.
+    Places(Measure, &'a [Place]),
 }
 
 /// Writes where a train may stand, what it holds, how far it may run, and what stands beyond.
@@ -56,6 +59,24 @@ fn print_train<W: Sink>(basis: &Ground, strip: &Strip, writer: &mut W) -> Result
     print_each(basis, &phrases, writer)
 }
 
+/// Writes the places of a stair as words.
+fn print_places<W: Sink>(
+    basis: &Ground,
+    measure: Measure,
+    places: &[Place],
+    writer: &mut W,
+) -> Result<(), WriteFailed>
+    requires { W.failed writer.old ≡ false }
+    ensures { Prints (W.written writer.old) (W.written writer.new) (W.failed writer.new)
+        (flat_map (stair_word measure basis.now.origin) places.now) result }
+{
+    let scale = Scale {
+        basis: *basis,
+        measure,
+    };
+    print_each(&scale, places, writer)
+}
+
 impl Printed<Ground<'_>> for Piece<'_> {
     ghost text = { piece_text };
 
@@ -67,6 +88,7 @@ impl Printed<Ground<'_>> for Piece<'_> {
             Piece::Train(strip) => print_train(basis, strip, writer),
             Piece::Parts(parts) => print_each(basis, parts, writer),
             Piece::Bars(bars) => print_each(basis, bars, writer),
+            Piece::Places(measure, places) => print_places(basis, *measure, places, writer),
         }
     }
 }

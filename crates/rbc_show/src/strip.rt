@@ -8,6 +8,7 @@ ghost use Rattle.rbc_show.specs.Held.{strip_view};
 
 use crate::bars::{Bar, bars_of};
 use crate::parts::{Part, parts_of};
+use crate::stairs::{Stairs, stairs_of};
 use crate::way::way_of;
 use rbc_model::{GroupName, Memory, Obstacle};
 use rbc_scene::{Book, Locks, Scene, Train, reach};
@@ -42,6 +43,8 @@ pub(crate) struct Strip {
     pub(crate) parts: Vec<Part>,
     /// What other trains have of its way.
     pub(crate) bars: Vec<Bar>,
+    /// The speeds and the gradients along it.
+    pub(crate) stairs: Stairs,
 }
 
 /// The strip of a train.
@@ -68,6 +71,7 @@ fn strip_of(alloc: Global, locks: &Locks, book: &Book, train: &Train) -> Result<
         metres: way.length(),
         parts: parts_of(alloc, locks, &way)?,
         bars: bars_of(alloc, book, train, &way)?,
+        stairs: stairs_of(alloc, &way)?,
     })
 }
 

@@ -9,7 +9,7 @@ ghost use Rattle.rbc_show.specs.Pieces.{word_text};
 
 use crate::bars::Bar;
 use crate::parts::Part;
-use rbc_draw::{Printed, print_each, print_number, print_signed};
+use rbc_draw::{Measure, Printed, print_each, print_number, print_signed};
 use rbc_model::SectionId;
 use rbc_streams::{Sink, WriteFailed, put};
 use rbc_track::{Name, Track};
@@ -23,6 +23,15 @@ pub(crate) struct Ground<'a> {
     pub(crate) origin: u32,
 }
 
+/// What places of a stair are told on.
+#[derive(Clone, Copy)]
+pub(crate) struct Scale<'a> {
+    /// The ground of the words.
+    pub(crate) basis: Ground<'a>,
+    /// What the stair shows.
+    pub(crate) measure: Measure,
+}
+
 /// A word of a page.
 #[derive(Clone, Copy)]
 pub(crate) enum Word<'a> {
@@ -32,6 +41,8 @@ pub(crate) enum Word<'a> {
     Number(u64),
     /// A place, in metres from the group.
     Place(u32),
+    /// The value at a height.
+    Value(Measure, u32),
     /// A section's name, escaped.
     Name(SectionId),
 }
@@ -69,6 +80,7 @@ impl Printed<Ground<'_>> for Word<'_> {
             Word::Place(place) => {
                 print_signed(i64::from(*place) - i64::from(basis.origin), writer)
             }
+            Word::Value(measure, height) => print_signed(measure.value(*height), writer),
             Word::Name(section) => print_name(basis.track, *section, writer),
         }
     }

@@ -10,7 +10,7 @@ returns g c =
     let basis = c.args.canvas.now.basis in
     let strip = c.args.strip.now in
     let look = c.side.ensures ∙ (λ j. side (c.across-x.ensures j)) in
-    let place = c.beside.ensures ∙ (λ j. beside (c.across-x.ensures j) 336) in
+    let place = c.beside.ensures ∙ (λ j. beside (c.across-x.ensures j) 318) in
     prints_as _ _ _ _ _ _
     (λ j. flat_map mark_text
     (line (codes "axis") (c.at.ensures j) (c.at-2.ensures j)

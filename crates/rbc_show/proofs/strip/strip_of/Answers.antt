@@ -4,9 +4,9 @@ use Rattle.rbc_model.specs.Lines.{line_length}
 use Rattle.rbc_model.specs.Locks.{continued}
 use Rattle.rbc_model.specs.Obstacles.{way}
 use Rattle.rbc_model.specs.Scenes.{others}
-use Rattle.rbc_model.specs.Tracks.{Track}
 use Rattle.rbc_model.specs.Views.{reach, greatest_end}
 use Rattle.rbc_scene.specs.Reaches.{scene_of}
+use Rattle.rbc_show.specs.Stairs.{speeds_along, grades_along}
 use Rattle.rbc_show.specs.Strips.{parts_along, bars_along, first_height}
 use Rattle.rbc_show.proofs.strip.strip_of.Goals as goal
 
@@ -27,6 +27,8 @@ returns c =
     let metres = c.length.ensures.length ∙ (λ j. line_length (track j) (legs j)) in
     let parts = c.in_ok-parts_of.ensures ∙ (λ j. parts_along (track j) locks None first_height 0 (legs j)) in
     let bars = c.in_ok-bars_of.ensures ∙ (λ j. flat_map (λ other. bars_along (track j) other 0 (legs j)) (others scene known.train)) in
+    let speeds = c.in_ok-stairs_of.ensures.speeds ∙ (λ j. speeds_along (track j) 0 (legs j)) in
+    let grades = c.in_ok-stairs_of.ensures.grades ∙ (λ j. grades_along (track j) 0 (legs j)) in
     λ j. record {
       train = c.number.ensures j;
       group = group j;
@@ -41,4 +43,6 @@ returns c =
       metres = metres j;
       parts = parts j;
       bars = bars j;
+      speeds = speeds j;
+      grades = grades j;
     }
