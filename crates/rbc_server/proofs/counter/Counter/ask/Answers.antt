@@ -17,7 +17,7 @@ returns-in_default g c =
     let track = c.args.self.now.track.now in
     let later = c.known-2.ensures in
     denied_treated g.K.Keeper.kept _ _ _ _ _ _ c.args.train track (reply_text track c.reply_to.result) c.ask_in_vain.result (Err c.ask_in_vain.result) refl c.requires.whole refl refl
-    (later.track ∙ sym c.args.self.now.of_desk) c.ask_in_vain.ensures.since c.reply_to.ensures.comes c.ask_in_vain.ensures.receipts c.print.ensures
+    (later.track ∙ sym c.args.self.now.of_desk) c.ask_in_vain.ensures.since c.reply_to.ensures.comes c.ask_in_vain.ensures.refused c.print.ensures
 
 pub reply_to-reply-requires : goal.reply_to-reply-requires
 reply_to-reply-requires g c = asked_below c.args.sitting.now.seat.told c.ask_by-answer.new.seat.told c.args.train c.ask_by-answer.result c.ask_by-answer.ensures.since
