@@ -1,13 +1,17 @@
 #!/usr/bin/env python3
-"""Prints how many messages and packets `rbc decode` and `rbc decode --json` tell alike, or the first that they don't.
+"""Prints how many messages and packets `rbc decode`, `rbc decode --json` and a second reading tell alike, or the first that
+they don't.
 
     printings < LINES
 
 Each line has a message or a packet in digits, as `rbc decode` reads it. It is told as it stands, and with each of its bits
-turned, one at a time. Every line of JSON is read by Python's own reader, which has to take it."""
+turned, one at a time. Every line of JSON is read by Python's own reader, which has to take it. The second reading is that of
+tests/tables.py, by the tables of docs/formats.md."""
 import json
 import subprocess
 import sys
+
+from tables import by_tables
 
 
 def turned(line):
@@ -74,8 +78,8 @@ def main():
     if not len(said) == len(values) == len(lines):
         return f"{len(said)} and {len(values)} replies to {len(lines)} lines"
     for line, one, other in zip(lines, said, values):
-        if one != other:
-            return f"{line}: {one} and {other}"
+        if not one == other == by_tables(line):
+            return f"{line}: {one} and {other} and {by_tables(line)}"
     return f"{len(lines)} told alike"
 
 

@@ -5,8 +5,8 @@ use Rattle.clap.specs.declared.error.kind.ErrorKind.{ErrorKind}
 use Rattle.clap.specs.declared.error.kind.ErrorKind.TheVariants.{DisplayHelp, DisplayVersion}
 use Rattle.rbc_model.specs.declared.sessions.SessionFault.{SessionFault}
 use Rattle.rbc_model.specs.declared.sessions.SessionFault.TheVariants.{Memory}
-use Rattle.rbc_desk_journal.specs.ServeFault.{ServeFault}
-use Rattle.rbc_desk_journal.specs.ServeFault.TheVariants.{Memory as NoServeMemory, Close}
+use Rattle.rbc_pages.specs.ServeFault.{ServeFault}
+use Rattle.rbc_pages.specs.ServeFault.TheVariants.{Memory as NoServeMemory, Close}
 use Rattle.rbc.specs.declared.journal.JournalFault.{JournalFault}
 use Rattle.rbc.specs.declared.journal.JournalFault.TheVariants.{Foreign}
 use Rattle.rbc_trackfile.specs.declared.loading.LoadFault.{LoadFault}

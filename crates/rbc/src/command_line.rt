@@ -3,7 +3,7 @@
 ghost use Rattle.std.specs.Prelude.{◌≤◌};
 
 use clap::{Arg, ArgAction, ArgMatches, Command, Error, value_parser};
-use rbc_desk_journal::kept::server::Terms;
+use rbc_pages::kept::server::Terms;
 use std::alloc::{AllocError, Global};
 use std::time::Duration;
 
@@ -20,6 +20,8 @@ pub enum Task<'a> {
     Draw,
     /// Run a centre.
     Run(Centre<'a>),
+    /// Show what a session leads to.
+    Show(Shown<'a>),
     /// Serve connections.
     Serve(Service<'a>),
 }
@@ -42,6 +44,15 @@ pub struct Centre<'a> {
     pub history: Option<&'a str>,
     /// The file of its journal, if it has one.
     pub journal: Option<&'a str>,
+}
+
+/// How a session is shown.
+#[derive(Clone, Copy, Debug, PartialEq, Eq)]
+pub struct Shown<'a> {
+    /// The track file.
+    pub track: &'a str,
+    /// Whether the scene is drawn after each line that changes it; else at the end alone.
+    pub each: bool,
 }
 
 /// How a centre serves.
@@ -109,6 +120,7 @@ pub fn read<'a>(alloc: Global, words: &'a [String]) -> Result<Task<'a>, Error> {
         .subcommand(decode)?
         .subcommand(draw)?
         .subcommand(run)?
+        .subcommand(show(alloc)?)?
         .subcommand(serve(alloc)?)?;
     let matches = command.try_get_matches_from(words)?;
     if let Some(run) = matches.subcommand_matches("run") {
@@ -116,6 +128,12 @@ pub fn read<'a>(alloc: Global, words: &'a [String]) -> Result<Task<'a>, Error> {
             track: run.get_str("TRACK").unwrap_or(""),
             history: run.get_str("history"),
             journal: run.get_str("journal"),
+        }));
+    }
+    if let Some(show) = matches.subcommand_matches("show") {
+        return Ok(Task::Show(Shown {
+            track: show.get_str("TRACK").unwrap_or(""),
+            each: show.get_flag("each"),
         }));
     }
     if let Some(serve) = matches.subcommand_matches("serve") {
@@ -131,6 +149,20 @@ pub fn read<'a>(alloc: Global, words: &'a [String]) -> Result<Task<'a>, Error> {
         Some(_) => Ok(Task::Check),
         None => Ok(Task::Steps),
     }
+}
+
+/// The command that shows a session.
+fn show<'a>(alloc: Global) -> Result<Command<'a>, AllocError> {
+    let each = Arg::new(alloc, "each")
+        .long("each")
+        .help("Draws the scene after each line that changes it")
+        .action(ArgAction::SetTrue);
+    Command::new(alloc, "show")
+        .about(
+            "Draws the scene that the requests on standard input lead to, on the track of a file, as one page of HTML",
+        )
+        .arg(track_file(alloc))?
+        .arg(each)
 }
 
 /// The track file of a centre.

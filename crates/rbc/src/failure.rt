@@ -5,12 +5,12 @@ ghost use Rattle.rbc.specs.Statuses.{status_of};
 
 use crate::journal::JournalFault;
 use clap::error::ErrorKind;
-use rbc_desk_journal::kept::server::ServeFault;
-use rbc_desk_journal::kept::{KeptFault, RunFault};
 use rbc_journal_file::OpenFault;
 use rbc_model::Memory;
+use rbc_pages::kept::server::ServeFault;
+use rbc_pages::kept::{KeptFault, RunFault};
+use rbc_pages::{SessionFault, WriteFailed};
 use rbc_trackfile::LoadFault;
-use rbc_words::{SessionFault, WriteFailed};
 use std::alloc::AllocError;
 use std::io;
 

@@ -1,10 +1,10 @@
 //! The file of a centre's history.
 
-ghost use Rattle.rbc_session_laws.specs.Retelling.{IsRetold};
+ghost use Rattle.rbc_pages.specs.Retelling.{IsRetold};
 
 use crate::failure::Failure;
-use rbc_desk_journal::kept::server::{Record, print_history};
-use rbc_words::Stream;
+use rbc_pages::Stream;
+use rbc_pages::kept::server::{Record, print_history};
 use std::fs;
 use std::fs::Files;
 

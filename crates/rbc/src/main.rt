@@ -8,19 +8,19 @@ mod journal;
 mod serve;
 mod serve_kept;
 
-use command_line::{Centre, Printing, Service, Task};
+use command_line::{Centre, Printing, Service, Shown, Task};
 use failure::Failure;
 use history::write_history;
 pub use journal::JournalFault;
 use journal::{run_kept, serve_with};
 pub use rbc_certifier::steps;
-use rbc_desk_journal::kept::server::{self, Record};
-pub use rbc_draw::{check, draw};
 pub use rbc_fields::{Form, Json, Plain, decode};
 use rbc_model::Memory;
-use rbc_track::Track;
+use rbc_pages::Stream;
+use rbc_pages::kept::server::{self, Record};
+pub use rbc_pages::{check, draw, show};
+use rbc_trackfile::Track;
 pub use rbc_trackfile::{LoadFault, load};
-use rbc_words::Stream;
 use serve::{open_port, serve};
 use std::env::Env;
 use std::fs::{File, Files};
@@ -97,6 +97,7 @@ fn run(
             }
         }
         Task::Run(centre) => run_centre(rt, &centre),
+        Task::Show(shown) => show_session(rt, &shown),
         Task::Serve(service) => serve_centre(rt, &service),
     }
 }
@@ -146,6 +147,25 @@ fn run_centre(
     };
     ended?;
     kept
+}
+
+/// Shows what the lines of the standard input lead to, on the track of a file, as a page.
+fn show_session(
+    rt: &(impl Files + Input + Print + AllocGlobal + Threads + Sync),
+    shown: &Shown,
+) -> Result<(), Failure> {
+    let alloc = rt.alloc();
+    let track = Arc::new(alloc, read_track(rt, shown.track)?).map_err(Memory::from)?;
+    let record = Record::new(alloc, track)?;
+    show(
+        rt,
+        alloc,
+        shown.each,
+        record,
+        &mut Stream::reader(rt.reader()),
+        &mut Stream::writer(alloc, io::writer(rt))?,
+    )?;
+    Ok(())
 }
 
 /// Serves connections on a port, on the track of a file.

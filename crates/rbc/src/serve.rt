@@ -6,13 +6,13 @@ ghost use Rattle.rbc.specs.Listening.{listening_line};
 
 use crate::command_line::Service;
 use crate::failure::Failure;
-use rbc_desk_journal::kept::server::{
+use rbc_model::Memory;
+use rbc_pages::kept::server::{
     self, Blank, Client, Clients, Desk, DeskName, NoJournal, Port, Record, ServeFault, Staff,
     no_pens,
 };
-use rbc_model::Memory;
-use rbc_track::Track;
-use rbc_words::{Sink, Source, Word, WriteFailed, print_line};
+use rbc_pages::{Sink, Source, Word, WriteFailed, print_line};
+use rbc_trackfile::Track;
 use std::alloc::Global;
 use std::io::Eprint;
 use std::marker::Brand;

@@ -1,16 +1,16 @@
 //! A centre that serves connections, and keeps its history in a journal.
 
 ghost use Rattle.std.specs.Prelude.{◌≡◌, ◌<◌, ◌≤◌, false};
-ghost use Rattle.rbc_desk_journal.specs.Kept.{IsReady};
+ghost use Rattle.rbc_pages.specs.Kept.{IsReady};
 
 use crate::command_line::Service;
 use crate::failure::Failure;
-use rbc_desk_journal::kept::Kept;
-use rbc_desk_journal::kept::server::{Blank, Client, Clients, DeskName, Served, Staff, serve};
-use rbc_desk_journal::scribe::{self, ScribeName};
-use rbc_desk_journal::{DeskJournal, Device, Opened, SeatTold, close};
-use rbc_track::Track;
-use rbc_words::{Sink, Source};
+use rbc_pages::desk_journal::scribe::{self, ScribeName};
+use rbc_pages::desk_journal::{self, DeskJournal, Device, Opened, SeatTold, close};
+use rbc_pages::kept::Kept;
+use rbc_pages::kept::server::{Blank, Client, Clients, DeskName, Served, Staff, serve};
+use rbc_pages::{Sink, Source};
+use rbc_trackfile::Track;
 use std::alloc::Global;
 use std::io::Eprint;
 use std::marker::Brand;
@@ -100,7 +100,7 @@ fn open<
     requires workers { connections < seats }
     requires few { seats ≤ 16 }
 {
-    let opened = rbc_desk_journal::open::<L, D, N, T>(rt, alloc, kept, seats, blank, stamps);
+    let opened = desk_journal::open::<L, D, N, T>(rt, alloc, kept, seats, blank, stamps);
     let Opened {
         desk,
         seats,

@@ -1,9 +1,8 @@
 -- Bits taken off the front of those that are left.
-use Rattle.std.proofs.Common.{◌≡◌, ℕ, suc, ◌+◌, ◌*◌, ◌/◌, ◌%◌, ◌^◌, ◌<◌, ◌≤◌, Bool, false, List, [], ◌∷◌, ◌++◌, length, take, drop, Some, None, nat_lt, ◌==◌, if◌then◌else◌, refl, arith, sym, ap, ◌∙◌, append-nil, append_assoc, length-append}
+use Rattle.std.proofs.Common.{◌≡◌, ℕ, ◌+◌, ◌*◌, ◌/◌, ◌%◌, ◌^◌, ◌<◌, ◌≤◌, Bool, List, [], ◌∷◌, ◌++◌, length, take, drop, Option, Some, None, nat_lt, if◌then◌else◌, refl, arith, sym, ap, ◌∙◌, append-nil, append_assoc, length-append}
 use Rattle.std.proofs.Math.Seq.{take-append_seam, drop-append_seam}
 use Rattle.std.proofs.lemmas.Bool.{le-ltb, lt-ltb}
 use Rattle.std.proofs.lemmas.Nat.{shr_split, shr_below}
-use Rattle.std.specs.Bool.{then_some}
 use Rattle.rbc_model.specs.Bits.{bits_of, byte_bits, number_of}
 use Rattle.rbc_model.proofs.BitLemmas.{length-bits_of, number_of-bits_of}
 use Rattle.rbc_bits.proofs.CutLemmas.{bits_of-low, bits_of-cut, bits_of-joined}
@@ -45,12 +44,15 @@ left_bits width left pending later old parts =
 pub length_left : (filled pending : ℕ) (later old : List Bool) → bits_of filled pending ++ later ≡ old → length old ≡ filled + length later
 length_left filled pending later old parts = omega (arith, ap length parts, length-append (bits_of filled pending) later, length-bits_of filled pending)
 
--- fewer than eight bits are left where no byte is
-pub last_left : (filled pending : ℕ) (bytes : List ℕ) (none : Bool) → filled < 8 → pending < 2 ^ filled → none ≡ (length bytes == 0) → then_some none pending ≡ (if nat_lt (length (bits_of filled pending ++ byte_bits bytes)) 8 then Some (number_of (bits_of filled pending ++ byte_bits bytes)) else None)
-last_left filled pending [] none few below is =
-    rw (is, append-nil (bits_of filled pending), length-bits_of filled pending, lt-ltb filled 8 few, number_of-bits_of filled pending below) refl
-last_left filled pending (byte ∷ bytes) none few below is =
-    let bits = bits_of filled pending ++ byte_bits (byte ∷ bytes) in
-    let many : 8 ≤ length bits = omega (arith, length-append (bits_of filled pending) (byte_bits (byte ∷ bytes)), length-append (bits_of 8 byte) (byte_bits bytes)) in
-    let some : (suc (length bytes) == 0) ≡ false = grind arith in
-    rw (is, some, le-ltb (length bits) 8 many) refl
+-- the number of the bits left, where they are fewer than eight
+abbrev pub last_number : List Bool → Option ℕ
+last_number bits = if nat_lt (length bits) 8 then Some (number_of bits) else None
+
+-- no byte is left, and fewer than eight bits before it
+pub few_left : (filled pending : ℕ) (bytes : List ℕ) → filled < 8 → pending < 2 ^ filled → length bytes ≡ 0 → Some pending ≡ last_number (bits_of filled pending ++ byte_bits bytes)
+few_left filled pending [] few below none =
+    rw (append-nil (bits_of filled pending), length-bits_of filled pending, lt-ltb filled 8 few, number_of-bits_of filled pending below) refl
+few_left filled pending (byte ∷ bytes) few below none = absurd (omega arith)
+
+pub many_left : (bits : List Bool) → 8 ≤ length bits → None ≡ last_number bits
+many_left bits many = rw (le-ltb (length bits) 8 many) refl

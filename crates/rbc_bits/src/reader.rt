@@ -1,7 +1,7 @@
 //! Fields of so many bits each, read from bytes.
 
-ghost use Rattle.std.specs.Prelude.{◌≡◌, ℕ, ◌^◌, ◌<◌, ◌≤◌, length, take, drop, nat_lt, if◌then◌else◌, IfOk, OnOk, OnErr};
-ghost use Rattle.rbc_model.specs.Bits.{number_of, byte_bits};
+ghost use Rattle.std.specs.Prelude.{◌≡◌, ℕ, ◌^◌, ◌<◌, ◌≤◌, ◌++◌, length, take, drop, nat_lt, if◌then◌else◌, IfOk, OnOk, OnErr};
+ghost use Rattle.rbc_model.specs.Bits.{bits_of, number_of, byte_bits};
 
 use std::marker::Model;
 use thiserror::Error;
@@ -16,8 +16,8 @@ pub struct Short;
 pub struct BitReader<'a> {
     /// The bytes that are not begun yet.
     bytes: &'a [u8],
-    /// The bits that are left of the byte before them, as a number.
-    pending: u8,
+    /// The bits that are left of those before them, as a number.
+    pending: u64,
     /// How many these are.
     filled: u32,
 }
@@ -30,7 +30,7 @@ impl<'a> Model for BitReader<'a> {
 
     ghost view = { λ r. bits_of r.filled r.pending ++ byte_bits r.bytes.now };
 
-    ghost invariant = { λ r. (r.filled < 8) × (r.pending < 2 ^ r.filled) };
+    ghost invariant = { λ r. (r.filled < 64) × (r.pending < 2 ^ r.filled) };
 }
 
 impl<'a> BitReader<'a> {
@@ -59,22 +59,15 @@ impl<'a> BitReader<'a> {
         ensures short { OnErr result (length self.old < width) }
         ensures unread { OnErr result (self.new ≡ self.old) }
     {
-        let mut bytes = self.bytes;
-        let mut pending = u64::from(self.pending);
-        let mut filled = self.filled;
-        while filled < width {
-            let Some((byte, later)) = bytes.split_first() else {
-                return Err(Short);
-            };
-            pending = pending << 8 | u64::from(*byte);
-            filled += 8;
-            bytes = later;
+        let (bytes, pending, filled) = begun(self.bytes, self.pending, self.filled, width);
+        if filled < width {
+            return Err(Short);
         }
-        filled -= width;
+        let left = filled - width;
         self.bytes = bytes;
-        self.pending = (pending % (1 << filled)) as u8;
-        self.filled = filled;
-        Ok((pending >> filled) as u32)
+        self.pending = pending % (1 << left);
+        self.filled = left;
+        Ok((pending >> left) as u32)
     }
 
     /// The number that the bits left spell, 0 to 127, where they are fewer than eight; none where they are eight or
@@ -82,6 +75,42 @@ impl<'a> BitReader<'a> {
     pub fn last_bits(&self) -> Option<u8>
         ensures { result ≡ (if nat_lt (length self.now) 8 then Some (number_of self.now) else None) }
     {
-        self.bytes.is_empty().then_some(self.pending)
+        if self.filled >= 8 {
+            return None;
+        }
+        if self.bytes.is_empty() {
+            Some(self.pending as u8)
+        } else {
+            None
+        }
     }
+}
+
+/// The bits that are left, some as a number and the rest as bytes, with more of them in the number where it has fewer than
+/// are asked for: as many as it has room for.
+#[inline(always)]
+fn begun(bytes: &[u8], pending: u64, filled: u32, width: u32) -> (&[u8], u64, u32)
+    requires narrow { width ≤ 32 }
+    requires few { filled < 64 }
+    requires fits { pending < 2 ^ filled }
+    ensures bits { bits_of result.2 result.1 ++ byte_bits result.0.now ≡ bits_of filled pending ++ byte_bits bytes.now }
+    ensures few { result.2 < 64 }
+    ensures fits { result.1 < 2 ^ result.2 }
+    ensures all { result.2 < width → length result.0.now ≡ 0 }
+{
+    if filled >= width {
+        return (bytes, pending, filled);
+    }
+    let mut rest = bytes;
+    let mut number = pending;
+    let mut count = filled;
+    while count < 56 {
+        let Some((byte, later)) = rest.split_first() else {
+            return (rest, number, count);
+        };
+        number = number << 8 | u64::from(*byte);
+        count += 8;
+        rest = later;
+    }
+    (rest, number, count)
 }

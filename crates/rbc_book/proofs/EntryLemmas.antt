@@ -17,10 +17,11 @@ use Rattle.rbc_extent.specs.TrainsOnTracks.{TrainOnTrack}
 use Rattle.rbc_scene_laws.specs.Good.{IsGoodTrain}
 use Rattle.rbc_scene_laws.proofs.BasicLemmas.{EachPair, recursion_from_AllPairs, the_some}
 use Rattle.rbc_scene_laws.proofs.GivingBackLemmas.{IsCut, AuthoritiesAreApart-cut_at}
-use Rattle.rbc_scene_laws.proofs.TrainListLemmas.{Differ, find-passes, swap}
+use Rattle.rbc_scene_laws.proofs.TrainListLemmas.{Differ, swap}
 use Rattle.rbc_book.specs.Books.{Book, HoldsOfTrain, IsGoodBook, scene_of, book_with, book_without, number_in, train_in}
 use Rattle.rbc_book.specs.Entries.{on_track, entry_of, number_on, trains_of, book_of, AreEntries}
 use Rattle.rbc_book.proofs.GoodBookLemmas.{good_book-empty, good_book-with, good_book-without}
+use Rattle.rbc_model.proofs.BasicLemmas.{find-passes}
 
 -- one test for both orders of its numbers
 flip : (a b : ℕ) → (a == b) ≡ (b == a)

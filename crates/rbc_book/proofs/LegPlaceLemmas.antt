@@ -11,15 +11,16 @@ use Rattle.rbc_model.specs.Lines.{Line, has_section, line_length, place_on, plac
 use Rattle.rbc_model.specs.SoundTracks.{sections_differ}
 use Rattle.rbc_model.specs.Trains.{Train}
 use Rattle.rbc_model.specs.Events.{stands_on}
-use Rattle.rbc_scene_laws.proofs.BasicLemmas.{the_some, neither, not_false, and_left}
+use Rattle.rbc_scene_laws.proofs.BasicLemmas.{the_some, and_left}
 use Rattle.rbc_scene_laws.specs.Good.{IsGoodTrain}
 use Rattle.rbc_scene_laws.proofs.OnLineLemmas.{OnLine-IsLine, differ_right}
-use Rattle.rbc_scene_laws.proofs.SpotLemmas.{line_length-cons}
 use Rattle.rbc_scene_laws.proofs.LegLemmas.{meets, stands_on-leg, stands_on-lacks}
 use Rattle.rbc_extent.specs.OnTracks.{LineOnTrack}
 use Rattle.rbc_extent.specs.TrainsOnTracks.{TrainOnTrack}
 use Rattle.rbc_book.specs.declared.places.LegPlace.{LegPlace}
 use Rattle.rbc_book.specs.LegPlaces.{at_start, farther, leg_place, metres_until}
+use Rattle.std.proofs.lemmas.Bool.{not-true, or_from}
+use Rattle.rbc_model.proofs.MetreLemmas.{line_length-cons}
 
 module _ (track : Track) (section : ℕ) where
   -- ---- found leg by leg
@@ -98,7 +99,7 @@ module _ (track : Track) (section : ℕ) where
             ahead = leg ∷ r.ahead;
             after = r.after;
             is = ap (λ l. leg ∷ l) r.is;
-            lacks = neither (leg.section == section) (has_section r.ahead section) e r.lacks;
+            lacks = or_from (leg.section == section) (has_section r.ahead section) e r.lacks;
             same = r.same;
             begins = ap (λ n. metres_of track leg.section + n) r.begins ∙ sym (line_length-cons track leg r.ahead);
             metres = r.metres;
@@ -139,7 +140,7 @@ module _ (track : Track) (section : ℕ) where
       let lacks : has_section t.ahead p.leg.section ≡ false = subst (λ s. has_section t.ahead s ≡ false) (sym t.same) t.lacks in
       let rest : sections_differ (p.leg ∷ t.after) ≡ true = differ_right t.ahead (p.leg ∷ t.after) (subst (λ l. sections_differ l ≡ true) t.is on.differ) in
       ap (λ s. stands_on track s train) (sym t.same)
-      ∙ stands_on-leg track t.ahead t.after p.leg train t.is lacks (not_false (has_section t.after p.leg.section) (and_left (not (has_section t.after p.leg.section)) (sections_differ t.after) rest))
+      ∙ stands_on-leg track t.ahead t.after p.leg train t.is lacks (not-true (has_section t.after p.leg.section) (and_left (not (has_section t.after p.leg.section)) (sections_differ t.after) rest))
       ∙ sym (λ j. meets_leg train (t.begins j) (t.begins j + t.metres j))
 
 -- ---- of the legs that a call finds

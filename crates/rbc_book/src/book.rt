@@ -17,7 +17,7 @@ use crate::places::{authority_has, extent_has, stands_on};
 use indexmap::IndexMap;
 use indexmap::map::Values;
 use rbc_extent::{Line, Train};
-use rbc_model::{Memory, Metre, SectionId};
+use rbc_model::{Memory, Metre, SectionId, TrainId};
 use rbc_track::Track;
 use std::alloc::Global;
 use std::marker::Model;
@@ -43,30 +43,30 @@ impl Model for Book {
 }
 
 /// The first of the trains whose authority has the metre.
-fn first_holder(trains: &IndexMap<u32, Train>, metre: Metre) -> Option<u32>
+fn first_holder(trains: &IndexMap<u32, Train>, metre: Metre) -> Option<TrainId>
     ensures { result ≡ option_map number_on
         (find (λ (t : TrainOnTrack). authority_has t.track metre t.train) (values trains.now)) }
 {
     let holder = trains.values().find(|train| authority_has(train, metre))?;
-    Some(holder.number())
+    Some(holder.id())
 }
 
 /// The first of the trains whose extent has the metre.
-fn first_occupant(trains: &IndexMap<u32, Train>, metre: Metre) -> Option<u32>
+fn first_occupant(trains: &IndexMap<u32, Train>, metre: Metre) -> Option<TrainId>
     ensures { result ≡ option_map number_on
         (find (λ (t : TrainOnTrack). extent_has t.track metre t.train) (values trains.now)) }
 {
     let occupant = trains.values().find(|train| extent_has(train, metre))?;
-    Some(occupant.number())
+    Some(occupant.id())
 }
 
 /// The first of the trains whose extent or authority has a metre of the section.
-fn first_standing_on(trains: &IndexMap<u32, Train>, section: SectionId) -> Option<u32>
+fn first_standing_on(trains: &IndexMap<u32, Train>, section: SectionId) -> Option<TrainId>
     ensures { result ≡ option_map number_on
         (find (λ (t : TrainOnTrack). stands_on t.track section t.train) (values trains.now)) }
 {
     let standing = trains.values().find(|train| stands_on(train, section))?;
-    Some(standing.number())
+    Some(standing.id())
 }
 
 /// The same entries, in the same order.
@@ -123,10 +123,10 @@ impl Book {
     }
 
     /// The train of this number, if it is there.
-    pub fn get(&self, number: u32) -> Option<&Train>
-        ensures { option_copied result ≡ option_map (on_track self.now.track) (train_in self.now number) }
+    pub fn get(&self, id: TrainId) -> Option<&Train>
+        ensures { option_copied result ≡ option_map (on_track self.now.track) (train_in self.now id) }
     {
-        self.trains.get(&number)
+        self.trains.get(&id.number())
     }
 
     /// Puts in the train as it is now, in the place of the one of its number; a new train is last. It may hold no
@@ -143,27 +143,25 @@ impl Book {
         ensures new { OnErr result (train_in self.old train.train.report.train ≡ None) }
     {
         train.known();
-        self.trains.insert(train.number(), train)?;
+        self.trains.insert(train.id().number(), train)?;
         Ok(())
     }
 
     /// Gives a train another authority, on a line that has both its extent and this authority. It may hold no
     /// metre that another train holds. It takes no memory.
-    pub fn set_held(&mut self, number: u32, line: Line, from: u32, to: u32)
-        requires known { IsTrue (is_some (train_in self.old number)) }
+    pub fn set_held(&mut self, id: TrainId, line: Line, from: u32, to: u32)
+        requires known { IsTrue (is_some (train_in self.old id)) }
         requires track { line.track ≡ self.old.track }
-        requires good { HoldsOfTrain self.old number
+        requires good { HoldsOfTrain self.old id
             (λ train. IsGoodTrain self.old.track (with_authority train line.legs from to)) }
-        requires apart { HoldsOfTrain self.old number (λ train. AuthoritiesAreApart self.old.track
+        requires apart { HoldsOfTrain self.old id (λ train. AuthoritiesAreApart self.old.track
             (with_train (scene_of self.old.trains) (with_authority train line.legs from to))) }
-        ensures { HoldsOfTrain self.old number
+        ensures { HoldsOfTrain self.old id
             (λ train. self.new ≡ book_with self.old (with_authority train line.legs from to)) }
     {
-        let held = self
-            .trains
-            .get(&number)
-            .unwrap()
-            .with_authority(line, from, to);
+        let number = id.number();
+        let train = self.trains.get(&number).unwrap();
+        let held = train.with_authority(line, from, to);
         held.known();
         match self.trains.insert(number, held) {
             Ok(_) => {}
@@ -173,43 +171,43 @@ impl Book {
 
     /// A train gives back what its authority has from a place on, which is not behind its front. The legs that
     /// neither its extent nor its authority needs then are dropped. It takes no memory.
-    pub fn give_back(&mut self, number: u32, to: u32)
-        requires known { IsTrue (is_some (train_in self.old number)) }
-        requires front { HoldsOfTrain self.old number (λ train. train.front ≤ to) }
-        requires from { HoldsOfTrain self.old number (λ train. train.from ≤ to) }
-        requires to { HoldsOfTrain self.old number (λ train. to < train.to) }
-        ensures { HoldsOfTrain self.old number
+    pub fn give_back(&mut self, id: TrainId, to: u32)
+        requires known { IsTrue (is_some (train_in self.old id)) }
+        requires front { HoldsOfTrain self.old id (λ train. train.front ≤ to) }
+        requires from { HoldsOfTrain self.old id (λ train. train.from ≤ to) }
+        requires to { HoldsOfTrain self.old id (λ train. to < train.to) }
+        ensures { HoldsOfTrain self.old id
             (λ train. self.new ≡ book_with self.old (cut_at self.old.track train to)) }
     {
-        let train = self.trains.get_mut(&number).unwrap();
+        let train = self.trains.get_mut(&id.number()).unwrap();
         train.cut_at(to);
         train.known();
     }
 
     /// Takes out the train of this number. Tells whether it was there. A train that comes again is last.
-    pub fn leave(&mut self, number: u32) -> bool
-        ensures left { self.new ≡ book_without self.old number }
-        ensures known { result ≡ is_some (train_in self.old number) }
+    pub fn leave(&mut self, id: TrainId) -> bool
+        ensures left { self.new ≡ book_without self.old id }
+        ensures known { result ≡ is_some (train_in self.old id) }
     {
-        self.trains.shift_remove(&number).is_some()
+        self.trains.shift_remove(&id.number()).is_some()
     }
 
     /// The first train whose authority has the metre.
-    pub fn holder(&self, metre: Metre) -> Option<u32>
+    pub fn holder(&self, metre: Metre) -> Option<TrainId>
         ensures { result ≡ option_map number_in (find (authority_has self.now.track metre) self.now.trains) }
     {
         first_holder(&self.trains, metre)
     }
 
     /// The first train whose extent has the metre.
-    pub fn occupant(&self, metre: Metre) -> Option<u32>
+    pub fn occupant(&self, metre: Metre) -> Option<TrainId>
         ensures { result ≡ option_map number_in (find (extent_has self.now.track metre) self.now.trains) }
     {
         first_occupant(&self.trains, metre)
     }
 
     /// The first train whose extent or authority has a metre of the section.
-    pub fn standing_on(&self, section: SectionId) -> Option<u32>
+    pub fn standing_on(&self, section: SectionId) -> Option<TrainId>
         ensures { result ≡ option_map number_in (find (stands_on self.now.track section) self.now.trains) }
     {
         first_standing_on(&self.trains, section)

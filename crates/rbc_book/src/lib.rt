@@ -5,5 +5,5 @@ mod book;
 mod places;
 
 pub use book::Book;
-pub use rbc_extent::{Line, Locks, SectionSet, Train, reported};
+pub use rbc_extent::{Course, Line, Locks, Train, reported};
 pub use rbc_model::Memory;

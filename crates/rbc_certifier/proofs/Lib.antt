@@ -1,4 +1,3 @@
 mod CertifyingLemmas
-mod LayoutLemmas
 mod OverlongLemmas
 mod StepsAnsweredLemmas

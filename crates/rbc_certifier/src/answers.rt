@@ -1,20 +1,22 @@
 //! The answer to a line: what it asks for is computed, and printed.
 
-ghost use Rattle.std.specs.Prelude.{◌≡◌, false, ℕ, List, MatchResult};
+ghost use Rattle.std.specs.Prelude.{◌≡◌, false, true, ℕ, List, IfOk};
 ghost use Rattle.rbc_model.specs.declared.places.Format.TheVariants.{Far};
+ghost use Rattle.rbc_model.specs.Kinds.{speed_kind, grade_kind};
+ghost use Rattle.rbc_model.specs.Levels.{speed_levels, grade_levels};
+ghost use Rattle.rbc_model.specs.Scales.{is_expressible};
 ghost use Rattle.rbc_model.specs.Sessions.{Prints};
-ghost use Rattle.rbc_model.specs.StepsReply.{AnswersLine, AnswersRequest, refusal_reply};
+ghost use Rattle.rbc_model.specs.StepsReply.{AnswersLine, AnswersRequest};
+ghost use Rattle.rbc_words.specs.PriceText.{prices_of};
 ghost use Rattle.rbc_words.specs.StepsLines.{request_view, IsRequestInRange};
-ghost use Rattle.rbc_words.specs.Replies.{certified_text};
+ghost use Rattle.rbc_certifier.specs.Chosen.{IsChosenFor, AnswersFor};
 
-use rbc_model::{OrMemory, StepsRefusal};
+use rbc_model::{Memory, OrMemory, StepsRefusal};
 use rbc_packet::{Encoded, write_profile};
 use rbc_reduce::{Priced, Reduced, reduce};
-use rbc_steps::Runs;
+use rbc_steps::{Grade, Runs, Speed};
 use rbc_streams::{Sink, WriteFailed};
-use rbc_words::{
-    Certified, Spelled, StepsLine, StepsRequest, parse_steps, print_certified, print_refusal,
-};
+use rbc_words::{Spelled, StepsLine, StepsRequest, parse_steps, print_certified, print_refusal};
 use std::alloc::Global;
 
 /// Writes the answer to a line.
@@ -29,45 +31,91 @@ pub fn answer_line<W: Sink>(alloc: Global, line: &[u8], writer: &mut W) -> Resul
 {
     match parse_steps(alloc, line) {
         Ok(StepsLine::Blank) => Ok(()),
-        Ok(StepsLine::Speed(request)) => match certify(alloc, request) {
-            Ok(certified) => print_certified(&certified, writer),
-            Err(refusal) => print_refusal(refusal, writer),
-        },
-        Ok(StepsLine::Grade(request)) => match certify(alloc, request) {
-            Ok(certified) => print_certified(&certified, writer),
-            Err(refusal) => print_refusal(refusal, writer),
-        },
+        Ok(StepsLine::Speed(request)) => answer_speeds(alloc, request, writer),
+        Ok(StepsLine::Grade(request)) => answer_grades(alloc, request, writer),
         Err(OrMemory::Refused(fault)) => print_refusal(StepsRefusal::BadLine(fault), writer),
         Err(OrMemory::Memory) => print_refusal(StepsRefusal::Memory, writer),
     }
 }
 
-/// What a request comes to: the chosen profile with its loss and its packet, or why there is none. `V` is spelled in
-/// lines as the kind of level that stands in its packet.
-fn certify<V: Spelled + Encoded + Priced>(
+/// Writes the answer to a request for speeds.
+///
+/// # Errors
+///
+/// As of [`answer_line`].
+fn answer_speeds<W: Sink>(
     alloc: Global,
-    request: StepsRequest<V>,
-) -> Result<Certified<V>, StepsRefusal>
-    requires packet { V.kind.packet ≡ V.packet }
-    requires in_range { IsRequestInRange V.kind.levels (request_view request) }
-    ensures { MatchResult result
-        (λ certified. AnswersRequest V.kind (request_view request) (certified_text V.kind certified))
-        (λ refusal. AnswersRequest V.kind (request_view request) (refusal_reply refusal)) }
+    request: StepsRequest<Speed>,
+    writer: &mut W,
+) -> Result<(), WriteFailed>
+    requires going { W.failed writer.old ≡ false }
+    requires in_range { IsRequestInRange speed_levels (request_view request) }
+    ensures { (reply : List ℕ) × AnswersRequest speed_kind (request_view request) reply
+        × Prints (W.written writer.old) (W.written writer.new) (W.failed writer.new) reply result }
 {
     let StepsRequest { limit, runs, end } = request;
-    let track = Runs::new(runs, end)?;
-    let Reduced {
-        profile,
-        loss,
-        prices,
-    } = reduce(alloc, &track, limit)?;
-    let packet = write_profile(alloc, &profile, true)?;
-    Ok(Certified {
+    match Runs::new(runs, end) {
+        Ok(track) => print_chosen(alloc, limit, &track, &reduce(alloc, &track, limit), writer),
+        Err(fault) => print_refusal(StepsRefusal::from(fault), writer),
+    }
+}
+
+/// Writes the answer to a request for gradients.
+///
+/// # Errors
+///
+/// As of [`answer_line`].
+fn answer_grades<W: Sink>(
+    alloc: Global,
+    request: StepsRequest<Grade>,
+    writer: &mut W,
+) -> Result<(), WriteFailed>
+    requires going { W.failed writer.old ≡ false }
+    requires in_range { IsRequestInRange grade_levels (request_view request) }
+    ensures { (reply : List ℕ) × AnswersRequest grade_kind (request_view request) reply
+        × Prints (W.written writer.old) (W.written writer.new) (W.failed writer.new) reply result }
+{
+    let StepsRequest { limit, runs, end } = request;
+    match Runs::new(runs, end) {
+        Ok(track) => print_chosen(alloc, limit, &track, &reduce(alloc, &track, limit), writer),
+        Err(fault) => print_refusal(StepsRefusal::from(fault), writer),
+    }
+}
+
+/// Writes what was chosen for a track, with its certificate and its packet, or that memory was refused. It is large, and
+/// stays where it is. `V` is spelled in lines as the kind of level that stands in its packet.
+///
+/// # Errors
+///
+/// As of [`answer_line`].
+fn print_chosen<V: Spelled + Encoded + Priced, W: Sink>(
+    alloc: Global,
+    limit: usize,
+    track: &Runs<V>,
+    chosen: &Result<Reduced<V>, Memory>,
+    writer: &mut W,
+) -> Result<(), WriteFailed>
+    requires going { W.failed writer.old ≡ false }
+    requires packet { V.kind.packet ≡ V.packet }
+    requires expressible { is_expressible Far track.now.end ≡ true }
+    requires chosen { IfOk chosen.now
+        (λ r. IsChosenFor V.levels limit track.now r.profile r.loss (prices_of r.prices.items)) }
+    ensures { (reply : List ℕ) × AnswersFor V.kind V.levels limit track.now reply
+        × Prints (W.written writer.old) (W.written writer.new) (W.failed writer.new) reply result }
+{
+    let Ok(chosen) = chosen else {
+        return print_refusal(StepsRefusal::Memory, writer);
+    };
+    let Ok(packet) = write_profile(alloc, &chosen.profile, true) else {
+        return print_refusal(StepsRefusal::Memory, writer);
+    };
+    print_certified(
         limit,
         track,
-        profile,
-        loss,
-        prices,
-        packet,
-    })
+        &chosen.profile,
+        chosen.loss,
+        chosen.prices.as_slice(),
+        packet.as_slice(),
+        writer,
+    )
 }

@@ -91,22 +91,6 @@ tries (Err Memory) old new candidate known e = (known, e.1)
 
 -- ---- trains that are there
 
--- a call that found no memory
-abbrev pub without_memory : (X : Type 0) → Result X (OrMemory ViewFault)
-without_memory X = Err Memory
-
--- what is not missing is there
-pub there_unless : {X : Type 0} (o : Option X) → (o ≡ None → ⊥) → is_some o ≡ true
-there_unless None h = absurd (h refl)
-there_unless (Some x) h = refl
-
--- a train that is not told to be missing is there
-pub known_unless : (history : HistoryOnTrack) (train : ℕ) (X : Type 0) → (train_numbered (scene_now history) train ≡ None → without_memory X ≡ Err (Refused UnknownTrain)) → has_train history train ≡ true
-known_unless history train X h = there_unless (train_numbered (scene_now history) train) (λ none. other (h none))
-  where
-    other : without_memory X ≡ Err (Refused UnknownTrain) → ⊥
-    other e = cc
-
 viewed_there : {A E V : Type 0} (see : A → Result V E) (refusal : E) (v : V) (o : Option A) → option_map_or see o (Err refusal) ≡ Ok v → is_some o ≡ true
 viewed_there see refusal v None e = cc
 viewed_there see refusal v (Some a) e = refl
@@ -179,10 +163,6 @@ since_before first begun new train answer later since = record {
 pub since_asked : (first begun new : HistoryOnTrack) (train asked : ℕ) (answer : Result GrantedAtDesk (OrMemory AskFault)) → IsLater first begun → train ≡ asked → IsAnsweredThen begun new train answer → IsAnsweredThen first new asked answer
 since_asked first begun new train asked answer later same since =
     subst (λ n. IsAnsweredThen first new n answer) same (since_before first begun new train answer later since)
-
--- a train that is there may find no memory
-pub since_known : (begun now : HistoryOnTrack) (train : ℕ) → IsLater begun now → has_train now train ≡ true → IsAnsweredThen begun now train (Err Memory)
-since_known begun now train later known = record { before = now; later = later; answered = known; told = refl }
 
 got_last : {X : Type 0} (xs : List X) (x : X) → slice_get (xs ++ x ∷ []) (length xs) ≡ Some x
 got_last [] x = refl

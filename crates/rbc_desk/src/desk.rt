@@ -15,7 +15,7 @@ ghost use Rattle.rbc_desk.specs.declared.faults.CloseFault.TheVariants.{Missing}
 
 use crate::shared::{Shared, fault_at};
 use crate::{AskFault, Blank, CloseFault, DeskName, Gate, Granted, Seat};
-use rbc_model::{Memory, OrMemory, Told};
+use rbc_model::{Memory, OrMemory, Told, TrainId};
 use rbc_snap::{ApplyFault, Candidate, Eye, EyeFault, Press, Receipt, Record, View};
 use std::alloc::Global;
 use std::marker::PhantomData;
@@ -82,7 +82,7 @@ fn look<L: DeskName, R: Wait>(
     rt: &R,
     alloc: Global,
     seat: &mut Seat<L>,
-    train: u32,
+    train: TrainId,
 ) -> Result<Option<(View, u64)>, OrMemory<AskFault>>
     ensures later { IsLater seat.old.told seat.new.told }
     ensures receipts { seat.new.receipts ≡ seat.old.receipts }
@@ -197,7 +197,12 @@ impl<L: DeskName> Desk<L> {
 
     /// Why a train that asks is granted nothing, where its caller has no memory for it: `UnknownTrain` or `Memory`. The seat
     /// is told the history that this speaks of, and has no new receipt.
-    pub fn ask_in_vain<R: Wait>(&self, rt: &R, seat: &mut Seat<L>, train: u32) -> OrMemory<AskFault>
+    pub fn ask_in_vain<R: Wait>(
+        &self,
+        rt: &R,
+        seat: &mut Seat<L>,
+        train: TrainId,
+    ) -> OrMemory<AskFault>
         ensures { IsAnsweredAt seat.old seat.new train (Err result) }
     {
         let shared = self.shared.lock(rt);
@@ -228,7 +233,7 @@ impl<L: DeskName> Desk<L> {
         rt: &R,
         alloc: Global,
         seat: &mut Seat<L>,
-        train: u32,
+        train: TrainId,
         gate: &G,
     ) -> Result<Granted, OrMemory<AskFault>>
         ensures { IsAnsweredAt seat.old seat.new train result }
@@ -247,7 +252,7 @@ impl<L: DeskName> Desk<L> {
         waiting: &R,
         alloc: Global,
         seat: &mut Seat<L>,
-        train: u32,
+        train: TrainId,
         gate: &G,
     ) -> Result<Granted, OrMemory<AskFault>>
         ensures { IsAnsweredAt seat.old seat.new train result }
@@ -267,7 +272,7 @@ impl<L: DeskName> Desk<L> {
         waiting: &R,
         alloc: Global,
         seat: &mut Seat<L>,
-        train: u32,
+        train: TrainId,
         gate: &G,
     ) -> Result<Option<Granted>, OrMemory<AskFault>>
         ensures { IsTriedAt seat.old seat.new train result }
@@ -310,7 +315,7 @@ impl<L: DeskName> Desk<L> {
         waiting: &R,
         alloc: Global,
         seat: &mut Seat<L>,
-        train: u32,
+        train: TrainId,
     ) -> Result<Granted, OrMemory<AskFault>>
         ensures { IsAnsweredAt seat.old seat.new train result }
     {
@@ -331,7 +336,7 @@ impl<L: DeskName> Desk<L> {
         rt: &R,
         alloc: Global,
         seat: &mut Seat<L>,
-    ) -> Result<Vec<u32>, Memory>
+    ) -> Result<Vec<TrainId>, Memory>
         ensures trains { IfOk result (λ numbers. numbers.items ≡ numbers_of seat.new.told) }
         ensures later { IsLater seat.old.told seat.new.told }
         ensures receipts { seat.new.receipts ≡ seat.old.receipts }

@@ -18,7 +18,7 @@ ghost use Rattle.rbc_desk.specs.Telling.{IsToldThen};
 
 use crate::closing::{find_seats, merge_all};
 use crate::{AskFault, CloseFault, DeskName, Granted, Seat};
-use rbc_model::{Memory, OrMemory, Told, ViewFault};
+use rbc_model::{Memory, OrMemory, Told, TrainId, ViewFault};
 use rbc_snap::{ApplyFault, Candidate, CommitFault, Eye, Press, Receipt, Record, View, candidate};
 use std::alloc::Global;
 use std::sync::Wait;
@@ -106,12 +106,12 @@ pub(crate) fn fault_at(version: u64, fault: ViewFault) -> AskFault
 }
 
 /// The numbers of the trains in the scene that the record leads to, in order of arrival.
-fn trains_of(alloc: Global, log: &Record) -> Result<Vec<u32>, Memory>
+fn trains_of(alloc: Global, log: &Record) -> Result<Vec<TrainId>, Memory>
     ensures { IfOk result (λ numbers. numbers.items ≡ numbers_of log.now) }
 {
     let mut numbers = Vec::new(alloc);
     for train in log.scene().book().trains() {
-        numbers.push(train.number())?;
+        numbers.push(train.id())?;
     }
     Ok(numbers)
 }
@@ -219,7 +219,7 @@ impl<L: DeskName> Shared<L> {
         &self,
         rt: &R,
         seat: &mut Seat<L>,
-        train: u32,
+        train: TrainId,
     ) -> OrMemory<AskFault>
         ensures { IsAnsweredAt seat.old seat.new train (Err result) }
     {
@@ -231,7 +231,7 @@ impl<L: DeskName> Shared<L> {
     }
 
     /// What the train is shown, and the version of the history.
-    fn look(&self, alloc: Global, train: u32) -> Result<(View, u64), OrMemory<AskFault>>
+    fn look(&self, alloc: Global, train: TrainId) -> Result<(View, u64), OrMemory<AskFault>>
         ensures shown { AnswersAs (λ seen. seen.0) result (shown self.now.log train) }
         ensures train { IfOk result (λ seen. seen.0.train ≡ train) }
         ensures known { IfOk result (λ _. has_train self.now.log train ≡ true) }
@@ -320,7 +320,7 @@ impl<L: DeskName> Shared<L> {
         waiting: &R,
         alloc: Global,
         seat: &mut Seat<L>,
-        train: u32,
+        train: TrainId,
     ) -> Result<Granted, OrMemory<AskFault>>
         ensures { IsAnsweredAt seat.old seat.new train result }
     {
@@ -340,7 +340,7 @@ impl<L: DeskName> Shared<L> {
         rt: &R,
         alloc: Global,
         seat: &mut Seat<L>,
-    ) -> Result<Vec<u32>, Memory>
+    ) -> Result<Vec<TrainId>, Memory>
         ensures trains { IfOk result (λ numbers. numbers.items ≡ numbers_of seat.new.told) }
         ensures later { IsLater seat.old.told seat.new.told }
         ensures receipts { seat.new.receipts ≡ seat.old.receipts }

@@ -1,6 +1,6 @@
 -- The page, from line to line.
 use Rattle.std.proofs.Common.{◌≡◌, ℕ, ◌≤◌, Bool, true, false, not, ◌||◌, ◌&&◌, List, [], ◌∷◌, ◌++◌, length, Option, Some, None, Ok, inl, inr, refl, ap, ap₂, sym, ◌∙◌, subst, append_assoc, append-nil, arith, nat_lt}
-use Rattle.std.specs.Prelude.{IfSome, if◌then◌else◌, ◌<◌}
+use Rattle.std.specs.Prelude.{IfSome, ◌<◌}
 use Rattle.std.specs.Io.KnownBytes.{Appends, Consumes, IsAtEnd}
 use Rattle.std.specs.List.{AllByRecursion}
 use Rattle.std.proofs.KnownBytes.{Appends-trans, Consumes-whole}
@@ -13,6 +13,7 @@ use Rattle.rbc_model.specs.Talks.{Answered, IsTalk}
 use Rattle.rbc_model.specs.CheckText.{CheckLine, Other, check_line, goes_on, opened, ended}
 use Rattle.rbc_checks.specs.CheckAnswers.{is_not_refused, are_certified, are_all_certified}
 use Rattle.rbc_draw.specs.Pages.{Drawing, undrawn, shown_text, blocks_text, line_said, heading_text, heading_said, Keeps, AnswersSaid, AnswersDraw}
+use Rattle.rbc_model.proofs.BasicLemmas.{if_false, if_true}
 
 -- ---- a line that is no part of a block
 
@@ -41,19 +42,11 @@ not_both true first rest = refl
 not_both false true rest = refl
 not_both false false rest = refl
 
-if_not : {A : Type 0} (b : Bool) (x y : A) → b ≡ false → (if b then x else y) ≡ y
-if_not true x y e = absurd cc
-if_not false x y e = refl
-
-if_so : {A : Type 0} (b : Bool) (x y : A) → b ≡ true → (if b then x else y) ≡ x
-if_so true x y e = refl
-if_so false x y e = absurd cc
-
 short_said : (line : List ℕ) → length line ≤ LONGEST_CHECK_LINE → line_said line ≡ check_line Far line
-short_said line short = let e : nat_lt LONGEST_CHECK_LINE (length line) ≡ false = grind arith in if_not (nat_lt LONGEST_CHECK_LINE (length line)) Other (check_line Far line) e
+short_said line short = let e : nat_lt LONGEST_CHECK_LINE (length line) ≡ false = grind arith in if_false (nat_lt LONGEST_CHECK_LINE (length line)) Other (check_line Far line) e
 
 short_heading : (line : List ℕ) → length line ≤ LONGEST_CHECK_LINE → heading_said line ≡ heading_text line
-short_heading line short = let e : nat_lt LONGEST_CHECK_LINE (length line) ≡ false = grind arith in if_not (nat_lt LONGEST_CHECK_LINE (length line)) [] (heading_text line) e
+short_heading line short = let e : nat_lt LONGEST_CHECK_LINE (length line) ≡ false = grind arith in if_false (nat_lt LONGEST_CHECK_LINE (length line)) [] (heading_text line) e
 
 -- the answer to a line
 pub short_answered : (before after : Drawing) (line reply : List ℕ) → length line ≤ LONGEST_CHECK_LINE → before.lost ≡ false
@@ -75,9 +68,9 @@ long_answered before after line long whole keeps =
     ) in (
       whole,
       subst (λ s. AnswersSaid before s (heading_said line) (shown_text before.block) after)
-          (sym (if_so (nat_lt LONGEST_CHECK_LINE (length line)) Other (check_line Far line) e))
+          (sym (if_true (nat_lt LONGEST_CHECK_LINE (length line)) Other (check_line Far line) e))
           (subst (λ h. AnswersSaid before Other h (shown_text before.block) after)
-          (sym (if_so (nat_lt LONGEST_CHECK_LINE (length line)) [] (heading_text line) e)) says),
+          (sym (if_true (nat_lt LONGEST_CHECK_LINE (length line)) [] (heading_text line) e)) says),
     )
 
 pub lines_shown : (first last : Drawing) (lines : List (List ℕ)) (text : List ℕ) → AllByRecursion (λ line. length line ≤ LONGEST_CHECK_LINE) lines

@@ -13,6 +13,8 @@ use Rattle.rbc_checks.specs.CheckAnswers.{is_not_refused}
 use Rattle.rbc_checks.proofs.PrintingLemmas.{prints_then, prints_nothing}
 use Rattle.rbc_draw.specs.Figures.{Figure, figure_in, figure_text, drawn_text}
 use Rattle.rbc_draw.specs.Pages.{Drawing, shown_text, Keeps}
+use Rattle.std.proofs.Math.Bool.{or-false}
+use Rattle.std.proofs.lemmas.Bool.{or_left}
 
 module _ {E : Type 0} (a b : Option (List ℕ)) (x y text : List ℕ) (whole : text ≡ x ++ y) where
   part_from : (r : Result (Unit {0}) E) → WritesText a b x r → WritesPart a b text
@@ -36,15 +38,6 @@ module _ {E : Type 0} (a b : Option (List ℕ)) (x y text : List ℕ) (whole : t
   goes_behind c failed true fails (Ok done) next prints went none second = absurd cc
   goes_behind c failed lost fails (Err fault) next prints went none second = absurd cc
 
--- nothing failed: neither memory was refused, nor did the writer fail
-pub whole_yet : (lost failed : Bool) → (lost || failed) ≡ false → lost ≡ false
-whole_yet true failed none = absurd cc
-whole_yet false failed none = refl
-
-pub going_yet : (lost failed : Bool) → (lost || failed) ≡ false → failed ≡ false
-going_yet true failed none = absurd cc
-going_yet false failed none = none
-
 -- a first text was printed, and then a second is, while memory was not refused
 pub printed_behind : {E : Type 0} (a b c : Option (List ℕ)) (lost fails : Bool) (x y : List ℕ) (next : Result (Unit {0}) E) → Appends a b x → lost ≡ false
     → Prints b c fails y next → Prints a c (lost || fails) (x ++ y) next
@@ -67,10 +60,6 @@ nothing_shown a failed false text (Err fault) none going same = absurd cc
 pub nothing_yet : {E : Type 0} (a : Option (List ℕ)) (failed lost : Bool) (text : List ℕ) (fault : E) → lost ≡ true → Prints a a (lost || failed) text (Err fault)
 nothing_yet a failed true text fault gone = record { text = ([], text, refl, Appends-nil a); failed = refl }
 nothing_yet a failed false text fault gone = absurd cc
-
-or_false : (refused : Bool) → (refused || false) ≡ refused
-or_false true = refl
-or_false false = refl
 
 -- ---- what is kept
 
@@ -112,7 +101,7 @@ module _ (old : Drawing) (said : CheckLine) (part : Option Part) (is : part ≡ 
         → Keeps old (ended old.block said) (opened old.block said) after
     goes_with after whole (inl gone) = inl gone
     goes_with after whole (inr same) =
-        inr (rw (goes, or_false old.refused) (same ∙ ap (made (old.block ++ said ∷ []) old.refused) whole))
+        inr (rw (goes, or-false old.refused) (same ∙ ap (made (old.block ++ said ∷ []) old.refused) whole))
 
   module _ (over : goes_on old.block part ≡ false) where
     ends : goes_on old.block (part_of said) ≡ false
@@ -160,10 +149,6 @@ drawn_is a b failed false r found lines same whole prints = subst (λ f. Prints 
 
 -- ---- the end
 
-or_first : (a b : Bool) → a ≡ true → (a || b) ≡ true
-or_first true b e = refl
-or_first false b e = absurd cc
-
 or_second : (a b : Bool) → (a || b) ≡ true → a ≡ false → b ≡ true
 or_second true b both none = absurd cc
 or_second false b both none = both
@@ -187,7 +172,7 @@ module _ (lost failed : Bool) (r : Ended) (write : (r ≡ Err Write) ↔ IsTrue 
   -- where memory was refused, the reader did not fail
   pub no_read : (reader : Bool) → (r ≡ Err Read) ↔ IsTrue reader → lost ≡ true → IsTrue reader → ⊥
   no_read reader read gone fails =
-      read_write r (read.1 fails) (write.1 (or_first lost failed gone))
+      read_write r (read.1 fails) (write.1 (or_left lost failed gone))
 
 pub still_going : (lost failed : Bool) (r : Ended) → (r ≡ Err Write) ↔ IsTrue (lost || failed) → lost ≡ false → OnOk r (failed ≡ false)
 still_going lost failed (Err fault) write whole = tt

@@ -1,17 +1,14 @@
 -- A stair as a path, the strip of a grant, and the heading of a line, each by its parts.
-use Rattle.std.proofs.Common.{◌≡◌, ℕ, ◌+◌, ◌*◌, ◌/◌, ◌≤◌, ◌<◌, Bool, true, List, [], ◌∷◌, ◌++◌, Option, refl, sym, ap, ◌∙◌, arith, length, codes, decimal}
-use Rattle.std.specs.Prelude.{min, max, flat_map, pos, option_map}
-use Rattle.std.specs.Option.{option_map_or}
-use Rattle.std.proofs.Math.Nat.{div-le_of_le-mul}
+use Rattle.std.proofs.Common.{◌≡◌, ℕ, ◌+◌, Bool, true, List, [], ◌∷◌, ◌++◌, refl, sym, ap, ◌∙◌, codes, decimal}
+use Rattle.std.specs.Prelude.{flat_map, pos}
 use Rattle.rbc_model.specs.Words.{without_return, words_of}
-use Rattle.rbc_draw.specs.declared.chart.TheConstants.{LEFT, WIDTH}
 use Rattle.rbc_draw.specs.declared.chart.Chart.{Chart}
 use Rattle.rbc_draw.specs.declared.chart.Place.{Place}
 use Rattle.rbc_draw.specs.declared.chart.Point.{Point}
-use Rattle.rbc_draw.specs.Charts.{across, corner_at}
+use Rattle.rbc_draw.specs.Charts.{corner_at}
 use Rattle.rbc_draw.specs.Texts.{joined, corner_text}
 use Rattle.rbc_draw.specs.Figures.{first_point, last_point, corners, way_text, shape_text}
-use Rattle.rbc_draw.specs.Strips.{Grant, grant_in, stand_at, strip_shapes, strip_opening, strip_names, strip_text, stripped_text}
+use Rattle.rbc_draw.specs.Strips.{Grant, stand_at, strip_shapes, strip_opening, strip_names, strip_text, stripped_text}
 use Rattle.rbc_draw.specs.Pages.{is_grant, titled, heading_text}
 use Rattle.rbc_draw.proofs.EachLemmas.{each-map}
 
@@ -23,14 +20,6 @@ way_cut chart places from to begins ends =
     rw (begins, ends)
     (ap (λ turns. joined (decimal (first_point chart).x ∷ codes " " ∷ decimal (first_point chart).y ∷ []) ++ (turns ++ corner_text (last_point chart)))
     (each-map corner_text (corner_at chart) places))
-
--- no metre stands to the right of the chart
-pub across-inside : (chart : Chart) (metre : ℕ) → across chart metre ≤ LEFT + WIDTH
-across-inside chart metre =
-    let end = chart.end in
-    let most : min metre end * WIDTH ≤ max end 1 * WIDTH = omega arith in
-    let share : min metre end * WIDTH / max end 1 ≤ WIDTH = div-le_of_le-mul (max end 1) most in
-    omega arith
 
 -- a strip, by its beginning, its marks and its names
 pub strip_cut : (grant : Grant) (metres group begin end : ℕ) → metres ≡ grant.end → group ≡ stand_at grant.end (pos 0) → begin ≡ stand_at grant.end grant.from

@@ -34,8 +34,8 @@ pub(crate) struct Figure<'a> {
     pub(crate) rows: &'a [CheckLine],
 }
 
-/// What is drawn as a whole number.
-trait Valued {
+/// What is drawn as a whole number: a speed in km/h, a gradient in per mille, or a value as it is told.
+pub trait Valued {
     /// The number.
     ghost value: { Self → ℤ };
 

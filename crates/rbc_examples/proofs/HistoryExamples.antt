@@ -1,5 +1,5 @@
 -- A whole history, shown to be legal and best: its grant is the best one at its place, and no metre is held twice.
-use Rattle.std.proofs.Common.{subst, Bool, nat_le, length, ◌≡◌, ℕ, ◌<◌, List, [], ◌∷◌, ◌++◌, true, Option, Some, None, refl, arith, lit≤, lit<, zero-add, ℤ, pos, negsuc}
+use Rattle.std.proofs.Common.{subst, Bool, nat_le, length, ◌≡◌, ℕ, ◌<◌, ◌≤◌, List, [], ◌∷◌, ◌++◌, true, Option, Some, None, refl, arith, lit≤, lit<, zero-add, ℤ, pos, negsuc}
 use Rattle.rbc_model.specs.declared.refusals.Obstacle.TheVariants.{NoLink, Limit}
 use Rattle.rbc_model.specs.declared.refusals.Obstacle.{Obstacle}
 use Rattle.rbc_model.specs.Obstacles.{obstacle, way}
@@ -72,7 +72,7 @@ grades_best = best_of_no_loss grade_levels 1 31 1000 grades_ahead _ (fits_by_tes
 
 -- it is the first obstacle
 stopped_there : Stops single (replay single before) train 1000 (NoLink (plus 0)) 1000
-stopped_there = record { beyond = lit≤ tt; real = stands_there; first = λ i low high. safe_there.clear i low high }
+stopped_there = record { beyond = lit≤ tt; on_way = lit≤ tt; real = stands_there; first = λ i low high. safe_there.clear i low high }
 
 grant_is_best : IsBestFor single (replay single before) grant train
 grant_is_best =
@@ -85,6 +85,7 @@ grant_is_best =
         expressible = refl;
         safe = safe_there;
         farthest = λ farther told beyond s. none_beyond farther beyond (let t : IsSafe single (replay single before) train farther = rw zero-add at s in t);
+        place = 1000;
         stopped = stopped_there;
       };
       profiles = record { speeds = speeds_best; grades = grades_best };
@@ -107,8 +108,11 @@ other_obstacle : NoLink (plus 0) ≡ Limit → ⊥
 other_obstacle e = cc
 
 pub stopped_by_another : IsBest single (replay single before) (record grant { obstacle = Limit }) → ⊥
-stopped_by_another h = not_best _ (λ b. other_obstacle (the_obstacle (NoLink (plus 0)) Limit b.ends.stopped.real)) h refl
+stopped_by_another h = not_best _ (λ b. let s = b.ends.stopped in other_obstacle (the_obstacle (NoLink (plus 0)) Limit (at_end b.ends.place s.beyond s.on_way s.real))) h refl
   where
+    at_end : (place : ℕ) → 1000 ≤ place → place ≤ 1000 → obstacle single (replay single before) train place ≡ Some Limit → obstacle single (replay single before) train 1000 ≡ Some Limit
+    at_end place beyond near = subst (λ i. obstacle single (replay single before) train i ≡ Some Limit) (let e : place ≡ 1000 = omega arith in e)
+
     the_obstacle : (a b : Obstacle) → Some a ≡ Some b → a ≡ b
     the_obstacle a b e = cc
 

@@ -1,18 +1,15 @@
 -- The leg that the locks lead to from a line's end or start: whether the line gains it, and what it owes.
-use Rattle.std.proofs.Common.{◌≡◌, ℕ, ◌<◌, Bool, true, false, cond, ◌||◌, List, [], ◌∷◌, ◌++◌, length, Option, Some, None, refl, ap, sym, ◌∙◌, subst}
-use Rattle.std.specs.Prelude.{◌==◌, IsTrue, option_and_then}
+use Rattle.std.proofs.Common.{◌≡◌, ◌<◌, Bool, true, false, cond, [], ◌∷◌, ◌++◌, length, Option, Some, None, refl, ap, sym, ◌∙◌, subst}
+use Rattle.std.specs.Prelude.{IsTrue, option_and_then}
 use Rattle.rbc_model.specs.declared.places.Leg.{Leg}
 use Rattle.rbc_model.specs.Tracks.{Track, is_linked}
 use Rattle.rbc_model.specs.SoundTracks.{IsSound}
 use Rattle.rbc_model.specs.Lines.{Line, has_section, last_leg, first_leg}
 use Rattle.rbc_model.specs.Locks.{Locks, next, prev, longer_ahead, longer_back}
-use Rattle.rbc_line.specs.SectionSets.{is_in}
 use Rattle.rbc_scene_laws.specs.Good.{IsGoodLocks}
 use Rattle.rbc_scene_laws.proofs.BasicLemmas.{the_some}
 use Rattle.rbc_scene_laws.proofs.RowLemmas.{next-row, prev-row, linked-row}
-use Rattle.rbc_scene_laws.proofs.OnLineLemmas.{has_section-append}
 use Rattle.rbc_scene_laws.proofs.LengtheningLemmas.{linked_from_below, linked_to_below}
-use Rattle.rbc_extent.specs.Courses.{IsCourse}
 
 gained : (t : Bool) (line : Line) → t ≡ false → cond t None (Some line) ≡ Some line
 gained true line h = cc
@@ -79,29 +76,3 @@ module _ (track : Track) (locks : Locks) (good : IsGoodLocks track locks) where
   prev-linked line first leg e h other f = subst (λ (z : Leg). IsTrue (is_linked track leg z)) (the_some first other (sym e ∙ f)) (linked_prev first leg h)
 
 -- ---- the set of sections with one more
-
-or_swapped : (a b : Bool) → (a || b) ≡ (b || (a || false))
-or_swapped true true = refl
-or_swapped true false = refl
-or_swapped false true = refl
-or_swapped false false = refl
-
-pub sections-push : (track : Track) (line : Line) (leg : Leg) (old new : List Bool) → IsCourse (record { track = track; legs = line }) old → length new ≡ length old → ((other : ℕ) → is_in new other ≡ (leg.section == other || is_in old other))
-    → IsCourse (record { track = track; legs = line ++ leg ∷ [] }) new
-sections-push track line leg old new was size more = record {
-  sound = was.sound;
-  size = size ∙ was.size;
-  sections = λ other.
-      more other
-      ∙ ap (λ (t : Bool). leg.section == other || t) (was.sections other)
-      ∙ or_swapped (leg.section == other) (has_section line other)
-      ∙ sym (has_section-append line (leg ∷ []) other);
-}
-
-pub sections-cons : (track : Track) (line : Line) (leg : Leg) (old new : List Bool) → IsCourse (record { track = track; legs = line }) old → length new ≡ length old → ((other : ℕ) → is_in new other ≡ (leg.section == other || is_in old other))
-    → IsCourse (record { track = track; legs = leg ∷ line }) new
-sections-cons track line leg old new was size more = record {
-  sound = was.sound;
-  size = size ∙ was.size;
-  sections = λ other. more other ∙ ap (λ (t : Bool). leg.section == other || t) (was.sections other);
-}

@@ -2,7 +2,7 @@
 use Rattle.std.proofs.Common.{◌≡◌, ℕ, ◌+◌, ◌-◌, ◌<◌, ◌≤◌, suc, Bool, true, false, cond, ◌||◌, not, [], ◌∷◌, ◌++◌, length, Option, Some, None, Result, Ok, Err, refl, ap, sym, ◌∙◌, subst, arith, nat_le}
 use Rattle.std.specs.Prelude.{option_and_then}
 use Rattle.std.specs.List.{position_or_len}
-use Rattle.std.proofs.lemmas.Bool.{leb-true, leb-false}
+use Rattle.std.proofs.lemmas.Bool.{leb-false, or_right}
 use Rattle.rbc_model.specs.declared.places.Leg.{Leg}
 use Rattle.rbc_model.specs.declared.refusals.Refusal.{Refusal}
 use Rattle.rbc_model.specs.declared.tracks.BaliseGroup.{BaliseGroup}
@@ -14,13 +14,13 @@ use Rattle.rbc_model.specs.Locks.{Locks, next, longer_ahead, longer_back, length
 use Rattle.rbc_model.specs.Placing.{leg_told, origin_on, front_on, has_rear, has_front}
 use Rattle.rbc_line.specs.OnTracks.{LineOnTrack}
 use Rattle.rbc_scene_laws.specs.Good.{IsGoodLocks}
-use Rattle.rbc_scene_laws.proofs.BasicLemmas.{or_right}
 use Rattle.rbc_scene_laws.proofs.SpotLemmas.{line_length-append}
 use Rattle.rbc_scene_laws.proofs.OnLineLemmas.{OnLine, OnLine-IsLine}
 use Rattle.rbc_scene_laws.proofs.LengtheningLemmas.{back_step}
 use Rattle.rbc_scene_laws.proofs.OriginLemmas.{has_leg-left, origin-append_left, origin-append_right}
 use Rattle.rbc_extent.specs.PlacingSteps.{found_or}
 use Rattle.rbc_extent.proofs.LengthenedLemmas.{IsUnderWay, under_way-begin, under_way-more, under_way-found, under_way-stuck, under_way-out}
+use Rattle.rbc_model.proofs.StopLemmas.{last_leg-push}
 
 -- ---- tests of numbers
 
@@ -30,13 +30,6 @@ le_test a b h = by_test (nat_le a b) refl
     by_test : (t : Bool) → nat_le a b ≡ t → nat_le a b ≡ true
     by_test true e = e
     by_test false e = let far = leb-false a b e in absurd (omega arith)
-
-pub gt_test : (a b : ℕ) → b < a → nat_le a b ≡ false
-gt_test a b h = by_test (nat_le a b) refl
-  where
-    by_test : (t : Bool) → nat_le a b ≡ t → nat_le a b ≡ false
-    by_test true e = let near = leb-true a b e in absurd (omega arith)
-    by_test false e = e
 
 -- ---- the leg gained ahead
 
@@ -55,11 +48,6 @@ one_by line longer (Some leg) e = record { leg = leg; is = gained_is (has_sectio
 
 pub one_ahead : (locks : Locks) (line longer : Line) → Some longer ≡ longer_ahead locks line → IsOneAhead line longer
 one_ahead locks line longer e = one_by line longer (option_and_then (next locks) (last_leg line)) e
-
-pub last_leg-push : (line : Line) (leg : Leg) → last_leg (line ++ leg ∷ []) ≡ Some leg
-last_leg-push [] leg = refl
-last_leg-push (a ∷ []) leg = refl
-last_leg-push (a ∷ b ∷ line) leg = last_leg-push (b ∷ line) leg
 
 has_leg-push : (line : Line) (leg other : Leg) → has_leg line leg ≡ false → has_leg (line ++ other ∷ []) leg ≡ leg_eq leg other
 has_leg-push [] leg other h = or_nothing (leg_eq leg other)

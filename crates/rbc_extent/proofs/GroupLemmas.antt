@@ -1,6 +1,5 @@
 -- The group of a report: it stands on one of the track's sections.
-use Rattle.std.proofs.Common.{◌≡◌, ◌<◌, Bool, true, false, List, [], ◌∷◌, length, Option, Some, None, IfSome, refl, sym, subst, nat_lt, nat_le}
-use Rattle.std.specs.List.{AllByRecursion, list_all}
+use Rattle.std.proofs.Common.{◌≡◌, ◌<◌, Bool, true, false, length, Option, Some, None, IfSome, refl, sym, subst, nat_lt, nat_le}
 use Rattle.rbc_model.specs.declared.tracks.BaliseGroup.{BaliseGroup}
 use Rattle.rbc_model.specs.GroupNames.{GroupName}
 use Rattle.std.proofs.lemmas.Bool.{ltb-true}
@@ -8,12 +7,9 @@ use Rattle.rbc_model.specs.Reports.{Report}
 use Rattle.rbc_model.specs.Tracks.{Track, group_named, group_name_eq, metres_of}
 use Rattle.rbc_model.specs.Placing.{running_leg, leg_told}
 use Rattle.rbc_model.specs.SoundTracks.{IsSound, is_good_group}
-use Rattle.rbc_scene_laws.proofs.BasicLemmas.{and_left, and_right}
+use Rattle.rbc_scene_laws.proofs.BasicLemmas.{and_left}
 use Rattle.rbc_scene_laws.proofs.TrainListLemmas.{find-holds}
-
-each_of : {X : Type 0} (test : X → Bool) (xs : List X) → list_all test xs ≡ true → AllByRecursion (λ x. test x ≡ true) xs
-each_of test [] h = tt
-each_of test (x ∷ xs) h = (and_left (test x) (list_all test xs) h, each_of test xs (and_right (test x) (list_all test xs) h))
+use Rattle.rbc_model.proofs.BasicLemmas.{each_of}
 
 pub group_named-good : (track : Track) (name : GroupName) (group : BaliseGroup) → IsSound track → group_named track name ≡ Some group → is_good_group track group ≡ true
 group_named-good track name group sound h =

@@ -17,8 +17,8 @@ use Rattle.rbc_model.specs.Locks.{Locks, longer_ahead, longer_back, lengthened}
 use Rattle.rbc_model.specs.Placing.{Placed, leg_told, running_leg, origin_on, front_on, rear_on, has_rear, has_front, placed_on, without_legs_behind, located}
 use Rattle.rbc_model.specs.Results.{◌>>=◌}
 use Rattle.rbc_scene_laws.specs.Good.{IsGoodLocks}
-use Rattle.rbc_scene_laws.proofs.BasicLemmas.{the_some, same_number}
-use Rattle.rbc_scene_laws.proofs.SpotLemmas.{line_length-append, line_length-cons}
+use Rattle.rbc_scene_laws.proofs.BasicLemmas.{the_some}
+use Rattle.rbc_scene_laws.proofs.SpotLemmas.{line_length-append}
 use Rattle.rbc_scene_laws.proofs.OnLineLemmas.{OnLine-IsLine}
 use Rattle.rbc_model.proofs.SamenessLemmas.{leg_eq-itself}
 use Rattle.rbc_scene_laws.proofs.BoundLemmas.{length-line}
@@ -28,6 +28,8 @@ use Rattle.rbc_extent.specs.Walks.{Walked, IsSameWay}
 use Rattle.rbc_extent.proofs.CoveringLemmas.{IsLengthening, one_ahead, one_back, front-longer, told-longer}
 use Rattle.rbc_extent.proofs.LengthenedLemmas.{rest-more}
 use Rattle.rbc_extent.proofs.WalkLemmas.{but_last}
+use Rattle.rbc_model.proofs.BasicLemmas.{same_number}
+use Rattle.rbc_model.proofs.MetreLemmas.{line_length-cons}
 
 pub same_way : (start : Walked) → IsSameWay start start
 same_way start = record { track = refl; locks = refl }

@@ -8,14 +8,16 @@ use Rattle.rbc_model.specs.Lines.{Line, IsLine, has_section, first_leg, last_leg
 use Rattle.rbc_model.specs.Locks.{Locks, next, prev}
 use Rattle.rbc_model.specs.SoundTracks.{IsInForm, IsSound}
 use Rattle.rbc_scene_laws.specs.Good.{IsGoodLocks}
-use Rattle.rbc_scene_laws.proofs.BasicLemmas.{the_some, or_right}
+use Rattle.rbc_scene_laws.proofs.BasicLemmas.{the_some}
 use Rattle.rbc_scene_laws.proofs.BoundLemmas.{length-line, line_length-small}
 use Rattle.rbc_scene_laws.proofs.RowLemmas.{next-row, prev-row, linked-row}
-use Rattle.rbc_scene_laws.proofs.SpotLemmas.{line_length-cons, line_length-append}
-use Rattle.rbc_scene_laws.proofs.OnLineLemmas.{OnLine, OnLine-IsLine, IsLine-OnLine, OnLine-one, OnLine-push, OnLine-cons, OnLine-right, has_section-append}
+use Rattle.rbc_scene_laws.proofs.SpotLemmas.{line_length-append}
+use Rattle.rbc_scene_laws.proofs.OnLineLemmas.{OnLine, OnLine-IsLine, IsLine-OnLine, OnLine-push, OnLine-cons, OnLine-right, has_section-append}
 use Rattle.rbc_extent.specs.Walks.{legs_ahead, legs_behind, head, walked_legs, IsWalk}
 use Rattle.rbc_extent.proofs.CourseLemmas.{next-below, prev-below}
-use Rattle.rbc_extent.proofs.CoveringLemmas.{last_leg-push}
+use Rattle.std.proofs.lemmas.Bool.{or_right}
+use Rattle.rbc_model.proofs.MetreLemmas.{line_length-cons}
+use Rattle.rbc_model.proofs.StopLemmas.{last_leg-push}
 
 -- ---- lines and the legs at their ends
 
@@ -235,19 +237,6 @@ module _ (track : Track) (locks : Locks) (known : Line) (turn : Leg) (behind ahe
       }
 
 -- ---- where a walk begins
-
-pub walk-alone : (track : Track) (locks : Locks) (leg : Leg) (metres : ℕ) → IsInForm track → IsSound track → IsGoodLocks track locks → leg.section < length track.sections → metres ≡ metres_of track leg.section → IsWalk track locks [] leg 0 0 leg leg metres
-walk-alone track locks leg metres form sound good low e = record {
-  form = form;
-  sound = sound;
-  good = good;
-  line = IsLine-OnLine track (leg ∷ []) (OnLine-one track leg low);
-  begins = refl;
-  ends = refl;
-  all_behind = refl;
-  all_ahead = refl;
-  long = omega (arith, e, line_length-cons track leg []);
-}
 
 pub walk-along : (track : Track) (locks : Locks) (line : Line) (first turn last : Leg) (metres : ℕ) → IsInForm track → IsSound track → IsGoodLocks track locks → IsLine track line → first_leg line ≡ Some first → last_leg line ≡ Some turn → last_leg line ≡ Some last → metres ≡ line_length track line
     → IsWalk track locks (take (length line - 1) line) turn 0 0 first last metres

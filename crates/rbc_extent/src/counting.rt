@@ -82,7 +82,7 @@ pub(crate) fn rear_from(origin: u32, report: &Report) -> u32
     ensures { result ≡ origin + report.now.distance - (report.now.over + report.now.length) }
 {
     let behind = u32::from(report.over()) + u32::from(report.length());
-    (origin + report.distance()).saturating_sub(behind)
+    (origin + report.distance().metres()).saturating_sub(behind)
 }
 
 /// Whether the first metre that the train may stand on lies on a line on which its group has this place.
@@ -91,7 +91,7 @@ pub(crate) fn has_rear_from(origin: u32, report: &Report) -> bool
     ensures { result ≡ nat_le (report.now.over + report.now.length) (origin + report.now.distance) }
 {
     let behind = u32::from(report.over()) + u32::from(report.length());
-    behind <= origin + report.distance()
+    behind <= origin + report.distance().metres()
 }
 
 /// How many metres the train may stand beyond its group.
@@ -99,5 +99,5 @@ pub(crate) fn metres_ahead(report: &Report) -> u32
     ensures ahead { result ≡ report.now.distance + report.now.under }
     ensures at_most { result ≤ FARTHEST_REPORT + MOST_DOUBT }
 {
-    report.distance() + u32::from(report.under())
+    report.distance().metres() + u32::from(report.under())
 }

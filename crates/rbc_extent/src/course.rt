@@ -1,6 +1,6 @@
 //! Lines that are lengthened along the locks, leg by leg.
 
-ghost use Rattle.std.specs.Prelude.{◌≡◌, Some, None, IfOk, if◌then◌else◌};
+ghost use Rattle.std.specs.Prelude.{◌≡◌, Some, None, IfOk, false, if◌then◌else◌};
 ghost use Rattle.rbc_model.specs.Lines.{IsLine};
 ghost use Rattle.rbc_model.specs.Locks.{longer_ahead, longer_back};
 ghost use Rattle.rbc_scene_laws.specs.Good.{IsGoodLocks};
@@ -14,7 +14,7 @@ use std::marker::Model;
 /// A line that is lengthened along the locks, beside the set of its sections: whether a section stands on it is one
 /// look-up.
 #[derive(Drop)]
-pub(crate) struct Course {
+pub struct Course {
     line: Line,
     sections: SectionSet,
 }
@@ -32,7 +32,7 @@ impl Model for Course {
 
 impl Course {
     /// The line, which can be lengthened.
-    pub(crate) fn new(alloc: Global, line: Line) -> Result<Course, Memory>
+    pub fn new(alloc: Global, line: Line) -> Result<Course, Memory>
         ensures { IfOk result (λ course. course ≡ line) }
     {
         // The track of a line is sound.
@@ -42,7 +42,7 @@ impl Course {
     }
 
     /// The line as it is now.
-    pub(crate) fn line(&self) -> &Line
+    pub fn line(&self) -> &Line
         ensures line { result.now ≡ self.now }
         ensures is_line { IsLine self.now.track self.now.legs }
     {
@@ -51,7 +51,7 @@ impl Course {
     }
 
     /// The line as it is now, with which the course ends.
-    pub(crate) fn into_line(self) -> Line
+    pub fn into_line(self) -> Line
         ensures { result ≡ self }
     {
         self.line
@@ -59,11 +59,12 @@ impl Course {
 
     /// Puts the leg that is locked behind the last one behind it. Tells whether there is such a leg, whose section
     /// does not stand on the line yet; where there is none the line stays as it is.
-    pub(crate) fn lengthen_ahead(&mut self, locks: &Locks) -> Result<bool, Memory>
+    pub fn lengthen_ahead(&mut self, locks: &Locks) -> Result<bool, Memory>
         requires { IsGoodLocks self.old.track locks.now }
         ensures track { self.new.track ≡ self.old.track }
         ensures longer { IfOk result (λ longer.
             (if longer then Some self.new.legs else None) ≡ longer_ahead locks.now self.old.legs) }
+        ensures stays { IfOk result (λ longer. longer ≡ false → self.new ≡ self.old) }
     {
         let Some(leg) = locks.next(self.line.last()) else {
             return Ok(false);
@@ -79,11 +80,12 @@ impl Course {
 
     /// Puts the leg that the first one is locked behind in front of it. Tells whether there is such a leg, whose
     /// section does not stand on the line yet; where there is none the line stays as it is.
-    pub(crate) fn lengthen_back(&mut self, locks: &Locks) -> Result<bool, Memory>
+    pub fn lengthen_back(&mut self, locks: &Locks) -> Result<bool, Memory>
         requires { IsGoodLocks self.old.track locks.now }
         ensures track { self.new.track ≡ self.old.track }
         ensures longer { IfOk result (λ longer.
             (if longer then Some self.new.legs else None) ≡ longer_back locks.now self.old.legs) }
+        ensures stays { IfOk result (λ longer. longer ≡ false → self.new ≡ self.old) }
     {
         let Some(leg) = locks.prev(self.line.first()) else {
             return Ok(false);

@@ -17,9 +17,10 @@ mod through;
 mod train;
 mod walk;
 
+pub use course::Course;
 pub use placed::Placed;
 pub use placing::place;
-pub use rbc_line::{Line, SectionSet};
+pub use rbc_line::Line;
 pub use rbc_locks::Locks;
 pub use rbc_model::{OrMemory, Refusal, Report};
 pub use reporting::reported;

@@ -11,7 +11,7 @@ ghost use Rattle.rbc_extent.specs.PlacedTrains.{placed_train};
 use crate::Placed;
 use crate::through::cut_ahead;
 use rbc_line::Line;
-use rbc_model::{Memory, Report};
+use rbc_model::{Memory, Report, TrainId};
 use std::alloc::Global;
 use std::marker::Model;
 
@@ -78,7 +78,7 @@ impl Train {
     }
 
     /// The train's number, 1 to 9,999,999.
-    pub fn number(&self) -> u32
+    pub fn id(&self) -> TrainId
         ensures { result ≡ self.now.train.report.train }
     {
         self.report.train()

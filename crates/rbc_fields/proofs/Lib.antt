@@ -1,5 +1,6 @@
 pub mod DigitLemmas
 pub mod RestLemmas
+pub mod SheetLemmas
 pub mod ListLemmas
 pub mod PartsLemmas
 pub mod JsonLemmas

@@ -315,7 +315,7 @@ rest_put items count item whole later inside rest = record {
 }
 
 -- a field was read, and there is room for it
-pub room_next : (packet : Bool) (bytes : List ℕ) (items : List Item) (count : ℕ) (item : Item) (new : Fields) → length items ≡ 252 → count ≤ 252
+pub room_next : (packet : Bool) (bytes : List ℕ) (items : List Item) (count : ℕ) (item : Item) (new : Fields) → length items ≡ 253 → count ≤ 252
     → Rest new (λ later. IsRest (take count items) (reading_kind packet bytes) (with_item (Some item) later)) → count < 252
 room_next packet bytes items count item new long within rest =
     let room = some_room packet bytes (take count items) item (left_to_read rest.most new) rest.holds in

@@ -1,5 +1,5 @@
 -- What is printed of the fields one after another, as the texts of all say it.
-use Rattle.std.proofs.Common.{◌≡◌, ℕ, ◌||◌, Bool, true, false, List, [], ◌∷◌, ◌++◌, length, drop, drop-cons, get_or, ◌+◌, ◌<◌, ◌≤◌, add-one, Option, Some, None, Result, refl, sym, ap, ◌∙◌, subst}
+use Rattle.std.proofs.Common.{◌≡◌, ℕ, ◌||◌, Bool, true, false, List, [], ◌∷◌, ◌++◌, length, drop, drop-cons, get_or, ◌+◌, ◌<◌, ◌≤◌, add-one, Option, Some, None, Result, refl, sym, ap, ap₂, ◌∙◌, subst, append_assoc}
 use Rattle.std.specs.List.{flat_map}
 use Rattle.std.proofs.lemmas.List.{at_drop_all}
 use Rattle.rbc_model.specs.Sessions.{Prints}
@@ -38,6 +38,19 @@ parts_text-next told text later items index item inside =
     let first = get_or items index item in
     ap (parts_text told text later) (drop-cons items index item inside)
     ∙ ap (λ i. text later first ++ parts_text told text (later || told first) (drop i items)) (sym (add-one index))
+
+-- what is gathered and what is left, where a part of it is handed on and the next one is gathered
+pub gathered_next : (told : Item → Bool) (text : Bool → Item → List ℕ) (later next : Bool) (items : List Item) (index : ℕ) (item : Item) (sheet part rest room new : List ℕ)
+    → index < length items → sheet ≡ part ++ rest → room ≡ rest
+    → new ≡ room ++ text later (get_or items index item) → next ≡ (later || told (get_or items index item))
+    → sheet ++ parts_text told text later (drop index items) ≡ part ++ (new ++ parts_text told text next (drop (index + 1) items))
+gathered_next told text later next items index item sheet part rest room new inside whole kept gathered is =
+    let first : List ℕ = text later (get_or items index item) in
+    let left : Bool → List ℕ = λ b. parts_text told text b (drop (index + 1) items) in
+    let behind : List ℕ = left (later || told (get_or items index item)) in
+    ap₂ (λ a b. a ++ b) whole (parts_text-next told text later items index item inside)
+    ∙ append_assoc part rest (first ++ behind)
+    ∙ ap (λ l. part ++ l) (sym (append_assoc rest first behind) ∙ ap₂ (λ l b. l ++ left b) (sym (gathered ∙ ap (λ l. l ++ first) kept)) (sym is))
 
 -- none is left
 pub parts_text-end : (told : Item → Bool) (text : Bool → Item → List ℕ) (later : Bool) (items : List Item) (index : ℕ) → length items ≤ index

@@ -1,8 +1,7 @@
 -- What is left to read, from field to field.
-use Rattle.std.proofs.Common.{◌≡◌, ℕ, zero, suc, ◌<◌, length, Option, Some, None, arith, subst, ap, ◌∙◌}
+use Rattle.std.proofs.Common.{◌≡◌, ℕ, zero, suc, ◌<◌, Bool, true, length, Some, arith, subst, ap, ◌∙◌}
 use Rattle.rbc_fields.specs.declared.fields.Fields.{Fields}
 use Rattle.rbc_fields.specs.declared.fields.Item.{Item}
-use Rattle.rbc_fields.specs.declared.walk.Walk.{Walk}
 use Rattle.rbc_fields.specs.Readings.{Reading, stopped, with_item, left_to_read, reading_from}
 
 -- this holds of what is left to read, however many calls that takes
@@ -29,11 +28,11 @@ module _ (old new : Fields) (Holds : Reading → Type 0) where
   rest_next item rest = next_of item rest.most rest.enough rest.holds
 
   over_of : (most : ℕ) → length old.bits < most → Holds (left_to_read most old)
-      → ((m : ℕ) → left_to_read (suc m) old ≡ left_to_read m new) → new.walk ≡ None → Holds (stopped new.found)
+      → ((m : ℕ) → left_to_read (suc m) old ≡ left_to_read m new) → new.is_over ≡ true → Holds (stopped new.found)
   over_of zero enough holds next none = absurd (omega arith)
   over_of (suc m) enough holds next none =
-      subst Holds (next m ∙ ap (λ (walk : Option Walk). reading_from m walk new.bits new.bit new.found) none) holds
+      subst Holds (next m ∙ ap (λ (over : Bool). reading_from m over new.walk new.bits new.bit new.found) none) holds
 
   -- none is left
-  pub rest_over : Rest old Holds → ((m : ℕ) → left_to_read (suc m) old ≡ left_to_read m new) → new.walk ≡ None → Holds (stopped new.found)
+  pub rest_over : Rest old Holds → ((m : ℕ) → left_to_read (suc m) old ≡ left_to_read m new) → new.is_over ≡ true → Holds (stopped new.found)
   rest_over rest = over_of rest.most rest.enough rest.holds

@@ -7,7 +7,7 @@ use Rattle.rbc_fields.specs.declared.row.Row.{Row}
 use Rattle.rbc_fields.specs.declared.fields.Found.{Found}
 use Rattle.rbc_fields.specs.declared.fields.Item.{Item}
 use Rattle.rbc_fields.specs.declared.json_line.Piece.{Piece}
-use Rattle.rbc_fields.specs.declared.json_line.Piece.TheVariants.{Text, Number, Count}
+use Rattle.rbc_fields.specs.declared.json_line.Piece.TheVariants.{Text, Number}
 use Rattle.rbc_fields.specs.declared.said.Said.{Said}
 use Rattle.rbc_fields.specs.declared.said.Said.TheVariants.{Time, Country, Group, Nominal, End, Grade, Speed}
 use Rattle.rbc_fields.specs.Said.{all_said, said_in}
@@ -20,7 +20,6 @@ use Rattle.json.specs.Print.{quoted}
 abbrev pub piece_text : Piece → List ℕ
 piece_text (Text text) = text.now
 piece_text (Number number) = decimal number
-piece_text (Count count) = decimal count
 
 abbrev pub pieces_text : List Piece → List ℕ
 pieces_text pieces = flat_map piece_text pieces

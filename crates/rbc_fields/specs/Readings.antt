@@ -74,12 +74,12 @@ packet_reading bytes = reading_of (at_row (first_row bytes) true (length bytes))
 -- ---- a reading that is under way
 
 -- what is still to be read
-abbrev pub reading_from : ℕ → Option Walk → List Bool → ℕ → Option Found → Reading
-reading_from most None bits bit found = stopped found
-reading_from most (Some walk) bits bit found = reading most walk bits bit
+abbrev pub reading_from : ℕ → Bool → Walk → List Bool → ℕ → Option Found → Reading
+reading_from most true walk bits bit found = stopped found
+reading_from most false walk bits bit found = reading most walk bits bit
 
 abbrev pub left_to_read : ℕ → Fields → Reading
-left_to_read most fields = reading_from most fields.walk fields.bits fields.bit fields.found
+left_to_read most fields = reading_from most fields.is_over fields.walk fields.bits fields.bit fields.found
 
 -- the bits that are left are counted, and there are not too many
 pub record IsCounted (fields : Fields) : Type 0 where

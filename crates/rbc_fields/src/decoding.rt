@@ -13,7 +13,7 @@ ghost use Rattle.rbc_fields.specs.DecodeText.{AnswersDecode, DecodesAll, Printin
 use crate::fields::{Found, Item};
 use crate::json_line::print_json;
 use crate::line::{Digits, digits_in};
-use crate::listing::{MOST_FIELDS, NO_FIELD, list_fields};
+use crate::listing::{LIST, NO_FIELD, list_fields};
 use crate::text::print_reading;
 use rbc_model::limits::{LONGEST_CHECK_LINE, LONGEST_LINE};
 use rbc_streams::{Answers, Sink, Source, WriteFailed, converse, put};
@@ -104,7 +104,7 @@ struct Decoder {
     /// Whether one was refused so far.
     refused: bool,
     /// Room for the fields of one.
-    items: [Item; MOST_FIELDS],
+    items: [Item; LIST],
 }
 
 impl Decoder {
@@ -251,7 +251,7 @@ pub fn decode<F: Form, R: Source, W: Sink>(
 {
     let mut decoder = Decoder {
         refused: false,
-        items: [NO_FIELD; MOST_FIELDS],
+        items: [NO_FIELD; LIST],
     };
     converse(rt, alloc, reader, writer, &mut decoder, form)?;
     Ok(!decoder.refused)

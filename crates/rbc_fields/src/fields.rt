@@ -1,6 +1,6 @@
 //! The fields of a message or packet, read one after another.
 
-ghost use Rattle.std.specs.Prelude.{◌≡◌, ◌<◌, ◌≤◌, ◌*◌, ◌^◌, ℕ, Some, None, suc, length, IfSome, IfNone};
+ghost use Rattle.std.specs.Prelude.{◌≡◌, ◌<◌, ◌≤◌, ◌*◌, ◌^◌, ℕ, Some, None, true, false, suc, length, if◌then◌else◌};
 ghost use Rattle.rbc_model.specs.Bits.{byte_bits};
 ghost use Rattle.rbc_fields.specs.Readings.{left_to_read, reading, with_item, filling_found, IsCounted};
 
@@ -57,8 +57,10 @@ pub(crate) struct Fields<'a> {
     bit: u32,
     /// How many bits are left.
     left: u32,
-    /// Where the walk stands, none where it has ended.
-    walk: Option<Walk>,
+    /// Where the walk stands, or stood where it ended.
+    walk: Walk,
+    /// Whether it has ended.
+    is_over: bool,
     /// What was found where it ended, if that is a fault.
     found: Option<Found>,
 }
@@ -75,55 +77,70 @@ impl<'a> Fields<'a> {
             bits: BitReader::new(bytes),
             bit: 0,
             left: 8 * bytes.len() as u32,
-            walk: Some(*start),
+            walk: *start,
+            is_over: false,
             found: None,
         }
     }
 
-    /// The next field. None behind the last, and behind the first at fault.
+    /// Reads the next field into an item. Answers false behind the last, and behind the first at fault.
     #[tactic(auto, unfolding(crate::specs::Readings::reading))]
-    pub(crate) fn next(&mut self) -> Option<Item>
+    pub(crate) fn next(&mut self, item: &mut Item) -> bool
         requires { IsCounted self.old }
-        ensures next { (most : ℕ) → left_to_read (suc most) self.old ≡ with_item result (left_to_read most self.new) }
-        ensures over { IfNone result (self.new.walk ≡ None) }
-        ensures shorter { IfSome result (λ item. length self.new.bits < length self.old.bits) }
+        ensures next { (most : ℕ) → left_to_read (suc most) self.old
+            ≡ with_item (if result then Some item.new else None) (left_to_read most self.new) }
+        ensures over { result ≡ false → self.new.is_over ≡ true }
+        ensures shorter { result ≡ true → length self.new.bits < length self.old.bits }
         ensures counted { IsCounted self.new }
     {
-        let walk = self.walk?;
-        self.walk = None;
-        let Some((row, name)) = walk.field() else {
-            self.found = self.filling_found();
-            return None;
+        if self.is_over {
+            return false;
+        }
+        let Some((row, name)) = self.walk.field() else {
+            let found = self.filling_found();
+            self.stop(found);
+            return false;
         };
         let width = width_of(name);
         let Ok(value) = self.bits.take(width) else {
-            self.found = Some(Found {
+            self.stop(Some(Found {
                 fault: Fault::Short,
                 place: Place::Missing(name),
                 bit: self.bit,
                 value: self.left,
-            });
-            return None;
+            }));
+            return false;
         };
-        match walk.behind(row, name, value) {
-            Ok(next) => self.walk = Some(next),
-            Err(fault) => {
-                self.found = Some(Found {
-                    fault,
-                    place: Place::Field(name),
-                    bit: self.bit,
-                    value,
-                });
-            }
-        }
-        self.bit += width;
-        self.left -= width;
-        Some(Item {
-            walk,
+        *item = Item {
+            walk: self.walk,
             row,
             name,
             value,
-        })
+        };
+        if let Err(fault) = self.walk.pass(row, name, value) {
+            self.stop(Some(Found {
+                fault,
+                place: Place::Field(name),
+                bit: self.bit,
+                value,
+            }));
+        }
+        self.bit += width;
+        self.left -= width;
+        true
+    }
+
+    /// Ends with what was found, if that is a fault.
+    fn stop(&mut self, found: Option<Found>)
+        ensures over { self.new.is_over ≡ true }
+        ensures found { self.new.found ≡ found }
+        ensures walk { self.new.walk ≡ self.old.walk }
+        ensures bits { self.new.bits ≡ self.old.bits }
+        ensures bit { self.new.bit ≡ self.old.bit }
+        ensures left { self.new.left ≡ self.old.left }
+    {
+        self.is_over = true;
+        self.found = found;
     }
 
     /// What was found where the fields ended, if that is a fault.

@@ -1,6 +1,6 @@
 //! What is printed of a message, or of a packet alone, as a line of JSON.
 
-ghost use Rattle.std.specs.Prelude.{◌≡◌, ◌<◌, ◌≤◌, ◌++◌, ◌∷◌, ℕ, List, [], Bool, true, false, length, decimal, codes};
+ghost use Rattle.std.specs.Prelude.{◌≡◌, ◌+◌, ◌≤◌, ◌++◌, ◌∷◌, ℕ, List, [], Bool, true, false, length, decimal, codes};
 ghost use Rattle.std.specs.Fmt.{signed_decimal};
 ghost use Rattle.rbc_model.specs.Sessions.{Prints};
 ghost use Rattle.rbc_fields.specs.JsonParts.{piece_text, pieces_text, packet_start, member_part, other_part, is_grade, grade_part};
@@ -19,9 +19,10 @@ use crate::names::name_members;
 use crate::parts::{Part, print_parts};
 use crate::row::Row;
 use crate::said::{Said, said_in};
+use crate::sheet::Sheet;
 use crate::text::{fault_text, measure_text, place_text};
 use rbc_streams::{Sink, WriteFailed, put};
-use rbc_words::{Gathered, print_number};
+use rbc_words::print_number;
 
 /// A piece of a line.
 #[derive(Clone, Copy)]
@@ -30,8 +31,6 @@ pub(crate) enum Piece<'line> {
     Text(&'line [u8]),
     /// A number.
     Number(u32),
-    /// A large number.
-    Count(u64),
 }
 
 /// Writes pieces, one behind another.
@@ -54,17 +53,18 @@ fn print_piece<W: Sink>(piece: &Piece, writer: &mut W) -> Result<(), WriteFailed
     match piece {
         Piece::Text(text) => put(writer, text),
         Piece::Number(number) => print_number(u64::from(*number), writer),
-        Piece::Count(count) => print_number(*count, writer),
     }
 }
 
-/// Puts what stands between an element and the one before it, if there is one, before the element.
-fn put_comma(element: &mut Gathered, later: bool)
-    requires { length element.old < 128 }
-    ensures { element.new ≡ comma_if later ++ element.old }
+/// Puts what stands between an element and the one before it, if there is one, behind a text.
+#[inline(always)]
+fn gather_comma(later: bool, sheet: &mut Sheet)
+    requires { length sheet.old ≤ 896 }
+    ensures text { sheet.new ≡ sheet.old ++ comma_if later }
+    ensures length { length sheet.new ≤ length sheet.old + 1 }
 {
     if later {
-        element.byte(b',');
+        sheet.byte(b',');
     }
 }
 
@@ -83,14 +83,12 @@ impl Part for FieldElements {
         true
     }
 
-    fn print<W: Sink>(item: &Item, later: bool, writer: &mut W) -> Result<(), WriteFailed> {
-        let mut element = Gathered::new();
-        element.byte(b'}');
-        element.number(u64::from(item.value));
-        element.text(name_members(item.name));
-        element.text(packet_start(item.row));
-        put_comma(&mut element, later);
-        put(writer, element.bytes())
+    fn gather(item: &Item, later: bool, sheet: &mut Sheet) {
+        gather_comma(later, sheet);
+        sheet.text(packet_start(item.row));
+        sheet.text(name_members(item.name));
+        sheet.number(u64::from(item.value));
+        sheet.byte(b'}');
     }
 }
 
@@ -124,34 +122,34 @@ impl Part for OtherMembers {
         true
     }
 
-    fn print<W: Sink>(item: &Item, _later: bool, writer: &mut W) -> Result<(), WriteFailed> {
-        match said_in(item) {
-            Some(said) => print_other(&said, writer),
-            None => Ok(()),
+    fn gather(item: &Item, _later: bool, sheet: &mut Sheet) {
+        if let Some(said) = said_in(item) {
+            gather_other(&said, sheet);
         }
     }
 }
 
-/// Writes what is said as a member behind others, unless it is a gradient or a speed.
+/// Puts what is said behind a text, as a member behind others, unless it is a gradient or a speed.
 #[tactic(auto, unfolding(json::specs::Print::escape_byte))]
-fn print_other<W: Sink>(said: &Said, writer: &mut W) -> Result<(), WriteFailed>
-    requires { W.failed writer.old ≡ false }
-    ensures { Prints (W.written writer.old) (W.written writer.new) (W.failed writer.new) (other_part said.now) result }
+fn gather_other(said: &Said, sheet: &mut Sheet)
+    requires { length sheet.old ≤ 896 }
+    ensures { sheet.new ≡ sheet.old ++ other_part said.now }
 {
     match *said {
-        Said::Time(time) => print_named(b",\"time\":", Piece::Number(time), writer),
-        Said::Country(country) => print_named(b",\"country\":", Piece::Number(country), writer),
-        Said::Group(number) => print_named(b",\"group\":", Piece::Number(number), writer),
-        Said::Nominal(nominal) => put(writer, direction_member(nominal)),
-        Said::End(metres) => print_named(b",\"end\":", Piece::Count(metres), writer),
-        Said::Grade(_, _) | Said::Speed(_, _) => Ok(()),
+        Said::Time(time) => gather_named(b",\"time\":", u64::from(time), sheet),
+        Said::Country(country) => gather_named(b",\"country\":", u64::from(country), sheet),
+        Said::Group(number) => gather_named(b",\"group\":", u64::from(number), sheet),
+        Said::Nominal(nominal) => sheet.text(direction_member(nominal)),
+        Said::End(metres) => gather_named(b",\"end\":", metres, sheet),
+        Said::Grade(_, _) | Said::Speed(_, _) => (),
     }
 }
 
 /// The direction as a member behind others.
 #[tactic(auto, unfolding(json::specs::Print::escape_byte))]
 fn direction_member(nominal: bool) -> &'static [u8]
-    ensures { result.now ≡ member_part (codes "direction") (string (direction_text nominal)) }
+    ensures text { result.now ≡ member_part (codes "direction") (string (direction_text nominal)) }
+    ensures short { length result.now ≤ 40 }
 {
     if nominal {
         b",\"direction\":\"nominal\""
@@ -160,14 +158,14 @@ fn direction_member(nominal: bool) -> &'static [u8]
     }
 }
 
-/// Writes a value behind its name.
-fn print_named<W: Sink>(name: &[u8], value: Piece, writer: &mut W) -> Result<(), WriteFailed>
-    requires { W.failed writer.old ≡ false }
-    ensures { Prints (W.written writer.old) (W.written writer.new) (W.failed writer.new)
-        (name.now ++ piece_text value.entry) result }
+/// Puts a number behind its name, and both behind a text.
+fn gather_named(name: &[u8], number: u64, sheet: &mut Sheet)
+    requires short { length name.now ≤ 20 }
+    requires room { length sheet.old ≤ 896 }
+    ensures { sheet.new ≡ sheet.old ++ (name.now ++ decimal number) }
 {
-    put(writer, name)?;
-    print_piece(&value, writer)
+    sheet.text(name);
+    sheet.number(number);
 }
 
 /// The gradients that are said, as elements.
@@ -185,44 +183,33 @@ impl Part for GradeElements {
         matches!(said_in(item), Some(Said::Grade(_, _)))
     }
 
-    fn print<W: Sink>(item: &Item, later: bool, writer: &mut W) -> Result<(), WriteFailed> {
-        match said_in(item) {
-            Some(said) => print_if_grade(later, &said, writer),
-            None => Ok(()),
+    fn gather(item: &Item, later: bool, sheet: &mut Sheet) {
+        if let Some(said) = said_in(item) {
+            gather_if_grade(later, &said, sheet);
         }
     }
 }
 
-fn print_if_grade<W: Sink>(later: bool, said: &Said, writer: &mut W) -> Result<(), WriteFailed>
-    requires { W.failed writer.old ≡ false }
-    ensures { Prints (W.written writer.old) (W.written writer.new) (W.failed writer.new)
-        (grade_part later said.now) result }
+fn gather_if_grade(later: bool, said: &Said, sheet: &mut Sheet)
+    requires { length sheet.old ≤ 896 }
+    ensures { sheet.new ≡ sheet.old ++ grade_part later said.now }
 {
-    match *said {
-        Said::Grade(from, per_mille) => print_grade(later, from, per_mille, writer),
-        _ => Ok(()),
+    if let Said::Grade(from, per_mille) = *said {
+        gather_grade(later, from, per_mille, sheet);
     }
 }
 
-/// Writes a gradient as an element.
-fn print_grade<W: Sink>(
-    later: bool,
-    from: u64,
-    per_mille: i64,
-    writer: &mut W,
-) -> Result<(), WriteFailed>
-    requires { W.failed writer.old ≡ false }
-    ensures { Prints (W.written writer.old) (W.written writer.new) (W.failed writer.new)
-        (comma_if later ++ compact_text (grade_data from per_mille)) result }
+/// Puts a gradient behind a text, as an element.
+fn gather_grade(later: bool, from: u64, per_mille: i64, sheet: &mut Sheet)
+    requires { length sheet.old ≤ 896 }
+    ensures { sheet.new ≡ sheet.old ++ (comma_if later ++ compact_text (grade_data from per_mille)) }
 {
-    let mut element = Gathered::new();
-    element.byte(b'}');
-    element.signed(per_mille);
-    element.text(b",\"per_mille\":");
-    element.number(from);
-    element.text(b"{\"from\":");
-    put_comma(&mut element, later);
-    put(writer, element.bytes())
+    gather_comma(later, sheet);
+    sheet.text(b"{\"from\":");
+    sheet.number(from);
+    sheet.text(b",\"per_mille\":");
+    sheet.signed(per_mille);
+    sheet.byte(b'}');
 }
 
 /// The speeds that are said, as elements.
@@ -240,39 +227,33 @@ impl Part for SpeedElements {
         matches!(said_in(item), Some(Said::Speed(_, _)))
     }
 
-    fn print<W: Sink>(item: &Item, later: bool, writer: &mut W) -> Result<(), WriteFailed> {
-        match said_in(item) {
-            Some(said) => print_if_speed(later, &said, writer),
-            None => Ok(()),
+    fn gather(item: &Item, later: bool, sheet: &mut Sheet) {
+        if let Some(said) = said_in(item) {
+            gather_if_speed(later, &said, sheet);
         }
     }
 }
 
-fn print_if_speed<W: Sink>(later: bool, said: &Said, writer: &mut W) -> Result<(), WriteFailed>
-    requires { W.failed writer.old ≡ false }
-    ensures { Prints (W.written writer.old) (W.written writer.new) (W.failed writer.new)
-        (speed_part later said.now) result }
+fn gather_if_speed(later: bool, said: &Said, sheet: &mut Sheet)
+    requires { length sheet.old ≤ 896 }
+    ensures { sheet.new ≡ sheet.old ++ speed_part later said.now }
 {
-    match *said {
-        Said::Speed(from, kmh) => print_speed(later, from, kmh, writer),
-        _ => Ok(()),
+    if let Said::Speed(from, kmh) = *said {
+        gather_speed(later, from, kmh, sheet);
     }
 }
 
-/// Writes a speed as an element.
-fn print_speed<W: Sink>(later: bool, from: u64, kmh: u64, writer: &mut W) -> Result<(), WriteFailed>
-    requires { W.failed writer.old ≡ false }
-    ensures { Prints (W.written writer.old) (W.written writer.new) (W.failed writer.new)
-        (comma_if later ++ compact_text (speed_data from kmh)) result }
+/// Puts a speed behind a text, as an element.
+fn gather_speed(later: bool, from: u64, kmh: u64, sheet: &mut Sheet)
+    requires { length sheet.old ≤ 896 }
+    ensures { sheet.new ≡ sheet.old ++ (comma_if later ++ compact_text (speed_data from kmh)) }
 {
-    let mut element = Gathered::new();
-    element.byte(b'}');
-    element.number(kmh);
-    element.text(b",\"km_per_hour\":");
-    element.number(from);
-    element.text(b"{\"from\":");
-    put_comma(&mut element, later);
-    put(writer, element.bytes())
+    gather_comma(later, sheet);
+    sheet.text(b"{\"from\":");
+    sheet.number(from);
+    sheet.text(b",\"km_per_hour\":");
+    sheet.number(kmh);
+    sheet.byte(b'}');
 }
 
 /// Writes elements as an array, behind its name and up to its closing bracket.

@@ -13,6 +13,7 @@ mod names;
 mod parts;
 mod row;
 mod said;
+mod sheet;
 mod text;
 mod walk;
 

@@ -93,5 +93,10 @@ fn is_hex(word: &[u8]) -> bool
 fn are_digits(word: &[u8]) -> bool
     ensures { result ≡ list_all is_ascii_hexdigit word.now }
 {
-    word.iter().all(|byte| byte.is_ascii_hexdigit())
+    // There is no way out of the loop before its end: a processor takes several bytes at once.
+    let mut are_digits = true;
+    for byte in word {
+        are_digits = are_digits & byte.is_ascii_hexdigit();
+    }
+    are_digits
 }

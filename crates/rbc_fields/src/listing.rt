@@ -8,9 +8,9 @@ use crate::row::Row;
 use crate::walk::Walk;
 use rbc_model::FieldName;
 
-/// How many fields there are at most: 6 of the header, 12 of packet 15, and 101 and 133 of packets 21 and 27 with 31
-/// steps each.
-pub(crate) const MOST_FIELDS: usize = 252;
+/// How long a list is: there are 252 fields at most, 6 of the header, 12 of packet 15, and 101 and 133 of packets 21 and 27
+/// with 31 steps each, and one more is tried.
+pub(crate) const LIST: usize = 253;
 
 /// What stands in a list behind its fields.
 pub(crate) const NO_FIELD: Item = Item {
@@ -37,7 +37,7 @@ pub(crate) const NO_FIELD: Item = Item {
 pub(crate) fn list_fields(
     is_packet: bool,
     bytes: &[u8],
-    items: &mut [Item; MOST_FIELDS],
+    items: &mut [Item; LIST],
 ) -> (usize, Option<Found>)
     requires { length bytes.now ≤ 4096 }
     ensures items { take result.0 items.new ≡ (reading_kind is_packet bytes.now).items }
@@ -46,8 +46,7 @@ pub(crate) fn list_fields(
 {
     let mut fields = Fields::new(&start_of(is_packet, bytes), bytes);
     let mut count = 0;
-    while let Some(item) = fields.next() {
-        items[count] = item;
+    while fields.next(&mut items[count]) {
         count += 1;
     }
     (count, fields.found())

@@ -1,12 +1,16 @@
 //! The fields of a message, printed one after another.
 
-ghost use Rattle.std.specs.Prelude.{◌≡◌, ◌||◌, ℕ, List, Bool, false};
+ghost use Rattle.std.specs.Prelude.{◌≡◌, ◌≤◌, ◌++◌, ◌||◌, ℕ, List, Bool, false, length, OnOk};
 ghost use Rattle.rbc_model.specs.Sessions.{Prints};
 ghost use Rattle.rbc_fields.specs.declared.fields.Item.{Item};
-ghost use Rattle.rbc_fields.specs.Parts.{parts_text};
+ghost use Rattle.rbc_fields.specs.Parts.{parts_text, Hands};
 
 use crate::fields::Item;
-use rbc_streams::{Sink, WriteFailed};
+use crate::sheet::{ROOM, Sheet};
+use rbc_streams::{Sink, WriteFailed, put};
+
+/// How many bytes may be printed of a field.
+const LONGEST_PART: usize = 128;
 
 /// What is printed of a field.
 pub(crate) trait Part {
@@ -20,10 +24,10 @@ pub(crate) trait Part {
     fn is_told(item: &Item) -> bool
         ensures { result ≡ told item.now };
 
-    /// Writes what is printed of a field, by whether one before it was told.
-    fn print<W: Sink>(item: &Item, later: bool, writer: &mut W) -> Result<(), WriteFailed>
-        requires { W.failed writer.old ≡ false }
-        ensures { Prints (W.written writer.old) (W.written writer.new) (W.failed writer.new) (text later item.now) result };
+    /// Puts what is printed of a field behind a text, by whether one before it was told.
+    fn gather(item: &Item, later: bool, sheet: &mut Sheet)
+        requires { length sheet.old ≤ 896 }
+        ensures { sheet.new ≡ sheet.old ++ text later item.now };
 }
 
 /// Writes of each field what is printed of it.
@@ -36,9 +40,26 @@ pub(crate) fn print_parts<P: Part, W: Sink>(
         (parts_text P.told P.text false items.now) result }
 {
     let mut later = false;
+    let mut sheet = Sheet::new();
     for item in items {
-        P::print(item, later, writer)?;
+        make_room(&mut sheet, writer)?;
+        P::gather(item, later, &mut sheet);
         later = either(later, P::is_told(item));
+    }
+    put(writer, sheet.bytes())
+}
+
+/// Writes what was gathered, where there is no room for a further part.
+#[inline(always)]
+fn make_room<W: Sink>(sheet: &mut Sheet, writer: &mut W) -> Result<(), WriteFailed>
+    requires { W.failed writer.old ≡ false }
+    ensures room { OnOk result (length sheet.new ≤ 896) }
+    ensures handed { Hands (W.written writer.old) (W.written writer.new) (W.failed writer.new)
+        sheet.old sheet.new result }
+{
+    if sheet.len() > ROOM - LONGEST_PART {
+        put(writer, sheet.bytes())?;
+        sheet.clear();
     }
     Ok(())
 }

@@ -30,6 +30,7 @@ pub enum Said {
 }
 
 /// What a field says, if it says something by itself.
+#[inline(always)]
 pub(crate) fn said_in(item: &Item) -> Option<Said>
     ensures { result ≡ said_in item.now }
 {

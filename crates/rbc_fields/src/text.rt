@@ -1,12 +1,10 @@
 //! What is printed of the fields of a message.
 
-ghost use Rattle.std.specs.Prelude.{◌≡◌, ◌≤◌, ◌++◌, ◌∷◌, [], false, decimal, codes, length};
+ghost use Rattle.std.specs.Prelude.{◌≡◌, ◌+◌, ◌≤◌, ◌++◌, ◌∷◌, [], false, decimal, codes, length};
 ghost use Rattle.rbc_model.specs.Sessions.{Prints};
 ghost use Rattle.rbc_fields.specs.declared.said.Said.TheVariants.{Nominal, Grade, Speed};
-ghost use Rattle.rbc_fields.specs.Parts.{parts_text};
 ghost use Rattle.rbc_fields.specs.Readings.{read_as};
-ghost use Rattle.rbc_fields.specs.Said.{said_in};
-ghost use Rattle.rbc_fields.specs.Texts.{name_text, field_start, field_line, row_text, head_text, item_text, said_text};
+ghost use Rattle.rbc_fields.specs.Texts.{name_text, field_line, row_text, head_text, said_text};
 ghost use Rattle.rbc_fields.specs.Texts.{fault_text, place_text, measure_text, found_line, said_line};
 ghost use Rattle.rbc_fields.specs.Texts.{outcome_text, reading_text};
 
@@ -15,9 +13,10 @@ use crate::names::{field_start, name_text};
 use crate::parts::{Part, print_parts};
 use crate::row::Row;
 use crate::said::{Said, said_in};
+use crate::sheet::Sheet;
 use rbc_model::{Fault, FieldName};
 use rbc_streams::{Sink, WriteFailed, put};
-use rbc_words::{Gathered, Word, print_last, print_line, print_number};
+use rbc_words::{Word, print_line};
 
 /// The fields, a line each.
 struct FieldLines;
@@ -34,8 +33,9 @@ impl Part for FieldLines {
         true
     }
 
-    fn print<W: Sink>(item: &Item, _later: bool, writer: &mut W) -> Result<(), WriteFailed> {
-        print_item(item, writer)
+    fn gather(item: &Item, _later: bool, sheet: &mut Sheet) {
+        gather_head(item, sheet);
+        gather_field(item.name, item.value, sheet);
     }
 }
 
@@ -55,10 +55,9 @@ impl Part for Words {
         true
     }
 
-    fn print<W: Sink>(item: &Item, _later: bool, writer: &mut W) -> Result<(), WriteFailed> {
-        match said_in(item) {
-            Some(said) => print_said(&said, writer),
-            None => Ok(()),
+    fn gather(item: &Item, _later: bool, sheet: &mut Sheet) {
+        if let Some(said) = said_in(item) {
+            gather_said(&said, sheet);
         }
     }
 }
@@ -96,37 +95,22 @@ pub(crate) fn print_reading<W: Sink>(
     print_outcome(items, found, writer)
 }
 
-/// Writes a field, behind the line of what begins with it.
-fn print_item<W: Sink>(item: &Item, writer: &mut W) -> Result<(), WriteFailed>
-    requires { W.failed writer.old ≡ false }
-    ensures { Prints (W.written writer.old) (W.written writer.new) (W.failed writer.new) (item_text item.now) result }
-{
-    print_head(item, writer)?;
-    print_field(item.name, item.value, writer)
-}
-
-/// Writes the line of the message or packet that begins with the field, if one does.
-fn print_head<W: Sink>(item: &Item, writer: &mut W) -> Result<(), WriteFailed>
-    requires { W.failed writer.old ≡ false }
-    ensures { Prints (W.written writer.old) (W.written writer.new) (W.failed writer.new) (head_text item.now) result }
+/// Puts the line of the message or packet that begins with the field behind a text, if one does.
+fn gather_head(item: &Item, sheet: &mut Sheet)
+    requires { length sheet.old ≤ 896 }
+    ensures text { sheet.new ≡ sheet.old ++ head_text item.now }
+    ensures length { length sheet.new ≤ length sheet.old + 10 }
 {
     if item.walk.index == 0 {
-        return print_row(item.row, writer);
+        sheet.text(row_text(item.row));
     }
-    Ok(())
-}
-
-fn print_row<W: Sink>(row: Row, writer: &mut W) -> Result<(), WriteFailed>
-    requires { W.failed writer.old ≡ false }
-    ensures { Prints (W.written writer.old) (W.written writer.new) (W.failed writer.new) (row_text row) result }
-{
-    put(writer, row_text(row))
 }
 
 /// The line of the message or packet that begins with this row, if one does.
 #[tactic(auto, unfolding(crate::specs::Texts::digits))]
 fn row_text(row: Row) -> &'static [u8]
-    ensures { result.now ≡ row_text row }
+    ensures text { result.now ≡ row_text row }
+    ensures short { length result.now ≤ 10 }
 {
     match row {
         Row::Header => b"message\n",
@@ -137,45 +121,55 @@ fn row_text(row: Row) -> &'static [u8]
     }
 }
 
-/// Writes the line of a field: its name, its width in bits, and its value.
-fn print_field<W: Sink>(name: FieldName, value: u32, writer: &mut W) -> Result<(), WriteFailed>
-    requires { W.failed writer.old ≡ false }
-    ensures { Prints (W.written writer.old) (W.written writer.new) (W.failed writer.new) (field_line name value) result }
+/// Puts the line of a field behind a text: its name, its width in bits, and its value.
+fn gather_field(name: FieldName, value: u32, sheet: &mut Sheet)
+    requires { length sheet.old ≤ 960 }
+    ensures { sheet.new ≡ sheet.old ++ field_line name value }
 {
-    let mut line = Gathered::new();
-    line.byte(b'\n');
-    line.number(u64::from(value));
-    line.text(field_start(name));
-    put(writer, line.bytes())
+    let (start, count) = field_start(name);
+    sheet.front(start, count);
+    sheet.number(u64::from(value));
+    sheet.byte(b'\n');
 }
 
-/// Writes what is said in words.
-fn print_said<W: Sink>(said: &Said, writer: &mut W) -> Result<(), WriteFailed>
-    requires { W.failed writer.old ≡ false }
-    ensures { Prints (W.written writer.old) (W.written writer.new) (W.failed writer.new) (said_text said.now) result }
+/// Puts a name and the number at its end behind a text, as the end of a line.
+fn gather_last(name: &[u8], number: u64, sheet: &mut Sheet)
+    requires short { length name.now ≤ 20 }
+    requires room { length sheet.old ≤ 960 }
+    ensures { sheet.new ≡ sheet.old ++ (name.now ++ (decimal number ++ 10 ∷ [])) }
+{
+    sheet.text(name);
+    sheet.number(number);
+    sheet.byte(b'\n');
+}
+
+/// Puts what is said, in words, behind a text.
+fn gather_said(said: &Said, sheet: &mut Sheet)
+    requires { length sheet.old ≤ 896 }
+    ensures { sheet.new ≡ sheet.old ++ said_text said.now }
 {
     match *said {
-        Said::Time(time) => print_last(b"time ", u64::from(time), writer),
-        Said::Country(country) => print_country(country, writer),
-        Said::Group(number) => print_last(b"/", u64::from(number), writer),
-        Said::Nominal(nominal) => put(writer, direction_line(nominal)),
-        Said::End(metres) => print_last(b"end ", metres, writer),
-        Said::Grade(from, per_mille) => print_grade(from, per_mille, writer),
-        Said::Speed(from, kmh) => print_speed(from, kmh, writer),
+        Said::Time(time) => gather_last(b"time ", u64::from(time), sheet),
+        Said::Country(country) => gather_country(country, sheet),
+        Said::Group(number) => gather_last(b"/", u64::from(number), sheet),
+        Said::Nominal(nominal) => sheet.text(direction_line(nominal)),
+        Said::End(metres) => gather_last(b"end ", metres, sheet),
+        Said::Grade(from, per_mille) => gather_grade(from, per_mille, sheet),
+        Said::Speed(from, kmh) => gather_speed(from, kmh, sheet),
     }
 }
 
-fn print_country<W: Sink>(country: u32, writer: &mut W) -> Result<(), WriteFailed>
-    requires { W.failed writer.old ≡ false }
-    ensures { Prints (W.written writer.old) (W.written writer.new) (W.failed writer.new)
-        (codes "group " ++ decimal country) result }
+fn gather_country(country: u32, sheet: &mut Sheet)
+    requires { length sheet.old ≤ 896 }
+    ensures { sheet.new ≡ sheet.old ++ (codes "group " ++ decimal country) }
 {
-    put(writer, b"group ")?;
-    print_number(u64::from(country), writer)
+    sheet.text(b"group ");
+    sheet.number(u64::from(country));
 }
 
 fn direction_line(nominal: bool) -> &'static [u8]
-    ensures { result.now ≡ said_text (Nominal nominal) }
+    ensures text { result.now ≡ said_text (Nominal nominal) }
+    ensures short { length result.now ≤ 20 }
 {
     if nominal {
         b"direction nominal\n"
@@ -184,32 +178,26 @@ fn direction_line(nominal: bool) -> &'static [u8]
     }
 }
 
-fn print_grade<W: Sink>(from: u64, per_mille: i64, writer: &mut W) -> Result<(), WriteFailed>
-    requires { W.failed writer.old ≡ false }
-    ensures { Prints (W.written writer.old) (W.written writer.new) (W.failed writer.new)
-        (said_text (Grade from per_mille)) result }
+fn gather_grade(from: u64, per_mille: i64, sheet: &mut Sheet)
+    requires { length sheet.old ≤ 896 }
+    ensures { sheet.new ≡ sheet.old ++ said_text (Grade from per_mille) }
 {
-    let mut line = Gathered::new();
-    line.byte(b'\n');
-    line.signed(per_mille);
-    line.byte(b' ');
-    line.number(from);
-    line.text(b"grade ");
-    put(writer, line.bytes())
+    sheet.text(b"grade ");
+    sheet.number(from);
+    sheet.byte(b' ');
+    sheet.signed(per_mille);
+    sheet.byte(b'\n');
 }
 
-fn print_speed<W: Sink>(from: u64, kmh: u64, writer: &mut W) -> Result<(), WriteFailed>
-    requires { W.failed writer.old ≡ false }
-    ensures { Prints (W.written writer.old) (W.written writer.new) (W.failed writer.new)
-        (said_text (Speed from kmh)) result }
+fn gather_speed(from: u64, kmh: u64, sheet: &mut Sheet)
+    requires { length sheet.old ≤ 896 }
+    ensures { sheet.new ≡ sheet.old ++ said_text (Speed from kmh) }
 {
-    let mut line = Gathered::new();
-    line.byte(b'\n');
-    line.number(kmh);
-    line.byte(b' ');
-    line.number(from);
-    line.text(b"speed ");
-    put(writer, line.bytes())
+    sheet.text(b"speed ");
+    sheet.number(from);
+    sheet.byte(b' ');
+    sheet.number(kmh);
+    sheet.byte(b'\n');
 }
 
 /// Writes what was found where the fields ended.

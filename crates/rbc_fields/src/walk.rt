@@ -1,6 +1,6 @@
 //! The walk from field to field: which one comes next, which values it may have, and what it tells of those after it.
 
-ghost use Rattle.std.specs.Prelude.{◌≡◌, true, false, length};
+ghost use Rattle.std.specs.Prelude.{◌≡◌, true, false, length, Ok, Err, OnOk, OnErr, IfErr};
 ghost use Rattle.rbc_model.specs.Readers.{fault_of};
 ghost use Rattle.rbc_model.specs.Results.{is_from_to};
 ghost use Rattle.rbc_model.specs.Scales.{is_end_at, unit_of_scale};
@@ -87,21 +87,27 @@ impl Walk {
         Some((row, name))
     }
 
-    /// Behind this value of the next field.
+    /// Goes on behind this value of the next field.
     ///
     /// # Errors
     ///
-    /// The fault of the value, and then of a length that it does not fit.
-    pub fn behind(&self, row: Row, name: FieldName, value: u32) -> Result<Walk, Fault>
-        ensures { result ≡ behind self.now row name value }
+    /// The fault of the value, and then of a length that it does not fit. The walk stands where it stood.
+    // It stands apart, so that the walk stays where it is and is changed there.
+    #[inline(never)]
+    pub fn pass(&mut self, row: Row, name: FieldName, value: u32) -> Result<(), Fault>
+        ensures passed { OnOk result (behind self.old row name value ≡ Ok self.new) }
+        ensures fault { IfErr result (λ fault. behind self.old row name value ≡ Err fault) }
+        ensures stays { OnErr result (self.new ≡ self.old) }
     {
         if !self.is_allowed(row, name, value) {
             return Err(fault_of(name));
         }
-        match self.length_fault(row, name, value) {
-            Some(fault) => Err(fault),
-            None => Ok(self.told(row, name, value).moved(row)),
+        if let Some(fault) = self.length_fault(row, name, value) {
+            return Err(fault);
         }
+        self.tell(row, name, value);
+        self.go_on(row);
+        Ok(())
     }
 
     /// Whether the next field may have the value.
@@ -201,24 +207,22 @@ impl Walk {
         }
     }
 
-    /// The walk with what this value of the next field tells.
-    fn told(&self, row: Row, name: FieldName, value: u32) -> Walk
-        ensures { result ≡ told self.now row name value }
+    /// Takes up what this value of the next field tells.
+    fn tell(&mut self, row: Row, name: FieldName, value: u32)
+        ensures { self.new ≡ told self.old row name value }
     {
-        let mut told = *self;
         match name {
-            FieldName::Q_DIR => told.direction = Some(value),
-            FieldName::Q_SCALE => told.scale = Some(value),
-            FieldName::L_PACKET => told.said = value,
-            FieldName::L_ENDSECTION => told.end = Some(value),
+            FieldName::Q_DIR => self.direction = Some(value),
+            FieldName::Q_SCALE => self.scale = Some(value),
+            FieldName::L_PACKET => self.said = value,
+            FieldName::L_ENDSECTION => self.end = Some(value),
             FieldName::D_GRADIENT | FieldName::D_STATIC => {
-                told.from = self.from.saturating_add(value);
+                self.from = self.from.saturating_add(value);
             }
-            FieldName::Q_GDIR => told.uphill = value,
-            FieldName::N_ITER => told.later = self.later_told(row, value),
+            FieldName::Q_GDIR => self.uphill = value,
+            FieldName::N_ITER => self.later = self.later_told(row, value),
             _ => (),
         }
-        told
     }
 
     /// How many steps are left behind the one that is read, where the field may count them.
@@ -247,34 +251,31 @@ impl Walk {
         }
     }
 
-    /// At the field behind the next one.
-    fn moved(&self, row: Row) -> Walk
-        ensures { result ≡ moved self.now row }
+    /// Goes on to the field behind the next one.
+    fn go_on(&mut self, row: Row)
+        ensures { self.new ≡ moved self.old row }
     {
         if self.index < last_index(row) {
-            return Walk {
-                index: self.index + 1,
-                ..*self
-            };
+            self.index += 1;
+        } else {
+            let next = self.row_behind(row);
+            self.enter(next);
         }
-        self.entered(self.row_behind(row))
     }
 
-    /// At the first field of this row.
-    fn entered(&self, row: Option<Row>) -> Walk
-        ensures { result ≡ entered self.now row }
+    /// Goes on to the first field of this row.
+    fn enter(&mut self, row: Option<Row>)
+        ensures { self.new ≡ entered self.old row }
     {
-        let mut entered = *self;
-        entered.row = row;
-        entered.index = 0;
+        self.row = row;
+        self.index = 0;
         match row {
             Some(Row::GradientStep | Row::SpeedStep) => {
-                entered.later = self.later.saturating_sub(1);
+                self.later = self.later.saturating_sub(1);
             }
-            Some(Row::SpeedHead) => entered.from = 0,
+            Some(Row::SpeedHead) => self.from = 0,
             _ => (),
         }
-        entered
     }
 
     /// The row behind this one.

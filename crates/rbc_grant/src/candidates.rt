@@ -6,7 +6,7 @@ ghost use Rattle.rbc_grant_laws.specs.Candidates.{IsCandidateOf};
 ghost use Rattle.rbc_grant.specs.Candidates.{HasChosenProfiles, AreLosses, AreGreatestTables};
 
 use crate::{Losses, PriceTables};
-use rbc_model::Obstacle;
+use rbc_model::{Obstacle, TrainId};
 use rbc_packet::Authority;
 use rbc_reach::View;
 use std::marker::Model;
@@ -60,7 +60,7 @@ impl Candidate {
     }
 
     /// The number of the train that is to be granted the authority.
-    pub fn train(&self) -> u32
+    pub fn train(&self) -> TrainId
         ensures { result ≡ self.now.grant.train }
     {
         self.view.train()

@@ -1,21 +1,18 @@
 -- A grant is the best in a scene just where it is one that its train's view allows.
-use Rattle.std.proofs.Common.{◌≡◌, ℕ, zero, suc, ◌+◌, ◌-◌, ◌<◌, ◌≤◌, max, Bool, true, cond, ◌&&◌, List, [], ◌∷◌, length, take, Option, Some, None, Result, Ok, Err, ℤ, pos, ◌-ℤ◌, refl, ap, ap₂, sym, ◌∙◌, subst, arith, ◌⊎◌, inl, inr, nat_lt, nat_le}
-use Rattle.std.specs.Prelude.{◌==◌, ◌%◌, is_ok, is_some, IsTrue, unwrap_or}
+use Rattle.std.proofs.Common.{◌≡◌, ℕ, zero, suc, ◌+◌, ◌-◌, ◌<◌, ◌≤◌, max, Bool, true, cond, ◌&&◌, List, [], ◌∷◌, length, take, Option, Some, None, Result, Ok, Err, refl, ap, sym, ◌∙◌, subst, arith, ◌⊎◌, inl, inr, nat_lt}
+use Rattle.std.specs.Prelude.{◌==◌, is_ok, is_some, IsTrue, unwrap_or}
 use Rattle.std.specs.Option.{option_map_or}
-use Rattle.std.proofs.lemmas.Bool.{leb-true, lt-ltb, eqb-true, and_from, or_cases}
+use Rattle.std.proofs.lemmas.Bool.{lt-ltb, eqb-true, and_from}
 use Rattle.rbc_model.specs.declared.refusals.Obstacle.{Obstacle}
 use Rattle.rbc_model.specs.declared.refusals.Obstacle.TheVariants.{Own}
 use Rattle.rbc_model.specs.declared.refusals.Refusal.{Refusal}
 use Rattle.rbc_model.specs.declared.refusals.Refusal.TheVariants.{UnknownTrain, NotSafe}
 use Rattle.rbc_model.specs.declared.refusals.ViewFault.{ViewFault}
 use Rattle.rbc_model.specs.declared.refusals.ViewFault.TheVariants.{UnknownTrain as NoTrain, Blocked}
-use Rattle.rbc_model.specs.declared.places.Format.{Format}
-use Rattle.rbc_model.specs.declared.places.Format.TheVariants.{Near, Far}
 use Rattle.rbc_model.specs.declared.places.Leg.{Leg}
-use Rattle.rbc_model.specs.Results.{is_from_to}
 use Rattle.rbc_model.specs.Scales.{is_expressible, unit_of}
 use Rattle.rbc_model.specs.Levels.{speed_levels, grade_levels}
-use Rattle.rbc_model.specs.Profiles.{value_at, runs_over, IsBestProfile}
+use Rattle.rbc_model.specs.Profiles.{value_at, runs_over}
 use Rattle.rbc_model.specs.Tracks.{Track}
 use Rattle.rbc_model.specs.SoundTracks.{IsInForm}
 use Rattle.rbc_model.specs.Lines.{Line, line_length, last_leg, legs_begun_before, speeds_from, grades_from, speeds, grades}
@@ -28,23 +25,18 @@ use Rattle.rbc_model.specs.Events.{step, with_train, with_authority, line_to}
 use Rattle.rbc_model.specs.declared.reports.Event.TheVariants.{Grant}
 use Rattle.rbc_model.specs.Histories.{Entry, Granted, Grants, Stops, IsBestFor, IsBest, MayFollow, replay}
 use Rattle.rbc_model.proofs.ScanLemmas.{IsLast, filter-numbers, le_or_lt}
-use Rattle.rbc_model.proofs.EndLemmas.{IsStopped, IsGreatestEnd, IsGreatestEnd-greatest_end, none_safe-greatest_end, is_safe-IsSafe, le_reach-IsSafe, reach-le, obstacle-before_reach}
+use Rattle.rbc_model.proofs.EndLemmas.{IsStopped, IsGreatestEnd, IsGreatestEnd-greatest_end, none_safe-greatest_end, is_safe-IsSafe, le_reach-IsSafe, reach-le, reach-EndsFarthest, obstacle-before_reach}
 use Rattle.rbc_model.proofs.StopLemmas.{IsStopped-reach}
 use Rattle.rbc_model.proofs.RunLemmas.{value_at-runs_over}
 use Rattle.rbc_model.proofs.LevelLemmas.{speed_lawful, grade_lawful}
-use Rattle.rbc_grant_laws.specs.Candidates.{IsCandidateOf, TellTheSame}
-use Rattle.rbc_grant_laws.proofs.BasicLemmas.{and_left, and_right, the_some, find-passes}
+use Rattle.rbc_grant_laws.specs.Candidates.{IsCandidateOf}
 use Rattle.rbc_grant_laws.proofs.CoveredLemmas.{speeds_are_covered, grades_are_covered, IsBestProfile-agree}
+use Rattle.std.specs.Cmp.{second_so}
+use Rattle.std.proofs.lemmas.Option.{same_Some}
+use Rattle.rbc_model.proofs.BasicLemmas.{find-passes}
+use Rattle.rbc_model.proofs.ScaleLemmas.{expressible_some}
 
 -- ---- distances that a message can give
-
-expressible_some : (format : Format) (distance : ℕ) → is_expressible format distance ≡ true → 0 < distance
-expressible_some Near distance h = let low = leb-true 1 distance (and_left (nat_le 1 distance) (nat_le distance 32000) h) in omega arith
-expressible_some Far distance h =
-    elim (or_cases (is_from_to 1 32000 distance) (is_from_to 32010 80000 distance && distance % 10 == 0) h) [
-      | inl e ↦ let low = leb-true 1 distance (and_left (nat_le 1 distance) (nat_le distance 32000) e) in omega arith
-      | inr e ↦ let low = leb-true 32010 distance (and_left (nat_le 32010 distance) (nat_le distance 80000) (and_left (is_from_to 32010 80000 distance) (distance % 10 == 0) e)) in omega arith
-    ]
 
 expressible_at : (track : Track) (train : Train) (farther : ℕ) → is_expressible track.format farther ≡ true → is_expressible_end track train (train.origin + farther) ≡ true
 expressible_at track train farther h =
@@ -55,7 +47,7 @@ expressible_at track train farther h =
 expressible_from : (track : Track) (train : Train) (end : ℕ) → is_expressible_end track train (train.origin + end) ≡ true → is_expressible track.format end ≡ true
 expressible_from track train end h =
     subst (λ k. is_expressible track.format k ≡ true) (let e : train.origin + end - train.origin ≡ end = omega arith in e)
-    (and_right (nat_lt train.origin (train.origin + end)) (is_expressible track.format (train.origin + end - train.origin)) h)
+    (second_so (nat_lt train.origin (train.origin + end)) (is_expressible track.format (train.origin + end - train.origin)) h)
 
 -- ---- a train that has a greatest end stands before its reach, and is stopped there
 
@@ -175,6 +167,7 @@ module _ (track : Track) (scene : Scene) (train : Train) (grant : Grants) (form 
   stops : grant.obstacle ≡ stop track scene train → Stops track scene train grant.authority.end grant.obstacle (reach track scene train)
   stops named = record {
     beyond = at_reach;
+    on_way = reach-le track scene train;
     real = let p = placed in named_there (obstacle track scene train (reach track scene train)) p.stopped ∙ ap Some (sym named);
     first = λ i low high. obstacle-before_reach track scene train i low high;
   }
@@ -189,6 +182,7 @@ module _ (track : Track) (scene : Scene) (train : Train) (grant : Grants) (form 
       expressible = let g = end_is in expressible_from track train grant.authority.end g.expressible;
       safe = let g = end_is in g.safe;
       farthest = none_farther;
+      place = reach track scene train;
       stopped = stops c.obstacle;
     };
     profiles = record {
@@ -203,7 +197,7 @@ module _ (track : Track) (scene : Scene) (train : Train) (grant : Grants) (form 
   candidate_of_best number best = record {
     train = number;
     from = best.from;
-    obstacle = let s = best.ends.stopped in sym (ap (λ o. unwrap_or o Own) s.real);
+    obstacle = let s = best.ends.stopped in sym (ap (λ o. unwrap_or o Own) (ap (obstacle track scene train) (reach-EndsFarthest track scene grant train best.ends) ∙ s.real));
     time = best.time;
     group = best.group;
     direction = best.direction;
@@ -227,7 +221,10 @@ IsBestFor-candidate track scene train v grant form h c =
 
 module _ (track : Track) (scene : Scene) (train : Train) (grant : Grants) (best : IsBestFor track scene grant train) where
   best_stopped : IsStopped track scene train
-  best_stopped none = let s = best.ends.stopped in let e = s.real in cc
+  best_stopped none =
+      let s = best.ends.stopped in
+      let e = ap (obstacle track scene train) (reach-EndsFarthest track scene grant train best.ends) ∙ s.real in
+      cc
 
   best_begins : start_of train ≤ reach track scene train
   best_begins =
@@ -235,6 +232,7 @@ module _ (track : Track) (scene : Scene) (train : Train) (grant : Grants) (best 
       let near = s.beyond in
       let safe = best.ends.safe in
       let front = safe.beyond_front in
+      let there = reach-EndsFarthest track scene grant train best.ends in
       omega arith
 
   best_told : is_expressible_end track train (train.origin + grant.authority.end) ≡ true
@@ -268,6 +266,7 @@ module _ (track : Track) (scene : Scene) (train : Train) (grant : Grants) (best 
       let safe = best.ends.safe in
       let front = safe.beyond_front in
       let keeps = safe.takes_none_back in
+      let there = reach-EndsFarthest track scene grant train best.ends in
       best.ends.farthest farther told beyond (record {
         beyond_front = omega arith;
         takes_none_back = omega arith;
@@ -314,7 +313,7 @@ IsBest-candidate track scene number v grant form h c =
     let there : train_numbered scene grant.train ≡ Some t.train = subst (λ k. train_numbered scene k ≡ Some t.train) same t.there in
     record {
       train_is_there = ap is_some there;
-      best = λ train also. subst (IsBestFor track scene grant) (the_some t.train train (sym there ∙ also)) (IsBestFor-candidate track scene t.train v grant form t.view c);
+      best = λ train also. subst (IsBestFor track scene grant) (same_Some t.train train (sym there ∙ also)) (IsBestFor-candidate track scene t.train v grant form t.view c);
     }
 
 some_there : {X : Type 0} (o : Option X) → is_some o ≡ true → (x : X) × (o ≡ Some x)
@@ -334,49 +333,14 @@ IsBest-same_view track before after grant form same best =
     let s = candidate-IsBest track before grant form best in
     IsBest-candidate track after grant.train s.0 grant form (sym same ∙ s.1) s.2
 
--- where there is no view, no grant is the best
-pub no_best-refused : (track : Track) (scene : Scene) (grant : Grants) (fault : ViewFault) → IsInForm track → view track scene grant.train ≡ Err fault → IsBest track scene grant → ⊥
-no_best-refused track scene grant fault form h best =
-    let s = candidate-IsBest track scene grant form best in
-    let e = s.1 in
-    cc
-
 pub the_ok : (a b : View) → (let r : Result View ViewFault = Ok a in r) ≡ Ok b → a ≡ b
 the_ok a b h = cc
-
--- views that tell the same allow the same
-pub candidate-same : (a b : View) (grant : Grants) → TellTheSame a b → IsCandidateOf a grant → IsCandidateOf b grant
-candidate-same a b grant same c =
-    let origin = same.origin in
-    let far = same.end in
-    let ahead = c.ahead in
-    let end = c.end in
-    record {
-      train = c.train ∙ same.train;
-      from = c.from ∙ ap₂ (λ x y. pos x -ℤ pos y) same.start same.origin;
-      obstacle = c.obstacle ∙ same.obstacle;
-      time = c.time ∙ same.time;
-      group = c.group ∙ same.group;
-      direction = c.direction ∙ same.nominal;
-      ahead = omega arith;
-      end = omega arith;
-      speeds = subst (λ (runs : List (ℕ × ℕ)). IsBestProfile speed_levels (unit_of grant.authority.end) b.speed_steps grant.authority.end (value_at runs) grant.authority.speeds) same.speeds
-          (subst (λ k. IsBestProfile speed_levels (unit_of grant.authority.end) k grant.authority.end (value_at a.speeds) grant.authority.speeds) same.speed_steps c.speeds);
-      grades = subst (λ (runs : List (ℕ × ℤ)). IsBestProfile grade_levels (unit_of grant.authority.end) b.grade_steps grant.authority.end (value_at runs) grant.authority.grades) same.grades
-          (subst (λ k. IsBestProfile grade_levels (unit_of grant.authority.end) k grant.authority.end (value_at a.grades) grant.authority.grades) same.grade_steps c.grades);
-    }
-
-pub IsBest-same_told : (track : Track) (before after : Scene) (number : ℕ) (a b : View) (grant : Grants) → IsInForm track → view track before grant.train ≡ Ok a → view track after number ≡ Ok b → TellTheSame a b → IsBest track before grant → IsBest track after grant
-IsBest-same_told track before after number a b grant form was is same best =
-    let s = candidate-IsBest track before grant form best in
-    let c : IsCandidateOf a grant = subst (λ (w : View). IsCandidateOf w grant) (let e : s.0 ≡ a = the_ok s.0 a (sym s.1 ∙ was) in e) s.2 in
-    IsBest-candidate track after number b grant form is (candidate-same a b grant same c)
 
 -- ---- what is best is accepted, so it may follow
 
 accepted_by : (o : Option Train) (train : Train) (answer : Train → Result Scene Refusal) (e : Refusal) → o ≡ Some train → is_ok (answer train) ≡ true → is_ok (option_map_or answer o (Err e)) ≡ true
 accepted_by None train answer e h k = cc
-accepted_by (Some t) train answer e h k = subst (λ z. is_ok (answer z) ≡ true) (sym (the_some t train h)) k
+accepted_by (Some t) train answer e h k = subst (λ z. is_ok (answer z) ≡ true) (sym (same_Some t train h)) k
 
 ok_if : (b : Bool) (x : Scene) → b ≡ true → is_ok (cond b (Ok x) (Err NotSafe)) ≡ true
 ok_if b x h = rw h refl
@@ -408,3 +372,10 @@ is_ok-candidate track scene number v grant form h c = is_ok-best track scene gra
 pub MayFollow-candidate : (track : Track) (before : List Entry) (scene : Scene) (number : ℕ) (v : View) (grant : Grants) → IsInForm track → replay track before ≡ scene → view track scene number ≡ Ok v → IsCandidateOf v grant → MayFollow track before (Granted grant)
 MayFollow-candidate track before scene number v grant form same h c =
     MayFollow-best track before grant (IsBest-candidate track (replay track before) number v grant form (ap (λ s. view track s number) same ∙ h) c)
+
+-- ---- where the obstacle stands
+
+pub stops_at_reach : (track : Track) (scene : Scene) (train : Train) (grant : Grants) → IsBestFor track scene grant train
+    → Stops track scene train grant.authority.end grant.obstacle (reach track scene train)
+stops_at_reach track scene train grant best =
+    subst (Stops track scene train grant.authority.end grant.obstacle) (sym (reach-EndsFarthest track scene grant train best.ends)) best.ends.stopped

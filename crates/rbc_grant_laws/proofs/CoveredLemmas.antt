@@ -1,11 +1,10 @@
 -- Each metre of a line has a speed and a gradient in range, and a profile is best for each track that agrees below the end.
-use Rattle.std.proofs.Common.{◌≡◌, ℕ, zero, suc, ◌+◌, ◌-◌, ◌<◌, ◌≤◌, Bool, true, false, cond, List, [], ◌∷◌, Option, Some, None, ℤ, pos, negsuc, refl, ap, ap₂, sym, ◌∙◌, subst, arith, ◌⊎◌, inl, inr, nat_le, nat_lt, int_le}
+use Rattle.std.proofs.Common.{◌≡◌, ℕ, zero, suc, ◌+◌, ◌-◌, ◌<◌, ◌≤◌, Bool, true, false, cond, List, [], ◌∷◌, Option, Some, None, ℤ, pos, negsuc, refl, ap, ap₂, sym, ◌∙◌, subst, arith, ◌⊎◌, inl, inr, nat_le, int_le}
 use Rattle.std.specs.Prelude.{◌==◌, option_map, option_and_then, slice_get, neg_ℤ}
 use Rattle.std.specs.Option.{option_or, option_flatten, option_map_or}
 use Rattle.std.specs.List.{AllByRecursion, list_all}
-use Rattle.std.proofs.lemmas.Bool.{leb-true, le-leb, eqb-true, lt-ltb, le-ltb, and_from}
+use Rattle.std.proofs.lemmas.Bool.{leb-true, le-leb, eqb-true, and_from}
 use Rattle.std.proofs.lemmas.List.Elements.{recursion_from_All}
-use Rattle.std.proofs.lemmas.List.Sums.{sum_by-cons}
 use Rattle.rbc_model.specs.declared.places.Metre.{Metre}
 use Rattle.rbc_model.specs.declared.places.Leg.{Leg}
 use Rattle.rbc_model.specs.declared.places.Direction.{Direction}
@@ -18,7 +17,10 @@ use Rattle.rbc_model.specs.Lines.{Line, at_place, line_length, metre_speed, metr
 use Rattle.rbc_model.proofs.RunLemmas.{IsCovered}
 use Rattle.rbc_model.proofs.ScanLemmas.{le_or_lt}
 use Rattle.rbc_model.proofs.LevelLemmas.{speed_lawful, grade_lawful}
-use Rattle.rbc_grant_laws.proofs.BasicLemmas.{and_left, and_right, the_some}
+use Rattle.std.specs.Cmp.{first_so, second_so}
+use Rattle.std.proofs.lemmas.Option.{same_Some}
+use Rattle.rbc_model.proofs.BasicLemmas.{if_in, if_past}
+use Rattle.rbc_model.proofs.MetreLemmas.{line_length-cons, metre_of_leg-of_track}
 
 -- ---- a track's value at a metre
 
@@ -35,8 +37,8 @@ module _ {V : Type 0} (levels : Levels V) where
   value_in_range [] x v h e = cc
   value_in_range (s ∷ steps) x v h e =
       elim (later_or (value_at steps x) (nat_le s.0 x) s.1 v e) [
-        | inl later ↦ value_in_range steps x v (and_right (levels.in_range s.1) (list_all (λ (t : ℕ × V). levels.in_range t.1) steps) h) later
-        | inr here ↦ subst (IsInRange levels) here (and_left (levels.in_range s.1) (list_all (λ (t : ℕ × V). levels.in_range t.1) steps) h)
+        | inl later ↦ value_in_range steps x v (second_so (levels.in_range s.1) (list_all (λ (t : ℕ × V). levels.in_range t.1) steps) h) later
+        | inr here ↦ subst (IsInRange levels) here (first_so (levels.in_range s.1) (list_all (λ (t : ℕ × V). levels.in_range t.1) steps) h)
       ]
 
   some_or : (o : Option V) (b : Bool) (here : V) → b ≡ true → (v : V) × (option_or o (cond b (Some here) None) ≡ Some v)
@@ -47,7 +49,7 @@ module _ {V : Type 0} (levels : Levels V) where
   value_there : (steps : List (ℕ × V)) (x : ℕ) → rises_from_zero (starts_of steps) ≡ true → (v : V) × (value_at steps x ≡ Some v)
   value_there [] x h = cc
   value_there (s ∷ steps) x h =
-      let zero_first = eqb-true s.0 0 (and_left (s.0 == 0) (rises_above 0 (starts_of steps)) h) in
+      let zero_first = eqb-true s.0 0 (first_so (s.0 == 0) (rises_above 0 (starts_of steps)) h) in
       some_or (value_at steps x) (nat_le s.0 x) s.1 (le-leb s.0 x (omega arith))
 
   track_value : (n : ℕ) (runs : List (ℕ × V)) (x : ℕ) → IsTrackFunction levels n runs → HasValue (value_at runs x)
@@ -59,7 +61,7 @@ module _ {V : Type 0} (levels : Levels V) where
 
 each_at : {X : Type 0} (P : X → Type 0) (xs : List X) (k : ℕ) (x : X) → AllByRecursion P xs → slice_get xs k ≡ Some x → P x
 each_at P [] k x h e = cc
-each_at P (y ∷ xs) zero x h e = subst P (the_some y x e) h.0
+each_at P (y ∷ xs) zero x h e = subst P (same_Some y x e) h.0
 each_at P (y ∷ xs) (suc k) x h e = each_at P xs k x h.1 e
 
 -- the section of a metre
@@ -89,30 +91,14 @@ grade_there track metre form h =
 -- a gradient that is negated stays in range
 negated_in_range : (g : ℤ) → IsInRange grade_levels g → IsInRange grade_levels (neg_ℤ g)
 negated_in_range (pos zero) h = refl
-negated_in_range (pos (suc n)) h = and_from (nat_le n 253) true (le-leb n 253 (let up = leb-true (suc n) 254 (and_right (int_le (negsuc 253) (pos (suc n))) (int_le (pos (suc n)) (pos 254)) h) in omega arith)) refl
-negated_in_range (negsuc n) h = and_from true (nat_le (suc n) 254) refl (le-leb (suc n) 254 (let down = leb-true n 253 (and_left (int_le (negsuc 253) (negsuc n)) (int_le (negsuc n) (pos 254)) h) in omega arith))
+negated_in_range (pos (suc n)) h = and_from (nat_le n 253) true (le-leb n 253 (let up = leb-true (suc n) 254 (second_so (int_le (negsuc 253) (pos (suc n))) (int_le (pos (suc n)) (pos 254)) h) in omega arith)) refl
+negated_in_range (negsuc n) h = and_from true (nat_le (suc n) 254) refl (le-leb (suc n) 254 (let down = leb-true n 253 (first_so (int_le (negsuc 253) (negsuc n)) (int_le (negsuc n) (pos 254)) h) in omega arith))
 
 met_in_range : (d : Direction) (g : ℤ) → IsInRange grade_levels g → IsInRange grade_levels (met d g)
 met_in_range Rising g h = h
 met_in_range Falling g h = negated_in_range g h
 
 -- ---- and at a place
-
-if_in : {X : Type 0} (x y : X) (k n : ℕ) → k < n → cond (nat_lt k n) x y ≡ x
-if_in x y k n h = rw (lt-ltb k n h) refl
-
-if_past : {X : Type 0} (x y : X) (k n : ℕ) → n ≤ k → cond (nat_lt k n) x y ≡ y
-if_past x y k n h = rw (le-ltb k n h) refl
-
-line_length-cons : (track : Track) (leg : Leg) (line : Line) → line_length track (leg ∷ line) ≡ metres_of track leg.section + line_length track line
-line_length-cons track leg line = sum_by-cons (λ (l : Leg). metres_of track l.section) leg line
-
-metre_of_leg-of_track : (track : Track) (leg : Leg) (k : ℕ) → k < metres_of track leg.section → IsMetreOf track (metre_of_leg track leg k)
-metre_of_leg-of_track track leg k h = by_direction leg.direction
-  where
-    by_direction : (d : Direction) → IsMetreOf track (metre_of_leg track (record { section = leg.section; direction = d }) k)
-    by_direction Rising = h
-    by_direction Falling = omega arith
 
 -- what is said at a place of the line is said of a leg, and of a number of metres that the leg has
 at_place-some : {X : Type 0} (say : Leg → ℕ → X) (track : Track) (line : Line) (i : ℕ) → i < line_length track line → (leg : Leg) × (k : ℕ) × (at_place say track line i ≡ Some (say leg k)) × (k < metres_of track leg.section)

@@ -1,3 +1,2 @@
-pub mod BasicLemmas
 pub mod CoveredLemmas
 pub mod CandidateLemmas

@@ -1,14 +1,13 @@
 -- A journal after a commit.
-use Rattle.std.proofs.Common.{◌≡◌, inl, ℕ, ◌+◌, ◌^◌, ◌<◌, ◌≤◌, List, [], ◌∷◌, ◌++◌, length, All, Result, Ok, Err, refl, sym, ◌∙◌, ap, subst, arith, length-append, vec_len}
+use Rattle.std.proofs.Common.{◌≡◌, ℕ, ◌+◌, ◌^◌, ◌<◌, ◌≤◌, List, [], ◌∷◌, ◌++◌, length, All, Result, Ok, Err, refl, sym, ◌∙◌, ap, subst, arith, length-append, vec_len}
 use Rattle.std.proofs.lemmas.List.Elements.{All-append}
 use Rattle.std.specs.Result.{OnOk}
-use Rattle.rbc_journal.specs.Device.{Only, LeavesOnly}
-use Rattle.rbc_journal.specs.Journal.{recovered, text, at_rest, behind, staged_in, IsLine, IsBeforeOrAfter}
+use Rattle.rbc_journal.specs.Device.{Only}
+use Rattle.rbc_journal.specs.Journal.{recovered, text, at_rest, behind, staged_in, IsLine}
 use Rattle.rbc_journal.specs.Settled.{IsSettled, staged}
 use Rattle.rbc_journal.specs.declared.journal.Journal.{Journal}
 use Rattle.rbc_journal.proofs.LineLemmas.{are_lines, recovered-at_rest}
 use Rattle.rbc_journal.proofs.CrashLemmas.{all_open}
-use Rattle.rbc_journal.proofs.MomentLemmas.{started}
 
 pub on_ok : {T E P : Type 0} (r : Result T E) → P → OnOk r P
 on_ok (Ok x) p = p
@@ -48,11 +47,3 @@ none_staged pending none = ap staged_in none
 -- what was written for these bytes was written for what was staged
 pub written_for : {file : List ℕ} (lines : List (List ℕ)) (bytes pending : List ℕ) → bytes ≡ pending → file ≡ at_rest (lines ++ staged_in bytes) → file ≡ at_rest (lines ++ staged_in pending)
 written_for lines bytes pending same is = is ∙ ap (λ (l : List ℕ). at_rest (lines ++ staged_in l)) same
-
--- Nothing was asked of the file.
-pub not_asked : {D : Type 0} (seen : D → List ℕ) (may_leave : D → List ℕ → Type 0) (moment : D → ℕ) (left_since : D → ℕ → List ℕ → Type 0)
-    → ((file : D) (c : List ℕ) → left_since file (moment file) c → may_leave file c)
-    → (old new : D) (more : List (List ℕ)) → new ≡ old → Only (seen old) (may_leave old) → LeavesOnly moment left_since old new (IsBeforeOrAfter (recovered (seen old)) more)
-not_asked seen may_leave moment left_since only_now old new more same durable =
-    subst (λ d. LeavesOnly moment left_since old d (IsBeforeOrAfter (recovered (seen old)) more)) (sym same)
-    (started moment left_since old (IsBeforeOrAfter (recovered (seen old)) more) (λ c left. inl (ap recovered (durable c (only_now old c left)))))

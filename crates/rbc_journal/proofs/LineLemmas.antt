@@ -1,6 +1,6 @@
 -- What files of lines stand for.
 use Rattle.std.proofs.Common.{◌≡◌, ◌≢◌, inl, inr, ℕ, ◌+◌, ◌<◌, ◌≤◌, get_or, List, [], ◌∷◌, ◌++◌, length, All, Option, Some, None, take, drop, refl, sym, ◌∙◌, ap, subst, arith, append_assoc}
-use Rattle.std.proofs.lemmas.List.{append-nil, take_more, drop_more, drop_all, take_all}
+use Rattle.std.proofs.lemmas.List.{append-nil, take_more, drop_more}
 use Rattle.std.proofs.lemmas.List.Elements.{All-nil, All-head, All-tail, All-cons, All-append}
 use Rattle.std.proofs.lemmas.Bool.{cases_eq}
 use Rattle.std.proofs.lemmas.Bool.Decides.{nat_tests}
@@ -33,9 +33,6 @@ unfinished front [] is = refl
 unfinished front (byte ∷ line) is = no_feed front line byte (All-head NotFeed byte line is) ∙ unfinished (front ++ byte ∷ []) line (All-tail NotFeed byte line is)
 
 -- ---- from a gate on
-
-pub open_gate : (rest : List ℕ) → recovered (32 ∷ rest) ≡ lines_from (Some []) rest
-open_gate rest = refl
 
 -- a closed gate ends them, whatever stands behind it
 pub closed : (gate : ℕ) (rest : List ℕ) → gate ≢ 32 → recovered (gate ∷ rest) ≡ []
@@ -106,10 +103,3 @@ module _ (bytes : List ℕ) (at : ℕ) (within : at < length bytes) where
 
   pub line_more : get_or bytes at 0 ≢ 10 → IsLine (take at bytes) → IsLine (take (at + 1) bytes)
   line_more differs is = subst IsLine (sym (take_more bytes at 0 within)) (snoc_line (take at bytes) (get_or bytes at 0) is differs)
-
-pub nothing_left : (bytes : List ℕ) (at : ℕ) → length bytes ≤ at → lines_from (Some (take at bytes)) (drop at bytes) ≡ []
-nothing_left bytes at all = ap (λ (l : List ℕ). lines_from (Some (take at bytes)) l) (drop_all at bytes all)
-
--- all of it is one line
-pub whole_line : (bytes : List ℕ) (at : ℕ) → length bytes ≤ at → IsLine (take at bytes) → IsLine bytes
-whole_line bytes at all is = subst IsLine (take_all at bytes all) is

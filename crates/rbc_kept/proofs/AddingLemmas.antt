@@ -22,7 +22,7 @@ use Rattle.rbc_session_laws.specs.Turns.{AnswersAuthority, AnswersLine}
 use Rattle.rbc_session_laws.specs.Answers.{Answer, demand_answer, line_answer}
 use Rattle.rbc_session_laws.proofs.LineLemmas.{lines_are_answered, given_up_adds_none}
 use Rattle.rbc_session_laws.proofs.RetellingLemmas.{entries_are_told_again}
-use Rattle.rbc_kept.specs.Adds.{Adds, Gains, GainsGrant}
+use Rattle.rbc_kept.specs.Adds.{Adds, Gains}
 use Rattle.rbc_kept.specs.Laws.{AreRetold}
 use Rattle.rbc_kept.specs.Tells.{Tells}
 use Rattle.rbc_kept.proofs.TellingLemmas.{Goes as Replays, goes_on}
@@ -66,79 +66,14 @@ shorter : (entries : List Entry) (entry : Entry) → (length entries < length (e
 shorter entries entry no_more = let count = length-append entries (entry ∷ []) in no_more (omega (arith, count))
 
 -- else it has added none
-pub not_grown : (before after : HistoryOnTrack) (line reply : List ℕ) → Goes before line reply after → (length before.entries < length after.entries → ⊥) → after ≡ before
-not_grown before after line reply (None, answers, is) no_more = is ∙ ap (λ entries. record { track = before.track; entries = entries }) (append-nil before.entries)
-not_grown before after line reply (Some entry, answers, is) no_more =
+pub unchanged : (Answers : Track → List Entry → List ℕ → Option Entry → Type 0) (before after : HistoryOnTrack) (reply : List ℕ) → Comes Answers before reply after
+    → (length before.entries < length after.entries → ⊥) → after ≡ before
+unchanged Answers before after reply (None, answers, is) no_more = is ∙ ap (λ entries. record { track = before.track; entries = entries }) (append-nil before.entries)
+unchanged Answers before after reply (Some entry, answers, is) no_more =
     absurd (shorter before.entries entry (λ more. no_more (subst (λ (h : HistoryOnTrack). length before.entries < length h.entries) (sym is) more)))
 
-both : (b : Bool) → b ≡ false → b ≡ true → ⊥
-both b low high = cc
-
-pub gains : (before after : HistoryOnTrack) (line reply : List ℕ) (is_added : Bool) → IsInForm before.track → Goes before line reply after
-    → is_added ≡ nat_lt (length before.entries) (length after.entries) → MatchBool is_added (Gains before line after) (after ≡ before)
-gains before after line reply true form goes is =
-    let g = grown before after line reply goes (ltb-true (length before.entries) (length after.entries) (sym is)) in
-    (g.0, adds_of before.track before.entries line reply g.0 form g.1, g.2)
-gains before after line reply false form goes is =
-    not_grown before after line reply goes (λ more. no_more (length before.entries) (length after.entries) more (sym is))
-  where
-    no_more : (a b : ℕ) → a < b → nat_lt a b ≡ false → ⊥
-    no_more a b less least = both (nat_lt a b) least (lt-ltb a b less)
-
--- by the versions of the record before and after it
-pub gains_at : (before after : HistoryOnTrack) (line reply : List ℕ) (m n : ℕ) → IsInForm before.track → Goes before line reply after → m ≡ length before.entries → n ≡ length after.entries
-    → MatchBool (nat_lt m n) (Gains before line after) (after ≡ before)
-gains_at before after line reply m n form goes first last =
-    subst (λ k. MatchBool (nat_lt k n) (Gains before line after) (after ≡ before)) (sym first)
-    (subst (λ k. MatchBool (nat_lt (length before.entries) k) (Gains before line after) (after ≡ before)) (sym last)
-    (gains before after line reply (nat_lt (length before.entries) (length after.entries)) form goes refl))
-
-not_less : (m n : ℕ) → m < n → nat_lt m n ≡ false → ⊥
-not_less m n less least = both (nat_lt m n) least (lt-ltb m n less)
-
-gains_grant_by : (before after : HistoryOnTrack) (train : ℕ) (reply : List ℕ) (is_added : Bool) → IsInForm before.track
-    → Comes (λ track entries said added. AnswersAuthority track entries said added train) before reply after
-    → is_added ≡ nat_lt (length before.entries) (length after.entries) → MatchBool is_added (GainsGrant before train after) (after ≡ before)
-gains_grant_by before after train reply true form comes is =
-    λ line asks. gains before after line reply true form (line_comes before after line reply (Ok (Authority train)) before.track refl (sym asks) comes) is
-gains_grant_by before after train reply false form (None, answers, same) is = same ∙ ap (λ entries. record { track = before.track; entries = entries }) (append-nil before.entries)
-gains_grant_by before after train reply false form (Some entry, answers, same) is =
-    absurd (shorter before.entries entry (λ more. not_less (length before.entries) (length after.entries) (subst (λ (h : HistoryOnTrack). length before.entries < length h.entries) (sym same) more) (sym is)))
-
-pub gains_grant : (before after : HistoryOnTrack) (train asker : ℕ) (reply : List ℕ) (m n : ℕ) → IsInForm before.track
-    → Comes (λ track entries said added. AnswersAuthority track entries said added train) before reply after → train ≡ asker → m ≡ length before.entries → n ≡ length after.entries
-    → MatchBool (nat_lt m n) (GainsGrant before asker after) (after ≡ before)
-gains_grant before after train asker reply m n form comes same first last =
-    subst (λ k. MatchBool (nat_lt k n) (GainsGrant before asker after) (after ≡ before)) (sym first)
-    (subst (λ k. MatchBool (nat_lt (length before.entries) k) (GainsGrant before asker after) (after ≡ before)) (sym last)
-    (subst (λ t. MatchBool (nat_lt (length before.entries) (length after.entries)) (GainsGrant before t after) (after ≡ before)) same
-    (gains_grant_by before after train reply (nat_lt (length before.entries) (length after.entries)) form comes refl)))
-
--- what was found out is told
-pub told_added : {E : Type 0} (result : Result Bool E) (is_added : Bool) (P : Bool → Type 0) → IfOk result (λ told. told ≡ is_added) → P is_added → IfOk result P
-told_added (Ok told) is_added P is p = subst P (sym is) p
-told_added (Err fault) is_added P is p = tt
-
-pub told_not_added : {E : Type 0} (result : Result Bool E) (is_added : Bool) (X Y : Type 0) → OnErr result (is_added ≡ false) → MatchBool is_added Y X → OnErr result X
-told_not_added (Ok told) is_added X Y is found = tt
-told_not_added (Err fault) is_added X Y is found = subst (λ b. MatchBool b Y X) is found
-
--- a train that asks by a line is granted what it is granted
-pub granted_gains : (before after : HistoryOnTrack) (line : List ℕ) (train : ℕ) (is_added : Bool) → demand_in before.track line ≡ Ok (Authority train)
-    → MatchBool is_added (GainsGrant before train after) (after ≡ before) → MatchBool is_added (Gains before line after) (after ≡ before)
-granted_gains before after line train true asks found = found line asks
-granted_gains before after line train false asks found = found
-
-pub granted_told : {E : Type 0} (result : Result Bool E) (before after : HistoryOnTrack) (line : List ℕ) (train : ℕ) → demand_in before.track line ≡ Ok (Authority train)
-    → IfOk result (λ is_added. MatchBool is_added (GainsGrant before train after) (after ≡ before)) → IfOk result (λ is_added. MatchBool is_added (Gains before line after) (after ≡ before))
-granted_told (Ok told) before after line train asks found = granted_gains before after line train told asks found
-granted_told (Err fault) before after line train asks found = tt
-
-pub gained : (before after : HistoryOnTrack) (line : List ℕ) (is_added : Bool) → is_added ≡ true → MatchBool is_added (Gains before line after) (after ≡ before) → Gains before line after
-gained before after line is_added is found = subst (λ b. MatchBool b (Gains before line after) (after ≡ before)) is found
-
-pub not_gained : (before after : HistoryOnTrack) (line : List ℕ) (is_added : Bool) → is_added ≡ false → MatchBool is_added (Gains before line after) (after ≡ before) → after ≡ before
-not_gained before after line is_added is found = subst (λ b. MatchBool b (Gains before line after) (after ≡ before)) is found
+pub not_grown : (before after : HistoryOnTrack) (line reply : List ℕ) → Goes before line reply after → (length before.entries < length after.entries → ⊥) → after ≡ before
+not_grown before after line reply goes no_more = unchanged (λ track entries said added. AnswersLine track entries line said added) before after reply goes no_more
 
 -- one line more of a file
 pub replays_on : (track : Track) (before after : HistoryOnTrack) (file rest further line : List ℕ) → before.track ≡ track → recovered rest ≡ line ∷ recovered further

@@ -1,6 +1,7 @@
 pub mod TellingLemmas
 mod BetweenLemmas
 pub mod AddingLemmas
+mod FollowingLemmas
 mod SayingLemmas
 mod KeepingLemmas
 mod TalkLemmas

@@ -16,10 +16,10 @@ use Rattle.rbc_model.specs.Tracks.{Track}
 use Rattle.rbc_model.specs.Views.{View, view}
 use Rattle.rbc_model.specs.SessionText.{SessionLine, parse_session, said_line, IsSayable}
 use Rattle.rbc_model.specs.SessionReply.{SessionRefusal, BadLine, refused_reply}
-use Rattle.rbc_replies.specs.Replies.{reply_text}
-use Rattle.rbc_replies.specs.declared.replies.SessionRefusal.TheVariants.{Memory as NoMemory}
-use Rattle.rbc_replies.specs.declared.replies.SessionReply.{SessionReply}
-use Rattle.rbc_replies.specs.declared.replies.SessionReply.TheVariants.{Refused as RefusedReply}
+use Rattle.rbc_server.specs.Replies.{reply_text}
+use Rattle.rbc_server.specs.SessionRefusal.TheVariants.{Memory as NoMemory}
+use Rattle.rbc_server.specs.SessionReply.{SessionReply}
+use Rattle.rbc_server.specs.SessionReply.TheVariants.{Refused as RefusedReply}
 use Rattle.rbc_server.specs.Changes.{Comes, Goes}
 use Rattle.rbc_server.specs.Records.{HistoryOnTrack, scene_now}
 use Rattle.rbc_server.proofs.CentreLemmas.{line_comes, printed_comes, refused_comes}

@@ -1,9 +1,9 @@
 -- Which entry a line adds to the history of a centre.
-use Rattle.std.specs.Prelude.{◌≡◌, ℕ, List, Some, Ok}
+use Rattle.std.specs.Prelude.{◌≡◌, ℕ, Bool, List, Some, None, Ok, MatchBool}
 use Rattle.rbc_model.specs.Tracks.{Track}
 use Rattle.rbc_model.specs.Histories.{Entry}
 use Rattle.rbc_server.specs.Records.{HistoryOnTrack, with_entry}
-use Rattle.rbc_session_laws.specs.declared.demand.Demand.TheVariants.{Authority}
+use Rattle.rbc_session_laws.specs.declared.demand.Demand.{Demand}
 use Rattle.rbc_session_laws.specs.Demands.{demand_in}
 use Rattle.rbc_session_laws.specs.Answers.{line_answer}
 
@@ -15,6 +15,14 @@ Adds track before line entry = (line_answer track before line).added ≡ Some en
 abbrev pub Gains : HistoryOnTrack → List ℕ → HistoryOnTrack → Type 0
 Gains before line after = (entry : Entry) × Adds before.track before.entries line entry × (after ≡ with_entry before entry)
 
--- each line by which this train asks for an authority has
-abbrev pub GainsGrant : HistoryOnTrack → ℕ → HistoryOnTrack → Type 0
-GainsGrant before train after = (line : List ℕ) → demand_in before.track line ≡ Ok (Authority train) → Gains before line after
+-- behind these entries the line adds none
+abbrev pub AddsNone : Track → List Entry → List ℕ → Type 0
+AddsNone track before line = (line_answer track before line).added ≡ None
+
+-- a line was treated, and it is told whether it added an entry
+abbrev pub Follows : Bool → HistoryOnTrack → List ℕ → HistoryOnTrack → Type 0
+Follows is_added before line after = MatchBool is_added (Gains before line after) (AddsNone before.track before.entries line × (after ≡ before))
+
+-- the same of each line that says this
+abbrev pub FollowsSaid : Bool → HistoryOnTrack → Demand → HistoryOnTrack → Type 0
+FollowsSaid is_added before demand after = (line : List ℕ) → demand_in before.track line ≡ Ok demand → Follows is_added before line after

@@ -12,4 +12,7 @@ pub use Rattle.rbc_server.specs.Records
 pub use Rattle.rbc_server.specs.Seats
 pub use Rattle.rbc_server.specs.Sights
 pub use Rattle.rbc_server.specs.declared.serving.ServeFault
-pub use Rattle.rbc_words.specs.SessionLines
+pub use Rattle.rbc_session_laws.specs.Answers
+pub use Rattle.rbc_session_laws.specs.Retelling
+pub use Rattle.rbc_session_laws.specs.SessionRuns
+pub use Rattle.rbc_server.specs.SessionLines

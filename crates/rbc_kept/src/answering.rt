@@ -11,7 +11,7 @@ ghost use Rattle.rbc_model.specs.Views.{view};
 ghost use Rattle.rbc_server.specs.Records.{scene_now};
 ghost use Rattle.rbc_session_laws.specs.declared.demand.Demand.TheVariants.{Event, Authority};
 ghost use Rattle.rbc_session_laws.specs.Demands.{looked_up};
-ghost use Rattle.rbc_words.specs.SessionLines.{request_view};
+ghost use Rattle.rbc_server.specs.SessionLines.{request_view};
 ghost use Rattle.rbc_kept.specs.Kept.{IsGoing};
 ghost use Rattle.rbc_kept.specs.Advances.{Advances, RestsOnly};
 
@@ -19,12 +19,12 @@ use crate::Kept;
 use crate::entry_line::line_text;
 use rbc_journal::Device;
 use rbc_model::limits::LONGEST_LINE;
-use rbc_model::{LineFault, Memory, Told};
-use rbc_replies::{SessionRefusal, SessionReply};
+use rbc_model::{LineFault, Memory, Told, TrainId};
+use rbc_server::replies::{SessionRefusal, SessionReply};
+use rbc_server::words::{Request, parse};
 use rbc_server::{View, candidate, commit, in_vain, looked_up, stopped, tell};
 use rbc_session_laws::Demand;
 use rbc_streams::{Answers, Sink, WriteFailed};
-use rbc_words::{Request, parse};
 use std::alloc::Global;
 use std::thread::Threads;
 
@@ -113,7 +113,10 @@ impl<D: Device> Kept<D> {
         match looked_up(self.history.track(), request) {
             Ok(Demand::Nothing) => self.say(&SessionReply::Nothing, more, writer),
             Ok(Demand::Event(told)) => self.hear(alloc, &request, &told, more, writer),
-            Ok(Demand::Authority(train)) => self.ask(rt, alloc, &request, train, more, writer),
+            Ok(Demand::Authority(number)) => {
+                let train = TrainId::new(number);
+                self.ask(rt, alloc, &request, train, more, writer)
+            }
             Err(refusal) => self.say(&SessionReply::Refused(refusal), more, writer),
         }
     }
@@ -164,7 +167,7 @@ impl<D: Device> Kept<D> {
         rt: &(impl Threads + Sync),
         alloc: Global,
         request: &Request,
-        train: u32,
+        train: TrainId,
         more: bool,
         writer: &mut W,
     ) -> Result<(), WriteFailed>

@@ -4,6 +4,7 @@
 mod answering;
 mod entry_line;
 mod fault;
+mod following;
 mod kept;
 mod laws;
 mod replaying;
@@ -13,8 +14,9 @@ mod text;
 
 pub use entry_line::line_text;
 pub use fault::{KeptFault, RunFault};
+pub use following::follow;
 pub use kept::Kept;
 pub use laws::files_tell_one_history;
 pub use rbc_server as server;
-pub use rbc_words::Request;
+pub use rbc_server::words::Request;
 pub use sessions::run;

@@ -6,14 +6,14 @@ ghost use Rattle.rbc_journal.specs.Device.{LeavesOnly};
 ghost use Rattle.rbc_journal.specs.Journal.{recovered, IsBeforeOrAfter};
 ghost use Rattle.rbc_journal.specs.Settled.{staged, IsSettled};
 ghost use Rattle.rbc_model.specs.Sessions.{Prints};
-ghost use Rattle.rbc_replies.specs.Replies.{reply_text, ReplyIsWhole};
+ghost use Rattle.rbc_server.specs.Replies.{reply_text, ReplyIsWhole};
 ghost use Rattle.rbc_kept.specs.Advances.{Holds, IsSaid, RestsOnly};
 ghost use Rattle.rbc_kept.specs.declared.kept.TheConstants.{MOST_TOGETHER};
 
 use crate::Kept;
 use crate::kept::MOST_TOGETHER;
 use rbc_journal::Device;
-use rbc_replies::{SessionReply, print};
+use rbc_server::replies::{SessionReply, print};
 use rbc_streams::{Sink, WriteFailed, put};
 
 impl<D: Device> Kept<D> {

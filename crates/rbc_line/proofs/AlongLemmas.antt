@@ -1,5 +1,5 @@
 -- The runs of a leg, met one after the other, and the levels of a line from leg to leg.
-use Rattle.std.proofs.Common.{◌≡◌, ℕ, zero, suc, ◌+◌, ◌-◌, ◌<◌, ◌≤◌, ◌⊎◌, inl, inr, true, List, [], ◌∷◌, ◌++◌, length, get_or, take, drop, min, max, Option, Some, None, refl, sym, ap, ◌∙◌, subst, arith, nat_lt, if◌then◌else◌, ap₂, Result, Ok, Err}
+use Rattle.std.proofs.Common.{◌≡◌, ℕ, zero, suc, ◌+◌, ◌-◌, ◌<◌, ◌≤◌, ◌⊎◌, inl, inr, true, List, [], ◌∷◌, ◌++◌, length, get_or, take, drop, min, max, Option, Some, refl, sym, ap, ◌∙◌, subst, arith, nat_lt, if◌then◌else◌, ap₂, Result, Ok, Err}
 use Rattle.std.specs.Prelude.{IfOk, option_map, slice_get}
 use Rattle.std.specs.Option.{option_flatten, option_map_or}
 use Rattle.std.proofs.lemmas.List.{drop_more, take-append-drop}
@@ -11,11 +11,13 @@ use Rattle.rbc_model.specs.Lines.{Line, at_place, line_length, metre_speed, met 
 use Rattle.rbc_model.specs.Profiles.{StepFunction, value_at, starts_of, rises_from_zero, runs_over, with_run}
 use Rattle.rbc_model.specs.Tracks.{Section, Track, metres_of, metre_of_leg}
 use Rattle.rbc_model.proofs.ScanLemmas.{le_or_lt}
-use Rattle.rbc_scene_laws.proofs.SpotLemmas.{at_place-append_right, if_in}
+use Rattle.rbc_scene_laws.proofs.SpotLemmas.{at_place-append_right}
 use Rattle.rbc_steps.proofs.PlaceLemmas.{value_at-index, in_turn, first_at_zero}
 use Rattle.rbc_line.specs.Along.{Tells, level_at, level_on, levels_from}
 use Rattle.rbc_line.proofs.ChangeLemmas.{parts_metres}
 use Rattle.rbc_line.proofs.TellingLemmas.{tells_more}
+use Rattle.rbc_model.proofs.BasicLemmas.{if_in}
+use Rattle.std.proofs.lemmas.Iterator.Adapters.{option_map_id}
 
 next_or_later : (i k : ℕ) → i < k → (k ≡ i + 1) ⊎ (i + 1 < k)
 next_or_later i k h = grind arith
@@ -205,16 +207,12 @@ at_place-same f g track (leg ∷ legs) i same =
     ap (λ x. if nat_lt i (metres_of track leg.section) then Some x else at_place f track legs (i - metres_of track leg.section)) (same leg i)
     ∙ ap (λ o. if nat_lt i (metres_of track leg.section) then Some (g leg i) else o) (at_place-same f g track legs (i - metres_of track leg.section) same)
 
-map-itself : {V : Type 0} (o : Option V) → option_map (λ v. v) o ≡ o
-map-itself None = refl
-map-itself (Some v) = refl
-
 -- a speed is met as it is
 level_at-speed_at : (track : Track) (legs : Line) (i : ℕ) → level_at (λ section. section.speeds) (λ direction speed. speed) track legs i ≡ speed_at track legs i
 level_at-speed_at track legs i =
     ap option_flatten
     (at_place-same (level_on (λ section. section.speeds) (λ direction speed. speed) track) (λ leg k. metre_speed track (metre_of_leg track leg k)) track legs i
-    (λ leg k. map-itself (metre_speed track (metre_of_leg track leg k))))
+    (λ leg k. option_map_id (metre_speed track (metre_of_leg track leg k))))
 
 runs_over-same : {V : Type 0} (levels : Levels V) (n : ℕ) (f g : ℕ → Option V) → ((x : ℕ) → f x ≡ g x) → runs_over levels n f ≡ runs_over levels n g
 runs_over-same levels zero f g same = refl

@@ -9,9 +9,11 @@ use Rattle.rbc_model.specs.Lines.{Line, IsLine, first_leg, has_section, last_leg
 use Rattle.rbc_scene_laws.proofs.BoundLemmas.{line_length-small}
 use Rattle.rbc_scene_laws.proofs.LengtheningLemmas.{linked_from_below, linked_to_below}
 use Rattle.rbc_scene_laws.proofs.OnLineLemmas.{OnLine-IsLine, IsLine-OnLine, OnLine-left, OnLine-right, OnLine-push, OnLine-cons, OnLine-one}
-use Rattle.rbc_scene_laws.proofs.SpotLemmas.{line_length-append, line_length-cons}
+use Rattle.rbc_scene_laws.proofs.SpotLemmas.{line_length-append}
 use Rattle.rbc_line.specs.OnTracks.{IsLineOfLength}
-use Rattle.rbc_line.proofs.LegLemmas.{some_first, some_last}
+use Rattle.rbc_line.proofs.LegLemmas.{some_first}
+use Rattle.rbc_model.proofs.MetreLemmas.{line_length-cons}
+use Rattle.rbc_scene_laws.proofs.GrantingLemmas.{last_there}
 
 module _ (track : Track) where
   -- a line's places fit its type
@@ -25,7 +27,7 @@ module _ (track : Track) where
 
   -- the leg behind the last one is of the track
   pub next_of_track : (legs : Line) (leg : Leg) (total : ℕ) → IsLineOfLength track legs total → ((last : Leg) → last_leg legs ≡ Some last → IsTrue (is_linked track last leg)) → leg.section < length track.sections
-  next_of_track legs leg total l linked = let last = some_last legs l.line.some_leg in linked_to_below track last.0 leg l.sound (linked last.0 last.1)
+  next_of_track legs leg total l linked = let last = last_there legs l.line.some_leg in linked_to_below track last.0 leg l.sound (linked last.0 last.1)
 
   -- and so is the leg in front of the first one
   pub before_of_track : (legs : Line) (leg : Leg) (total : ℕ) → IsLineOfLength track legs total → ((first : Leg) → first_leg legs ≡ Some first → IsTrue (is_linked track leg first)) → leg.section < length track.sections
@@ -34,7 +36,7 @@ module _ (track : Track) where
   pub extended : (legs : Line) (leg : Leg) (total metres : ℕ) → IsLineOfLength track legs total → ((last : Leg) → last_leg legs ≡ Some last → IsTrue (is_linked track last leg)) → has_section legs leg.section ≡ false → metres ≡ metres_of track leg.section
       → IsLineOfLength track (legs ++ leg ∷ []) (total + metres)
   extended legs leg total metres l linked absent e =
-      let last = some_last legs l.line.some_leg in
+      let last = last_there legs l.line.some_leg in
       let of_track = next_of_track legs leg total l linked in record {
         form = l.form;
         sound = l.sound;

@@ -12,13 +12,9 @@ use Rattle.rbc_model.specs.Tracks.{Track, leg_eq, direction_eq}
 use Rattle.rbc_model.specs.SoundTracks.{sections_differ}
 use Rattle.rbc_model.specs.Lines.{Line, has_leg, has_section, first_leg, last_leg, metres_to_group, place_of, place_on}
 use Rattle.rbc_model.proofs.SamenessLemmas.{direction_eq-true}
-use Rattle.rbc_scene_laws.proofs.BasicLemmas.{and_left, not_false, or_false_left, or_false_right, neither, flipped}
-
--- a line with a leg has a last one, and a first one
-pub some_last : (legs : Line) → 0 < length legs → (leg : Leg) × (last_leg legs ≡ Some leg)
-some_last [] h = absurd (omega arith)
-some_last (leg ∷ []) h = (leg, refl)
-some_last (leg ∷ next ∷ legs) h = some_last (next ∷ legs) (omega arith)
+use Rattle.rbc_scene_laws.proofs.BasicLemmas.{and_left}
+use Rattle.std.proofs.lemmas.Bool.{not-true, or_parts, or_from}
+use Rattle.rbc_model.proofs.BasicLemmas.{flipped}
 
 pub some_first : (legs : Line) → 0 < length legs → (leg : Leg) × (first_leg legs ≡ Some leg)
 some_first [] h = absurd (omega arith)
@@ -36,9 +32,9 @@ last_leg-get_or (leg ∷ next ∷ legs) (suc i) d h = last_leg-get_or (next ∷ 
 lacks_leg : (legs : Line) (leg : Leg) → has_section legs leg.section ≡ false → has_leg legs leg ≡ false
 lacks_leg [] leg h = refl
 lacks_leg (other ∷ legs) leg h =
-    neither (leg_eq leg other) (has_leg legs leg)
-    (unlike (leg.section == other.section) (direction_eq leg.direction other.direction) (flipped other.section leg.section (or_false_left (other.section == leg.section) (has_section legs leg.section) h)))
-    (lacks_leg legs leg (or_false_right (other.section == leg.section) (has_section legs leg.section) h))
+    or_from (leg_eq leg other) (has_leg legs leg)
+    (unlike (leg.section == other.section) (direction_eq leg.direction other.direction) (flipped other.section leg.section ((or_parts (other.section == leg.section) (has_section legs leg.section) h).0)))
+    (lacks_leg legs leg ((or_parts (other.section == leg.section) (has_section legs leg.section) h).1))
   where
     unlike : (a b : Bool) → a ≡ false → (a && b) ≡ false
     unlike a b e = rw e refl
@@ -46,9 +42,9 @@ lacks_leg (other ∷ legs) leg h =
 -- a line that begins with the section, run the other way, does not have the leg
 pub lacks_turned_leg : (leg wanted : Leg) (legs : Line) → sections_differ (leg ∷ legs) ≡ true → leg.section ≡ wanted.section → ((leg.direction ≡ wanted.direction) → ⊥) → has_leg (leg ∷ legs) wanted ≡ false
 lacks_turned_leg leg wanted legs differ same turned =
-    neither (leg_eq wanted leg) (has_leg legs wanted)
+    or_from (leg_eq wanted leg) (has_leg legs wanted)
     (other_way (wanted.section == leg.section) (direction_eq wanted.direction leg.direction) (not_same wanted.direction leg.direction turned))
-    (lacks_leg legs wanted (rw (← same) (not_false (has_section legs leg.section) (and_left (not (has_section legs leg.section)) (sections_differ legs) differ))))
+    (lacks_leg legs wanted (rw (← same) (not-true (has_section legs leg.section) (and_left (not (has_section legs leg.section)) (sections_differ legs) differ))))
   where
     other_way : (a b : Bool) → b ≡ false → (a && b) ≡ false
     other_way true b e = e

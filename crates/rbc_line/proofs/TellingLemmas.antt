@@ -1,21 +1,14 @@
 -- Rows that tell the levels of the first metres, and of some metres more with one row more.
-use Rattle.std.proofs.Common.{◌≡◌, ℕ, ◌<◌, ◌≤◌, ◌⊎◌, inl, inr, true, false, List, [], ◌∷◌, ◌++◌, Option, Some, refl, sym, ◌∙◌, subst, arith, nat_le, nat_lt}
+use Rattle.std.proofs.Common.{◌≡◌, ℕ, ◌<◌, ◌≤◌, ◌⊎◌, inl, inr, true, List, [], ◌∷◌, ◌++◌, Option, Some, refl, sym, ◌∙◌, subst, arith, nat_lt}
 use Rattle.std.specs.List.{list_all}
-use Rattle.std.proofs.lemmas.Bool.{le-leb, lt-ltb, ltb-true}
-use Rattle.std.proofs.lemmas.Bool.Decides.{leb_tells}
+use Rattle.std.proofs.lemmas.Bool.{le-leb, lt-ltb, ltb-true, lt-leb, cases_lt}
 use Rattle.rbc_model.specs.Profiles.{value_at, starts_of, rises_from_zero}
 use Rattle.rbc_steps.proofs.JoinLemmas.{value_at-append, rises_from_zero-append, inside-append}
 use Rattle.rbc_steps.proofs.JoinedLemmas.{and, all_split}
 use Rattle.rbc_line.specs.Along.{Tells}
 
-not_le : (a b : ℕ) → b < a → nat_le a b ≡ false
-not_le a b h = grind (arith, leb_tells)
-
 zero_or_more : (n : ℕ) → (n ≡ 0) ⊎ (0 < n)
 zero_or_more n = grind arith
-
-below_or_from : (x n : ℕ) → (x < n) ⊎ (n ≤ x)
-below_or_from x n = grind arith
 
 module _ {V : Type 0} where
   -- rows that tell of no metre are none
@@ -28,7 +21,7 @@ module _ {V : Type 0} where
 
   -- one row more: at its start and behind it stands its value
   before_row : (rows : List (ℕ × V)) (n x : ℕ) (v : V) → x < n → value_at (rows ++ (n, v) ∷ []) x ≡ value_at rows x
-  before_row rows n x v h = value_at-append rows ((n, v) ∷ []) x ∙ rw (not_le n x h) refl
+  before_row rows n x v h = value_at-append rows ((n, v) ∷ []) x ∙ rw (lt-leb n x h) refl
 
   from_row : (rows : List (ℕ × V)) (n x : ℕ) (v : V) → n ≤ x → value_at (rows ++ (n, v) ∷ []) x ≡ Some v
   from_row rows n x v h = value_at-append rows ((n, v) ∷ []) x ∙ rw (le-leb n x h) refl
@@ -44,7 +37,7 @@ module _ {V : Type 0} where
   tells_more rows n m level v t longer same = record {
     rising = λ h. rises_more rows n v t.rising t.inside (zero_or_more n);
     inside = inside-append n m rows ((n, v) ∷ []) (omega arith) t.inside (and (lt-ltb n m longer) refl);
-    values = λ x h. elim (below_or_from x n) [
+    values = λ x h. elim (cases_lt x n) [
       | inl before ↦ before_row rows n x v before ∙ t.values x before
       | inr behind ↦ from_row rows n x v behind ∙ sym (same x behind h)
     ];

@@ -6,10 +6,11 @@ use Rattle.rbc_model.specs.declared.places.Leg.{Leg}
 use Rattle.rbc_model.specs.declared.tracks.Lock.{Lock}
 use Rattle.rbc_model.specs.Locks.{Locks, row, next, with_row}
 use Rattle.rbc_scene_laws.specs.Good.{OneRowBehindEach}
-use Rattle.rbc_scene_laws.proofs.BasicLemmas.{clash, the_some}
+use Rattle.rbc_scene_laws.proofs.BasicLemmas.{the_some}
 use Rattle.rbc_scene_laws.proofs.RowLemmas.{row-set_other, row-set_self, row-set_cases, next-row, next-some, next-is_one}
 use Rattle.rbc_scene_laws.proofs.LockingLemmas.{Need, NoneBehind, the_lock}
 use Rattle.rbc_scene_laws.proofs.FreeingLemmas.{row-set_none, one_behind-freed}
+use Rattle.std.proofs.lemmas.Bool.{both_ways}
 
 -- a leg that no row is behind has no next one, and the other way
 pub next-none : (locks : Locks) (leg : Leg) → NoneBehind locks leg → next locks leg ≡ None
@@ -21,7 +22,7 @@ next-none locks leg none = by_next (next locks leg) refl
 
 pub none_behind : (locks : Locks) (leg : Leg) → next locks leg ≡ None → NoneBehind locks leg
 none_behind locks leg e section lock there before =
-    clash (is_some (next locks leg)) (next-some locks leg section lock there before) (ap is_some e)
+    both_ways (is_some (next locks leg)) (ap is_some e) (next-some locks leg section lock there before)
 
 -- locks with the same rows behind a leg have the same leg behind it
 pub next-same : (a b : Locks) (leg : Leg) → OneRowBehindEach b

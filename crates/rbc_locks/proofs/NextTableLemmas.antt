@@ -11,7 +11,7 @@ use Rattle.rbc_model.specs.Tracks.{Track, leg_eq}
 use Rattle.rbc_model.specs.Locks.{Locks, no_locks, row, next, with_row}
 use Rattle.rbc_model.proofs.SamenessLemmas.{leg_eq-true, leg_eq-itself}
 use Rattle.rbc_scene_laws.specs.Good.{OneRowBehindEach}
-use Rattle.rbc_scene_laws.proofs.BasicLemmas.{clash, the_some, either}
+use Rattle.rbc_scene_laws.proofs.BasicLemmas.{the_some}
 use Rattle.rbc_scene_laws.proofs.RowLemmas.{next-some, same_leg, slice_get-set_other, same_or_not}
 use Rattle.rbc_scene_laws.proofs.LockingLemmas.{Need, IsFreeNeed, one_behind-with_row}
 use Rattle.rbc_scene_laws.proofs.FreeingLemmas.{one_behind-freed}
@@ -19,6 +19,7 @@ use Rattle.rbc_locks.specs.declared.next_table.NextLegs.{NextLegs}
 use Rattle.rbc_locks.specs.NextTables.{no_next, next_in, with_next_in, next_leg, with_next, IsNextTable}
 use Rattle.rbc_locks.specs.Room.{HasRoom}
 use Rattle.rbc_locks.proofs.NextLemmas.{next-none, none_behind, next-with_row_other, next-with_row_self, next-freed_other, next-freed_self}
+use Rattle.std.proofs.lemmas.Bool.{cases_Bool, both_ways}
 
 -- ---- tables
 
@@ -83,9 +84,9 @@ next_leg-with_next_other table leg other next apart = by_legs (slice_get table l
 
 -- two legs are one, or they are not
 leg_cases : (a b : Leg) → (a ≡ b) ⊎ ((a ≡ b) → ⊥)
-leg_cases a b = elim (either (leg_eq a b)) [
+leg_cases a b = elim (cases_Bool (leg_eq a b)) [
   | inl e ↦ inl (leg_eq-true a b e)
-  | inr e ↦ inr (λ same. clash (leg_eq a b) (subst (λ (l : Leg). leg_eq a l ≡ true) same (leg_eq-itself a)) e)
+  | inr e ↦ inr (λ same. both_ways (leg_eq a b) e (subst (λ (l : Leg). leg_eq a l ≡ true) same (leg_eq-itself a)))
 ]
 
 free_need : (locks : Locks) (need : Need) → HasRoom locks need → IsFreeNeed locks need
@@ -136,7 +137,7 @@ before_of_table locks table section lock before t there h = by_legs (slice_get t
   where
     by_legs : (o : Option NextLegs) → slice_get table before.section ≡ o → before.section < length table
     by_legs None e =
-        absurd (clash (is_some (next locks before)) (next-some locks before section lock there h) (ap is_some (t.found before ∙ ap (option_and_then (next_in before.direction)) e)))
+        absurd (both_ways (is_some (next locks before)) (ap is_some (t.found before ∙ ap (option_and_then (next_in before.direction)) e)) (next-some locks before section lock there h))
     by_legs (Some legs) e = slice_get_within table before.section legs e
 
 pub next_table-freed_none : (locks : Locks) (table : List NextLegs) (section : ℕ) (lock : Lock) → IsNextTable locks table → row locks section ≡ Some lock → lock.before ≡ None

@@ -13,13 +13,14 @@ use Rattle.rbc_model.specs.Tracks.{Track, Route, is_linked}
 use Rattle.rbc_model.specs.SoundTracks.{IsSound, sections_differ, is_leg_of, is_good_entry, is_good_route}
 use Rattle.rbc_model.specs.Lines.{has_section}
 use Rattle.rbc_model.specs.Locks.{Locks, row, next, clash, taken_link, locked, needed_rows, with_leg_before, with_row}
-use Rattle.rbc_scene_laws.proofs.BasicLemmas.{EachPair, or_false_left, or_false_right, and_left, and_right, not_false, number_apart, each_weaker, each_both, the_some}
+use Rattle.rbc_scene_laws.proofs.BasicLemmas.{EachPair, and_left, and_right, each_weaker, each_both, the_some}
 use Rattle.rbc_scene_laws.proofs.TrainListLemmas.{find-none}
 use Rattle.rbc_scene_laws.proofs.RowLemmas.{row-set_other}
 use Rattle.rbc_scene_laws.proofs.LengtheningLemmas.{linked_from_below}
 use Rattle.rbc_scene_laws.proofs.LockingLemmas.{Need, IsFreeNeed, BeforesDiffer, the_lock, free_later, free_needs, differ_needs, good_route, not_among, all_got}
 use Rattle.rbc_locks.specs.Room.{HaveRoom, lock_refusal}
 use Rattle.rbc_locks.proofs.NextLemmas.{next-none}
+use Rattle.std.proofs.lemmas.Bool.{not-true, or_parts, eqb-false}
 
 -- ---- one row after the other
 
@@ -29,9 +30,9 @@ still_empty : (number : ℕ) (locks : Locks) (need : Need) (legs : List Leg) →
 still_empty number locks need [] h empty = tt
 still_empty number locks need (leg ∷ legs) h empty = (
   row-set_other locks need.0.section leg.section (Some (the_lock number need))
-      (λ e. number_apart leg.section need.0.section (or_false_left (leg.section == need.0.section) (has_section legs need.0.section) h) (sym e))
+      (λ e. eqb-false leg.section need.0.section ((or_parts (leg.section == need.0.section) (has_section legs need.0.section) h).0) (sym e))
       ∙ empty.0,
-  still_empty number locks need legs (or_false_right (leg.section == need.0.section) (has_section legs need.0.section) h) empty.1,
+  still_empty number locks need legs ((or_parts (leg.section == need.0.section) (has_section legs need.0.section) h).1) empty.1,
 )
 
 still_within : (number : ℕ) (locks : Locks) (need : Need) (leg : Leg) → leg.section < length locks → leg.section < length (with_row number locks need)
@@ -47,7 +48,7 @@ room_for number before (leg ∷ legs) locks within entered differ empty free apa
       (each_weaker (λ (l : Leg). l.section < length locks) (λ (l : Leg). l.section < length (with_row number locks (leg, before))) legs (λ l h. still_within number locks (leg, before) l h) within.1)
       (λ b e. still_within number locks (leg, before) b (subst (λ (l : Leg). l.section < length locks) (the_some leg b e) within.0))
       (and_right (not (has_section legs leg.section)) (sections_differ legs) differ)
-      (still_empty number locks (leg, before) legs (not_false (has_section legs leg.section) (and_left (not (has_section legs leg.section)) (sections_differ legs) differ)) empty.1)
+      (still_empty number locks (leg, before) legs (not-true (has_section legs leg.section) (and_left (not (has_section legs leg.section)) (sections_differ legs) differ)) empty.1)
       (each_both (IsFreeNeed locks) (BeforesDiffer (leg, before)) (IsFreeNeed (with_row number locks (leg, before))) (with_leg_before (Some leg) legs)
       (λ later f d. free_later number locks (leg, before) later f d)
       free.1

@@ -1,15 +1,17 @@
 -- The ends that a scene allows: the tests are the facts, and the greatest end is the greatest.
 use Rattle.std.proofs.Common.{◌≡◌, ℕ, ◌+◌, ◌-◌, ◌<◌, ◌≤◌, max, Bool, true, false, ◌&&◌, Option, Some, None, refl, arith, ◌⊎◌, inl, inr, nat_lt, nat_le}
-use Rattle.std.specs.Prelude.{is_some, is_none}
+use Rattle.std.specs.Prelude.{is_none}
 use Rattle.std.specs.List.{list_all}
-use Rattle.std.proofs.lemmas.Bool.{leb-true, ltb-true, lt-ltb, le-leb}
+use Rattle.std.proofs.lemmas.Bool.{leb-true, ltb-true, lt-ltb, le-leb, both_ways}
 use Rattle.rbc_model.specs.Tracks.{Track}
 use Rattle.rbc_model.specs.Lines.{places}
 use Rattle.rbc_model.specs.Trains.{Train}
 use Rattle.rbc_model.specs.Scenes.{Scene}
 use Rattle.rbc_model.specs.Obstacles.{obstacle, is_clear}
+use Rattle.rbc_model.specs.Histories.{EndsFarthest, Grants}
 use Rattle.rbc_model.specs.Views.{way_end, start_of, IsSafe, is_safe, is_expressible_end, reach, greatest_end}
-use Rattle.rbc_model.proofs.ScanLemmas.{all_numbers, numbers_all, IsLast, filter-numbers, filter-numbers_none, first_blocked-before, first_blocked-le, first_blocked-ge_start, le_or_lt}
+use Rattle.rbc_model.proofs.ScanLemmas.{all_numbers, numbers_all, IsLast, filter-numbers, filter-numbers_none, first_blocked-before, first_blocked-le, first_blocked-is, le_or_lt}
+use Rattle.std.specs.Cmp.{first_so, second_so}
 
 none_there : {X : Type 0} (o : Option X) → is_none o ≡ true → o ≡ None
 none_there None h = refl
@@ -19,26 +21,14 @@ none_told : {X : Type 0} (o : Option X) → o ≡ None → is_none o ≡ true
 none_told None h = refl
 none_told (Some x) h = cc
 
-none_by_some : {X : Type 0} (o : Option X) → is_some o ≡ false → o ≡ None
-none_by_some None h = refl
-none_by_some (Some x) h = cc
-
-both-left : (a b : Bool) → (a && b) ≡ true → a ≡ true
-both-left true b h = refl
-both-left false b h = h
-
-both-right : (a b : Bool) → (a && b) ≡ true → b ≡ true
-both-right true b h = h
-both-right false b h = cc
-
 -- what the test passes is safe
 pub IsSafe-is_safe : (track : Track) (scene : Scene) (train : Train) (end : ℕ) → is_safe track scene train end ≡ true → IsSafe track scene train end
 IsSafe-is_safe track scene train end h =
-    let first = both-left (nat_lt train.front end && nat_le train.to end) (list_all (is_clear track scene train) (places (start_of train) end)) h in
-    let all = both-right (nat_lt train.front end && nat_le train.to end) (list_all (is_clear track scene train) (places (start_of train) end)) h in
+    let first = first_so (nat_lt train.front end && nat_le train.to end) (list_all (is_clear track scene train) (places (start_of train) end)) h in
+    let all = second_so (nat_lt train.front end && nat_le train.to end) (list_all (is_clear track scene train) (places (start_of train) end)) h in
     record {
-      beyond_front = ltb-true train.front end (both-left (nat_lt train.front end) (nat_le train.to end) first);
-      takes_none_back = leb-true train.to end (both-right (nat_lt train.front end) (nat_le train.to end) first);
+      beyond_front = ltb-true train.front end (first_so (nat_lt train.front end) (nat_le train.to end) first);
+      takes_none_back = leb-true train.to end (second_so (nat_lt train.front end) (nat_le train.to end) first);
       clear = λ i low high. none_there (obstacle track scene train i) (all_numbers (is_clear track scene train) (start_of train) (end - start_of train) all i low (omega arith));
     }
 
@@ -66,9 +56,6 @@ reach-le track scene train = first_blocked-le (is_clear track scene train) (star
 abbrev pub IsStopped : Track → Scene → Train → Type 0
 IsStopped track scene train = obstacle track scene train (reach track scene train) ≡ None → ⊥
 
-first_blocked-ge : (track : Track) (scene : Scene) (train : Train) → start_of train ≤ way_end track scene train → start_of train ≤ reach track scene train
-first_blocked-ge track scene train h = first_blocked-ge_start (is_clear track scene train) (start_of train) (way_end track scene train) h
-
 -- an end is safe just where it lies from the front + 1 and from `to` on, up to the reach
 pub IsSafe-up_to_reach : (track : Track) (scene : Scene) (train : Train) (end : ℕ) → train.front < end → train.to ≤ end → end ≤ reach track scene train → IsSafe track scene train end
 IsSafe-up_to_reach track scene train end beyond keeps near =
@@ -87,9 +74,6 @@ pub record IsGreatestEnd (track : Track) (scene : Scene) (train : Train) (end : 
   pub expressible : is_expressible_end track train end ≡ true
   pub greatest : (farther : ℕ) → end < farther → is_expressible_end track train farther ≡ true → IsSafe track scene train farther → ⊥
 
-true_false : (b : Bool) → b ≡ true → b ≡ false → ⊥
-true_false b t f = cc
-
 pub IsGreatestEnd-greatest_end : (track : Track) (scene : Scene) (train : Train) (end : ℕ) → start_of train ≤ reach track scene train → IsStopped track scene train → greatest_end track scene train ≡ Some end → IsGreatestEnd track scene train end
 IsGreatestEnd-greatest_end track scene train end low stopped h = from_last (filter-numbers (is_expressible_end track train) (max (train.front + 1) train.to) (reach track scene train + 1 - max (train.front + 1) train.to) end h)
   where
@@ -100,7 +84,7 @@ IsGreatestEnd-greatest_end track scene train end low stopped h = from_last (filt
         record {
           safe = IsSafe-up_to_reach track scene train end (omega arith) (omega arith) (omega arith);
           expressible = l.passes;
-          greatest = λ farther beyond told s. let near = le_reach-IsSafe track scene train farther low stopped s in true_false (is_expressible_end track train farther) told (l.behind farther beyond (omega arith));
+          greatest = λ farther beyond told s. let near = le_reach-IsSafe track scene train farther low stopped s in both_ways (is_expressible_end track train farther) (l.behind farther beyond (omega arith)) told;
         }
 
 -- where there is no greatest end, no end is safe that a message can give
@@ -109,5 +93,18 @@ none_safe-greatest_end track scene train low stopped h end told s =
     let near = le_reach-IsSafe track scene train end low stopped s in
     let beyond = s.beyond_front in
     let keeps = s.takes_none_back in
-    true_false (is_expressible_end track train end) told
-    (filter-numbers_none (is_expressible_end track train) (max (train.front + 1) train.to) (reach track scene train + 1 - max (train.front + 1) train.to) h end (omega arith) (omega arith))
+    both_ways (is_expressible_end track train end) (filter-numbers_none (is_expressible_end track train) (max (train.front + 1) train.to) (reach track scene train + 1 - max (train.front + 1) train.to) h end (omega arith) (omega arith)) told
+
+some_told : {X : Type 0} (o : Option X) (x : X) → o ≡ Some x → is_none o ≡ false
+some_told o x h = rw h refl
+
+-- the obstacle that a grant names stands at the reach
+pub reach-EndsFarthest : (track : Track) (scene : Scene) (grant : Grants) (train : Train) (ends : EndsFarthest track scene grant train) → reach track scene train ≡ ends.place
+reach-EndsFarthest track scene grant train ends =
+    let stands = ends.stopped in
+    let beyond = stands.beyond in
+    let safe = ends.safe in
+    let front = safe.beyond_front in
+    first_blocked-is (is_clear track scene train) (start_of train) (way_end track scene train) ends.place (omega arith) stands.on_way
+    (some_told (obstacle track scene train ends.place) grant.obstacle stands.real)
+    (λ i low high. none_told (obstacle track scene train i) (stands.first i low high))

@@ -1,8 +1,8 @@
 -- A train's extent or authority has a metre just where one of its places does.
 use Rattle.std.proofs.Common.{◌≡◌, ℕ, ◌+◌, ◌-◌, ◌<◌, ◌≤◌, Bool, true, false, ◌&&◌, not, [], ◌∷◌, Option, Some, None, refl, ap, subst, sym, ◌∙◌, arith, ◌⊎◌, inl, inr, nat_lt, nat_le}
-use Rattle.std.specs.Prelude.{◌==◌, ◌||◌, if◌then◌else◌, option_map}
+use Rattle.std.specs.Prelude.{◌==◌, if◌then◌else◌, option_map}
 use Rattle.std.specs.Option.{option_map_or}
-use Rattle.std.proofs.lemmas.Bool.{leb-true, ltb-true, lt-ltb, le-leb, eqb-true, le-ltb, not-true, cases_Bool}
+use Rattle.std.proofs.lemmas.Bool.{leb-true, ltb-true, lt-ltb, eqb-true, le-ltb, not-true, cases_Bool, or_left, or_right, both_ways}
 use Rattle.rbc_model.specs.declared.places.Metre.{Metre}
 use Rattle.rbc_model.specs.Tracks.{Track, metres_of, metre_of_leg, IsMetreOf}
 use Rattle.rbc_model.specs.declared.places.Direction.{Direction}
@@ -13,6 +13,8 @@ use Rattle.rbc_model.specs.SoundTracks.{sections_differ}
 use Rattle.rbc_model.specs.Trains.{Train}
 use Rattle.rbc_model.specs.Scenes.{extent_has, authority_has}
 use Rattle.rbc_model.proofs.ScanLemmas.{le_or_lt}
+use Rattle.std.specs.Cmp.{first_so, second_so}
+use Rattle.rbc_model.proofs.BasicLemmas.{if_true, if_false, is_between, same_number}
 
 twice_back : (m o : ℕ) → o < m → m - 1 - (m - 1 - o) ≡ o
 twice_back m o h = omega arith
@@ -40,7 +42,7 @@ within_leg track Rising section offset h = h
 within_leg track Falling section offset h = back_below (metres_of track section) offset h
 
 -- a leg of this section
-leg_of : (leg : Leg) (section : ℕ) → leg.section ≡ section → leg ≡ record { section = section; direction = leg.direction }
+pub leg_of : (leg : Leg) (section : ℕ) → leg.section ≡ section → leg ≡ record { section = section; direction = leg.direction }
 leg_of leg section e = ap (λ x. let l : Leg = record { section = x; direction = leg.direction } in l) e
 
 met_on_leg : (track : Track) (leg : Leg) (metre : Metre) → leg.section ≡ metre.section → metre.offset < metres_of track metre.section → metre_of_leg track leg (metres_before track metre leg) ≡ metre
@@ -80,16 +82,6 @@ met_back : (track : Track) (direction : Direction) (section k : ℕ) → k < met
 met_back track Rising section k h = refl
 met_back track Falling section k h = twice_back (metres_of track section) k h
 
-or_left : (a b : Bool) → a ≡ true → (a || b) ≡ true
-or_left a b h = rw h refl
-
-or_right : (a b : Bool) → b ≡ true → (a || b) ≡ true
-or_right true b h = refl
-or_right false b h = h
-
-same_number : (n : ℕ) → (n == n) ≡ true
-same_number n = grind arith
-
 the_same : (a b : Metre) → Some a ≡ Some b → a ≡ b
 the_same a b h = cc
 
@@ -111,28 +103,11 @@ has_section-metre_at track (leg ∷ legs) metre i h =
         let same : section ≡ b.section = sym e ∙ ap (λ m. m.section) (the_same a b h) in
         subst (λ x. (section == x) ≡ true) same (same_number section)
 
-if_true : {X : Type 0} (b : Bool) (x y : X) → b ≡ true → (if b then x else y) ≡ x
-if_true b x y h = rw h refl
-
-if_false : {X : Type 0} (b : Bool) (x y : X) → b ≡ false → (if b then x else y) ≡ y
-if_false b x y h = rw h refl
-
-and_left : (a b : Bool) → (a && b) ≡ true → a ≡ true
-and_left true b h = refl
-and_left false b h = h
-
-and_right : (a b : Bool) → (a && b) ≡ true → b ≡ true
-and_right true b h = h
-and_right false b h = cc
-
-true_and_false : (b : Bool) → b ≡ true → b ≡ false → ⊥
-true_and_false b t f = cc
-
 -- a section that is not on the line is not that of a metre on it
 another : (section : ℕ) (metre : Metre) (line : Line) → has_section line section ≡ false → has_section line metre.section ≡ true → (section == metre.section) ≡ false
 another section metre line lacks has =
     elim (cases_Bool (section == metre.section)) [
-      | inl e ↦ absurd (true_and_false (has_section line section) (subst (λ x. has_section line x ≡ true) (sym (eqb-true section metre.section e)) has) lacks)
+      | inl e ↦ absurd (both_ways (has_section line section) lacks (subst (λ x. has_section line x ≡ true) (sym (eqb-true section metre.section e)) has))
       | inr e ↦ e
     ]
 
@@ -142,8 +117,8 @@ place-metre_at track (leg ∷ legs) metre i differ h =
     elim (le_or_lt (metres_of track leg.section) i) [
       | inl past ↦
           let rest = sym (behind_leg (Some (metre_of_leg track leg i)) (metre_at track legs (i - metres_of track leg.section)) i (metres_of track leg.section) past) ∙ h in
-          let found = place-metre_at track legs metre (i - metres_of track leg.section) (and_right (not (has_section legs leg.section)) (sections_differ legs) differ) rest in
-          let other = another leg.section metre legs (not-true (has_section legs leg.section) (and_left (not (has_section legs leg.section)) (sections_differ legs) differ)) (has_section-metre_at track legs metre (i - metres_of track leg.section) rest) in
+          let found = place-metre_at track legs metre (i - metres_of track leg.section) (second_so (not (has_section legs leg.section)) (sections_differ legs) differ) rest in
+          let other = another leg.section metre legs (not-true (has_section legs leg.section) (first_so (not (has_section legs leg.section)) (sections_differ legs) differ)) (has_section-metre_at track legs metre (i - metres_of track leg.section) rest) in
           if_false (leg.section == metre.section) (Some (metres_before track metre leg)) (option_map (λ place. metres_of track leg.section + place) (place_of_metre track legs metre)) other
           ∙ ap (option_map (λ place. metres_of track leg.section + place)) found
           ∙ ap Some (let goal : metres_of track leg.section + (i - metres_of track leg.section) ≡ i = omega arith in goal)
@@ -158,10 +133,7 @@ place-metre_at track (leg ∷ legs) metre i differ h =
 
 between : (o : Option ℕ) (a b : ℕ) → option_map_or (λ place. nat_le a place && nat_lt place b) o false ≡ true → (i : ℕ) × (o ≡ Some i) × (a ≤ i) × (i < b)
 between None a b h = cc
-between (Some i) a b h = (i, refl, leb-true a i (and_left (nat_le a i) (nat_lt i b) h), ltb-true i b (and_right (nat_le a i) (nat_lt i b) h))
-
-is_between : (a b i : ℕ) → a ≤ i → i < b → (nat_le a i && nat_lt i b) ≡ true
-is_between a b i low high = rw (le-leb a i low, lt-ltb i b high) refl
+between (Some i) a b h = (i, refl, leb-true a i (first_so (nat_le a i) (nat_lt i b) h), ltb-true i b (second_so (nat_le a i) (nat_lt i b) h))
 
 pub place-extent_has : (track : Track) (metre : Metre) (train : Train) → IsMetreOf track metre → extent_has track metre train ≡ true → (i : ℕ) × (train.rear ≤ i) × (i < train.front) × (metre_at track train.line i ≡ Some metre)
 place-extent_has track metre train h e =

@@ -6,11 +6,9 @@ use Rattle.std.proofs.lemmas.Bool.Decides.{leb_tells}
 use Rattle.std.proofs.Math.Nat.{mul-mod_left}
 use Rattle.rbc_model.specs.Levels.{speed_levels, grade_levels, IsLawful, IsInRange}
 use Rattle.rbc_model.proofs.CountingLemmas.{both_of}
+use Rattle.std.specs.Cmp.Derive.{both_true}
 
 -- ---- tests of order
-
-both_true : {a b : Bool} → a ≡ true → b ≡ true → (a && b) ≡ true
-both_true {a} {b} e f = cc (e, f)
 
 of_not : (a : Bool) → not a ≡ true → a ≡ true → ⊥
 of_not true e f = true≢false (sym e)
@@ -73,11 +71,11 @@ speed_lawful = record {
 
 -- ---- gradients: how far above 0, and how far below
 
-above : ℤ → ℕ
+pub above : ℤ → ℕ
 above (pos n) = n
 above (negsuc n) = 0
 
-below : ℤ → ℕ
+pub below : ℤ → ℕ
 below (pos n) = 0
 below (negsuc n) = suc n
 
@@ -110,7 +108,7 @@ sub_size a b = go (ltb a b) refl
     go true e = omega (arith, ltb-true a b e)
     go false e = omega (arith, ltb-false a b e)
 
-price_of : (v g : ℤ) → int_le g v ≡ true → nat_abs (v -ℤ g) + above g + below v ≡ above v + below g
+pub price_of : (v g : ℤ) → int_le g v ≡ true → nat_abs (v -ℤ g) + above g + below v ≡ above v + below g
 unfolding above below
 price_of (pos a) (pos zero) e = omega arith
 price_of (pos a) (pos (suc b)) e = omega (arith, sub_size a (suc b), leb-true (suc b) a e)
@@ -118,7 +116,7 @@ price_of (pos a) (negsuc b) e = omega arith
 price_of (negsuc a) (pos b) e = absurd (true≢false (sym e))
 price_of (negsuc a) (negsuc b) e = omega (arith, sub_size (suc b) (suc a), leb-true a b e)
 
-grade_range : (v : ℤ) → IsInRange grade_levels v → (above v ≤ 254) × (below v ≤ 254)
+pub grade_range : (v : ℤ) → IsInRange grade_levels v → (above v ≤ 254) × (below v ≤ 254)
 unfolding above below
 grade_range (pos n) h = (leb-true n 254 (both_of (int_le (negsuc 253) (pos n)) (int_le (pos n) (pos 254)) h).1, omega arith)
 grade_range (negsuc n) h = (omega arith, omega (arith, leb-true n 253 (both_of (int_le (negsuc 253) (negsuc n)) (int_le (negsuc n) (pos 254)) h).0))

@@ -1,20 +1,27 @@
 -- The metre at a place is that number of the line's metres.
 use Rattle.std.specs.List.{range_with_len}
-use Rattle.std.proofs.Common.{◌≡◌, ℕ, zero, suc, ◌+◌, ◌-◌, ◌<◌, ◌≤◌, true, false, cond, List, [], ◌∷◌, ◌++◌, length, Some, refl, ap, ◌∙◌, sym, zero-add, arith, inl, inr, nat_lt}
+use Rattle.std.proofs.Common.{◌≡◌, ℕ, zero, suc, ◌+◌, ◌-◌, ◌<◌, ◌≤◌, List, [], ◌∷◌, ◌++◌, length, Some, refl, ap, ◌∙◌, sym, zero-add, arith, inl, inr}
 use Rattle.std.specs.Prelude.{slice_get, option_map}
 use Rattle.std.proofs.lemmas.Option.{slice_get-map}
 use Rattle.std.proofs.lemmas.List.FromFn.{length-map-range_with_len}
-use Rattle.std.proofs.lemmas.Bool.{lt-ltb, le-ltb}
+use Rattle.std.proofs.lemmas.List.Sums.{sum_by-cons}
 use Rattle.rbc_model.proofs.ScanLemmas.{le_or_lt}
-use Rattle.rbc_model.specs.Tracks.{Track, metres_of, metre_of_leg, leg_metres}
+use Rattle.rbc_model.specs.Tracks.{Track, IsMetreOf, metres_of, metre_of_leg, leg_metres}
 use Rattle.rbc_model.specs.declared.places.Leg.{Leg}
-use Rattle.rbc_model.specs.Lines.{Line, line_metres, metre_at}
+use Rattle.rbc_model.specs.declared.places.Direction.{Direction}
+use Rattle.rbc_model.specs.declared.places.Direction.TheVariants.{Rising, Falling}
+use Rattle.rbc_model.specs.Lines.{Line, line_length, line_metres, metre_at}
+use Rattle.rbc_model.proofs.BasicLemmas.{if_in, if_past}
 
-within : {X : Type 0} (a b : X) (k n : ℕ) → nat_lt k n ≡ true → cond (nat_lt k n) a b ≡ a
-within a b k n h = rw h refl
+pub line_length-cons : (track : Track) (leg : Leg) (line : Line) → line_length track (leg ∷ line) ≡ metres_of track leg.section + line_length track line
+line_length-cons track leg line = sum_by-cons (λ (l : Leg). metres_of track l.section) leg line
 
-past : {X : Type 0} (a b : X) (k n : ℕ) → nat_lt k n ≡ false → cond (nat_lt k n) a b ≡ b
-past a b k n h = rw h refl
+pub metre_of_leg-of_track : (track : Track) (leg : Leg) (k : ℕ) → k < metres_of track leg.section → IsMetreOf track (metre_of_leg track leg k)
+metre_of_leg-of_track track leg k h = by_direction leg.direction
+  where
+    by_direction : (d : Direction) → IsMetreOf track (metre_of_leg track (record { section = leg.section; direction = d }) k)
+    by_direction Rising = h
+    by_direction Falling = omega arith
 
 -- the k-th of n numbers from a on
 slice_get-range : (a n k : ℕ) → k < n → slice_get (range_with_len a n) k ≡ Some (a + k)
@@ -47,12 +54,12 @@ metre_at-line_metres track [] i = refl
 metre_at-line_metres track (leg ∷ legs) i =
     elim (le_or_lt (metres_of track leg.section) i) [
       | inl e ↦
-          past (Some (metre_of_leg track leg i)) (metre_at track legs (i - metres_of track leg.section)) i (metres_of track leg.section) (le-ltb i (metres_of track leg.section) e)
+          if_past (Some (metre_of_leg track leg i)) (metre_at track legs (i - metres_of track leg.section)) i (metres_of track leg.section) e
           ∙ metre_at-line_metres track legs (i - metres_of track leg.section)
           ∙ ap (λ m. slice_get (line_metres track legs) (i - m)) (sym (length-leg_metres track leg))
           ∙ sym (slice_get-append_right (leg_metres track leg) (line_metres track legs) i (rw (length-leg_metres track leg) e))
       | inr e ↦
-          within (Some (metre_of_leg track leg i)) (metre_at track legs (i - metres_of track leg.section)) i (metres_of track leg.section) (lt-ltb i (metres_of track leg.section) e)
+          if_in (Some (metre_of_leg track leg i)) (metre_at track legs (i - metres_of track leg.section)) i (metres_of track leg.section) e
           ∙ sym (slice_get-leg_metres track leg i e)
           ∙ sym (slice_get-append_left (leg_metres track leg) (line_metres track legs) i (rw (length-leg_metres track leg) e))
     ]

@@ -7,6 +7,7 @@ use Rattle.std.proofs.lemmas.Bool.Decides.{nat_tests}
 use Rattle.rbc_model.specs.Levels.{Levels, is_same, IsInRange, IsLawful}
 use Rattle.rbc_model.specs.Profiles.{value_at, starts_of, rises_above, is_joined, IsTrackFunction}
 use Rattle.rbc_model.proofs.CountingLemmas.{both_of}
+use Rattle.std.proofs.lemmas.Option.{same_Some}
 
 -- the value of the last run that starts at or before a metre, or of the one before them all
 abbrev value_from : {V : Type 0} → V → List (ℕ × V) → ℕ → Option V
@@ -34,9 +35,6 @@ ahead v run runs x h = rw (le-leb run.0 x h) (kept (value_at runs x) run.1 v)
 -- and before it that of the one before
 before : {V : Type 0} (low : ℕ) (v : V) (runs : List (ℕ × V)) (x : ℕ) → rises_above low (starts_of runs) ≡ true → x ≤ low → value_from v runs x ≡ Some v
 before low v runs x e h = rw (none_started low runs x e h) refl
-
-some_is : {V : Type 0} (a b : V) → Some a ≡ Some b → a ≡ b
-some_is a b e = cc
 
 module _ {V : Type 0} (levels : Levels V) (lawful : IsLawful levels) (n : ℕ) where
   same_of : (v w : V) → IsInRange levels v → w ≡ v → is_same levels w v ≡ true
@@ -69,7 +67,7 @@ module _ {V : Type 0} (levels : Levels V) (lawful : IsLawful levels) (n : ℕ) w
 
   -- a value can't change where the other list keeps it
   no_change : (v w : V) → IsInRange levels v → is_same levels w v ≡ false → Some w ≡ Some v → ⊥
-  no_change v w r differs e = let same = same_of v w r (some_is w v e) in absurd cc
+  no_change v w r differs e = let same = same_of v w r (same_Some w v e) in absurd cc
 
   abbrev Agree : ℕ → V → List (ℕ × V) → List (ℕ × V) → Type 0
   Agree low v one other = (x : ℕ) → low ≤ x → x < n → value_from v one x ≡ value_from v other x
@@ -95,7 +93,7 @@ module _ {V : Type 0} (levels : Levels V) (lawful : IsLawful levels) (n : ℕ) w
           | inl first ↦ absurd (no_change v b.1 q.value nb.2
               (sym (at_start v b other nb.3.rising) ∙ sym (agree b.0 (omega (arith, nb.0)) nb.1) ∙ early low v a one b.0 first na.3.rising))
           | inr start ↦
-              let value : a.1 ≡ b.1 = some_is a.1 b.1 (sym (at_start v a one na.3.rising) ∙ agree a.0 (omega (arith, na.0)) na.1
+              let value : a.1 ≡ b.1 = same_Some a.1 b.1 (sym (at_start v a one na.3.rising) ∙ agree a.0 (omega (arith, na.0)) na.1
               ∙ ap (value_from v (b ∷ other)) start ∙ at_start v b other nb.3.rising) in
               let head : a ≡ b = pair a b start value in
               rw head (ap (λ runs. b ∷ runs) (one_behind b.0 b.1 one other (rw (← head) na.3) nb.3
@@ -132,7 +130,7 @@ module _ {V : Type 0} (levels : Levels V) (lawful : IsLawful levels) (n : ℕ) w
       let rb : rises_above b.0 (starts_of other) ≡ true = rw zb pb.1 in
       let fa : value_at (a ∷ one) 0 ≡ Some a.1 = rw (none_started a.0 one 0 ra (omega (arith, za)), le-leb a.0 0 (omega (arith, za))) refl in
       let fb : value_at (b ∷ other) 0 ≡ Some b.1 = rw (none_started b.0 other 0 rb (omega (arith, zb)), le-leb b.0 0 (omega (arith, zb))) refl in
-      let value : a.1 ≡ b.1 = some_is a.1 b.1 (sym fa ∙ agree 0 some ∙ fb) in
+      let value : a.1 ≡ b.1 = same_Some a.1 b.1 (sym fa ∙ agree 0 some ∙ fb) in
       let head : a ≡ b = pair a b (za ∙ sym zb) value in
       let start : ℕ × V = a in
       rw head (ap (λ runs. b ∷ runs) (one_behind b.0 b.1 one other

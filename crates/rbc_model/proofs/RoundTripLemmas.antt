@@ -3,7 +3,7 @@ use Rattle.std.proofs.Common.{◌≡◌, ℕ, zero, suc, ◌-◌, ◌*◌, ◌/�
 use Rattle.std.proofs.lemmas.Bool.{leb-false, lt-leb, eqb-true}
 use Rattle.std.proofs.lemmas.List.{length-replicate, append-nil}
 use Rattle.rbc_model.specs.declared.places.Format.{Format}
-use Rattle.rbc_model.specs.declared.places.Format.TheVariants.{Near, Far}
+use Rattle.rbc_model.specs.declared.places.Format.TheVariants.{Far}
 use Rattle.rbc_model.specs.declared.messages.Fault.{Fault}
 use Rattle.rbc_model.specs.declared.messages.Fault.TheVariants.{Length, Padding}
 use Rattle.rbc_model.specs.Scales.{unit_of}
@@ -175,9 +175,6 @@ round_trip format bytes a are = (
   read_was_written format bytes a are,
   λ h. subst (λ b. read_message format b ≡ Ok a) (sym h.1) (written_is_read format a h.0),
 )
-
-pub round_trip_near : RoundTrip Near
-round_trip_near = round_trip Near
 
 pub round_trip_far : RoundTrip Far
 round_trip_far = round_trip Far

@@ -234,15 +234,15 @@ said_line_read (Ask train) fits =
 
 -- ---- what is read of a line can be said
 
-bound : {A B E : Type 0} (r : Result A E) (f : A → Result B E) (y : B) → r >>= f ≡ Ok y → (x : A) × (r ≡ Ok x) × (f x ≡ Ok y)
+pub bound : {A B E : Type 0} (r : Result A E) (f : A → Result B E) (y : B) → r >>= f ≡ Ok y → (x : A) × (r ≡ Ok x) × (f x ≡ Ok y)
 bound (Ok x) f y h = (x, refl, h)
 bound (Err e) f y h = cc
 
-chosen : {A E : Type 0} (b : Bool) (e : E) (x y : A) → cond b (Ok x) (Err e) ≡ Ok y → (b ≡ true) × (x ≡ y)
+pub chosen : {A E : Type 0} (b : Bool) (e : E) (x y : A) → cond b (Ok x) (Err e) ≡ Ok y → (b ≡ true) × (x ≡ y)
 chosen true e x y h = (refl, cc)
 chosen false e x y h = cc
 
-allowed : {A E : Type 0} (test : A → Bool) (e : E) (o : Option A) (y : A) → allowed_value test e o ≡ Ok y → test y ≡ true
+pub allowed : {A E : Type 0} (test : A → Bool) (e : E) (o : Option A) (y : A) → allowed_value test e o ≡ Ok y → test y ≡ true
 allowed test e None y h = cc
 allowed test e (Some x) y h = let c = chosen (test x) e x y h in subst (λ z. test z ≡ true) c.1 c.0
 

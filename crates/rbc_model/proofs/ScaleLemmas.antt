@@ -1,6 +1,6 @@
 -- Ends that a message can give, in either format, and the units of their profiles.
-use Rattle.std.proofs.Common.{◌≡◌, ℕ, ℤ, ◌%◌, ◌<◌, ◌≤◌, ◌^◌, Bool, true, false, ◌&&◌, ◌||◌, ◌⊎◌, inl, inr, List, [], ◌∷◌, Some, refl, ap, ap₂, ◌∙◌, arith, subst, nat_le, ◌==◌, if◌then◌else◌}
-use Rattle.std.proofs.lemmas.Bool.{leb-true, le-leb, eqb-true, eq-eqb, or_cases, and_from, lt-leb}
+use Rattle.std.proofs.Common.{◌≡◌, ℕ, ℤ, ◌%◌, ◌<◌, ◌≤◌, ◌^◌, Bool, true, false, ◌⊎◌, inl, inr, List, Some, refl, arith, subst, nat_le, ◌==◌, if◌then◌else◌}
+use Rattle.std.proofs.lemmas.Bool.{le-leb, eqb-true, eq-eqb, or_cases, and_from, lt-leb}
 use Rattle.rbc_model.specs.declared.limits.TheConstants.{LAST_COUNTRY, LAST_GROUP, MOST_STEPS}
 use Rattle.rbc_model.specs.declared.places.Format.{Format}
 use Rattle.rbc_model.specs.declared.places.Format.TheVariants.{Near, Far}
@@ -11,9 +11,7 @@ use Rattle.rbc_model.specs.Results.{is_from_to}
 use Rattle.rbc_model.specs.Scales.{farthest, is_expressible, is_in_tens, unit_of}
 use Rattle.rbc_model.specs.Messages.{Authority, IsAuthority, is_writable, authority_of}
 use Rattle.rbc_model.proofs.CountingLemmas.{both_of}
-
-from_to : (low high v : ℕ) → is_from_to low high v ≡ true → (low ≤ v) × (v ≤ high)
-from_to low high v h = let b = both_of (nat_le low v) (nat_le v high) h in (leb-true low v b.0, leb-true v high b.1)
+use Rattle.rbc_model.proofs.FrameLemmas.{limits_of}
 
 -- ---- what each format can give
 
@@ -29,7 +27,7 @@ record IsEnd (format : Format) (v : ℕ) : Type 0 where
 
 in_metres : (format : Format) (v : ℕ) → is_from_to 1 32000 v ≡ true → IsEnd format v
 in_metres format v h =
-    let r = from_to 1 32000 v h in
+    let r = limits_of 1 32000 v h in
     let low = r.0 in
     record { some = omega arith; near_enough = inside format r.1; whole = rw (le-leb v 32000 r.1) (omega arith) }
   where
@@ -40,7 +38,7 @@ in_metres format v h =
 in_tens : (v : ℕ) → is_in_tens v ≡ true → IsEnd Far v
 in_tens v h =
     let b = both_of (is_from_to 32010 80000 v) (v % 10 == 0) h in
-    let r = from_to 32010 80000 v b.0 in
+    let r = limits_of 32010 80000 v b.0 in
     let low = r.0 in
     record { some = omega arith; near_enough = r.1; whole = rw (lt-leb v 32000 (omega arith)) (eqb-true (v % 10) 0 b.1) }
 
@@ -79,36 +77,6 @@ pub in_units_of : {V : Type 0} (levels : Levels V) (unit limit n : ℕ) (steps :
     → IsProfile levels unit limit n steps
 in_units_of levels unit limit n steps p whole = record { starts = p.starts; in_units = whole; few = p.few; values = p.values }
 
--- one of few enough steps is one that a packet has room for
-pub roomy_profile : {V : Type 0} (levels : Levels V) (unit limit n : ℕ) (steps : List (ℕ × V)) → limit ≤ MOST_STEPS → IsProfile levels unit limit n steps → IsProfile levels unit MOST_STEPS n steps
-roomy_profile levels unit limit n steps h p = let few = p.few in record { starts = p.starts; in_units = p.in_units; few = omega arith; values = p.values }
-
--- ---- up to 32,000 m all is as in format 1
-
-pub unit_in_metres : (end : ℕ) → end ≤ 32000 → unit_of end ≡ 1
-unit_in_metres end h = rw (le-leb end 32000 h) refl
-
-pub all_multiples_of_one : (numbers : List ℕ) → are_multiples 1 numbers ≡ true
-all_multiples_of_one [] = refl
-all_multiples_of_one (n ∷ ns) = rw (eq-eqb (n % 1) 0 (omega arith)) (all_multiples_of_one ns)
-
-far_in_metres : (v : ℕ) → v ≤ 32000 → (b : Bool) → is_from_to 1 32000 v ≡ b → (b || is_in_tens v) ≡ b
-far_in_metres v h true e = refl
-far_in_metres v h false e =
-    let low : nat_le 32010 v ≡ false = lt-leb 32010 v (omega arith) in
-    rw low refl
-
--- a message can give such a profile just where it can give its end
-pub writable_in_metres : {V : Type 0} (profile : StepFunction V) → profile.end ≤ 32000 → is_writable profile ≡ is_expressible Near profile.end
-writable_in_metres profile h =
-    ap₂ (λ a b. a && b) (far_in_metres profile.end h (is_from_to 1 32000 profile.end) refl)
-    (ap (λ unit. are_multiples unit (starts_of profile.steps)) (unit_in_metres profile.end h) ∙ all_multiples_of_one (starts_of profile.steps))
-    ∙ and_true (is_from_to 1 32000 profile.end)
-  where
-    and_true : (b : Bool) → (b && true) ≡ b
-    and_true true = refl
-    and_true false = refl
-
 -- ---- authorities
 
 -- a message can give a profile with an end and cuts in units
@@ -141,11 +109,3 @@ module _ (time : ℕ) (group : GroupName) (nominal : Bool) (speeds : StepFunctio
         speeds = in_units_of speed_levels (unit_of speeds.end) MOST_STEPS speeds.end speeds.steps fast (writable_said speeds s).1;
         grades = subst (λ end. IsProfile grade_levels (unit_of end) MOST_STEPS end grades.steps) ends (in_units_of grade_levels (unit_of grades.end) MOST_STEPS grades.end grades.steps steep cuts);
       }
-
--- an authority of either format is one of the second
-pub authority_far : (format : Format) (a : Authority) → IsAuthority format a → IsAuthority Far a
-authority_far format a is = record { time = is.time; country = is.country; number = is.number; end = expressible_far format a.end is.end; speeds = is.speeds; grades = is.grades }
-
--- and one of the second, with an end that a format gives, is one of that format
-pub authority_of_format : (format : Format) (a : Authority) → IsAuthority Far a → is_expressible format a.end ≡ true → IsAuthority format a
-authority_of_format format a is end = record { time = is.time; country = is.country; number = is.number; end = end; speeds = is.speeds; grades = is.grades }

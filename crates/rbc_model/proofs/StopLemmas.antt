@@ -1,8 +1,8 @@
 -- A continued line always ends at an obstacle, so there is always a reach.
-use Rattle.std.proofs.Common.{◌≡◌, ℕ, zero, suc, Bool, true, false, [], ◌∷◌, ◌++◌, length, Option, Some, None, refl, ap, ◌∙◌, arith, inl, inr}
-use Rattle.std.specs.Prelude.{is_some, is_none, ◌==◌, if◌then◌else◌, option_and_then}
+use Rattle.std.proofs.Common.{◌≡◌, ℕ, zero, suc, Bool, true, false, [], ◌∷◌, ◌++◌, length, Option, Some, None, refl, ap, ◌∙◌, inl, inr}
+use Rattle.std.specs.Prelude.{is_some, is_none, if◌then◌else◌, option_and_then}
 use Rattle.std.specs.Option.{option_or, option_map_or}
-use Rattle.std.proofs.lemmas.Bool.{cases_Bool}
+use Rattle.std.proofs.lemmas.Bool.{cases_Bool, both_ways}
 use Rattle.rbc_model.specs.Tracks.{Track}
 use Rattle.rbc_model.specs.declared.places.Leg.{Leg}
 use Rattle.rbc_model.specs.Lines.{Line, last_leg, line_length, has_section}
@@ -14,9 +14,7 @@ use Rattle.rbc_model.specs.Views.{way_end, reach, start_of}
 use Rattle.rbc_model.specs.declared.refusals.Obstacle.{Obstacle}
 use Rattle.rbc_model.proofs.ScanLemmas.{first_blocked-blocked}
 use Rattle.rbc_model.proofs.EndLemmas.{IsStopped}
-
-same_number : (n : ℕ) → (n == n) ≡ true
-same_number n = grind arith
+use Rattle.rbc_model.proofs.BasicLemmas.{same_number}
 
 some_there : {X : Type 0} (o : Option X) → is_none o ≡ false → is_some o ≡ true
 some_there None h = cc
@@ -52,7 +50,7 @@ ends_there track scene train line leg last =
 
 -- ---- a line that is continued keeps having a leg
 
-last_leg-push : (line : Line) (leg : Leg) → last_leg (line ++ leg ∷ []) ≡ Some leg
+pub last_leg-push : (line : Line) (leg : Leg) → last_leg (line ++ leg ∷ []) ≡ Some leg
 last_leg-push [] leg = refl
 last_leg-push (a ∷ []) leg = refl
 last_leg-push (a ∷ b ∷ line) leg = last_leg-push (b ∷ line) leg
@@ -90,12 +88,9 @@ clear_told : (o : Option Obstacle) → o ≡ None → is_none o ≡ true
 clear_told None h = refl
 clear_told (Some x) h = cc
 
-not_both : (b : Bool) → b ≡ true → b ≡ false → ⊥
-not_both b t f = cc
-
 pub IsStopped-reach : (track : Track) (scene : Scene) (train : Train) (leg : Leg) → last_leg train.line ≡ Some leg → IsStopped track scene train
 unfolding HasLast
 IsStopped-reach track scene train leg last none =
     let has = last_leg-continued (length track.sections) scene.locks train.line (leg, last) in
     let blocked = first_blocked-blocked (is_clear track scene train) (start_of train) (way_end track scene train) (ends_there track scene train (way track scene train) has.0 has.1) in
-    not_both (is_clear track scene train (reach track scene train)) (clear_told (obstacle track scene train (reach track scene train)) none) blocked
+    both_ways (is_clear track scene train (reach track scene train)) blocked (clear_told (obstacle track scene train (reach track scene train)) none)

@@ -1,4 +1,4 @@
-//! The numbers of sections and routes in their track.
+//! The numbers of sections and routes in their track, and those of trains.
 ghost use Rattle.std.specs.Prelude.{◌≡◌};
 
 use std::marker::Model;
@@ -64,5 +64,38 @@ impl RouteId {
         ensures { result ≡ self }
     {
         self.index
+    }
+}
+
+/// The number of a train, by which the reports, the requests and the replies name it. A report tells one from 1 to
+/// 9,999,999.
+#[derive(Clone, Copy, Debug, PartialEq, Eq)]
+pub struct TrainId {
+    number: u32,
+}
+
+impl Model for TrainId {
+    ghost use Rattle.std.specs.Prelude.{ℕ};
+
+    ghost Value = { ℕ };
+
+    ghost view = { λ id. id.number };
+
+    ghost inverse = { λ number. record { number = number } };
+}
+
+impl TrainId {
+    /// The train of this number.
+    pub fn new(number: u32) -> TrainId
+        ensures { result ≡ number }
+    {
+        TrainId { number }
+    }
+
+    /// The train's number.
+    pub fn number(self) -> u32
+        ensures { result ≡ self }
+    {
+        self.number
     }
 }

@@ -6,7 +6,7 @@ ghost use Rattle.rbc_port.specs.Clients.{Coming};
 
 use crate::clients::{Client, Ends};
 use crate::ends::End;
-use crate::log::{Log, Parting};
+use crate::log::{Caller, Log, News, Parting};
 use rbc_model::SessionFault;
 use rbc_model::limits::LONGEST_LINE;
 use rbc_streams::{LineReader, Retried, Stream};
@@ -30,8 +30,7 @@ const PIECE: usize = 4096;
 #[derive(Drop)]
 pub struct Connection<S> {
     stream: S,
-    address: SocketAddr,
-    number: usize,
+    caller: Caller,
     lines: u64,
     was_waited_for: bool,
     log: Log,
@@ -41,8 +40,7 @@ impl<S> Connection<S> {
     pub(crate) fn new(stream: S, address: SocketAddr, number: usize, log: Log) -> Connection<S> {
         Connection {
             stream,
-            address,
-            number,
+            caller: Caller { number, address },
             lines: 0,
             was_waited_for: false,
             log,
@@ -50,7 +48,7 @@ impl<S> Connection<S> {
     }
 
     pub(crate) fn tell_began(&self, rt: &(impl Clock + Eprint), alloc: Global) {
-        self.log.tell_began(rt, alloc, self.number, &self.address);
+        self.log.tell(rt, alloc, self.caller, News::Began);
     }
 
     // Why its session ended so.
@@ -73,7 +71,7 @@ impl<S: Read + OpenStream + Drop> Connection<S> {
         }
         let parting = self.parting(ended);
         self.log
-            .tell_ended(rt, alloc, self.number, &self.address, self.lines, parting);
+            .tell(rt, alloc, self.caller, News::Ended(self.lines, parting));
     }
 
     // Reads and drops. Each read takes a byte at least, and waits no longer than the time that is left.

@@ -36,6 +36,39 @@ impl Display for Parting {
     }
 }
 
+/// A client as the log names it.
+#[derive(Clone, Copy, Debug)]
+pub(crate) struct Caller {
+    /// The number of its connection.
+    pub(crate) number: usize,
+    /// Where it calls from.
+    pub(crate) address: SocketAddr,
+}
+
+impl Display for Caller {
+    fn fmt<W: fmt::Write>(&self, f: &mut fmt::Formatter<W>) -> fmt::Result {
+        write!(f, "connection {} from {}", self.number, self.address)
+    }
+}
+
+/// What the log tells of a client.
+#[derive(Clone, Copy, Debug)]
+pub(crate) enum News {
+    /// It began.
+    Began,
+    /// It ended after so many lines.
+    Ended(u64, Parting),
+}
+
+impl Display for News {
+    fn fmt<W: fmt::Write>(&self, f: &mut fmt::Formatter<W>) -> fmt::Result {
+        match self {
+            News::Began => f.write_str("began"),
+            News::Ended(lines, parting) => write!(f, "ended after line {lines}: {parting}"),
+        }
+    }
+}
+
 impl Log {
     /// A log from now on, if one is wanted.
     pub(crate) fn new(rt: &impl Clock, is_kept: bool) -> Log {
@@ -45,42 +78,19 @@ impl Log {
         }
     }
 
-    /// Tells that this client began.
-    pub(crate) fn tell_began(
+    /// Tells this of a client.
+    pub(crate) fn tell(
         self,
         rt: &(impl Clock + Eprint),
         alloc: Global,
-        number: usize,
-        address: &SocketAddr,
+        caller: Caller,
+        news: News,
     ) {
         if self.is_kept {
             let (seconds, millis) = self.time(rt);
             print(
                 rt,
-                format!(in alloc;
-                    "{seconds}.{millis:03} s: connection {number} from {address} began\n"
-                ),
-            );
-        }
-    }
-
-    /// Tells that this client ended, after how many lines and why.
-    pub(crate) fn tell_ended(
-        self,
-        rt: &(impl Clock + Eprint),
-        alloc: Global,
-        number: usize,
-        address: &SocketAddr,
-        lines: u64,
-        parting: Parting,
-    ) {
-        if self.is_kept {
-            let (seconds, millis) = self.time(rt);
-            print(
-                rt,
-                format!(in alloc;
-                    "{seconds}.{millis:03} s: connection {number} from {address} ended after line {lines}: {parting}\n"
-                ),
+                format!(in alloc; "{seconds}.{millis:03} s: {caller} {news}\n"),
             );
         }
     }

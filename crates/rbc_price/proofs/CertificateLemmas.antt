@@ -13,9 +13,9 @@ use Rattle.rbc_model.specs.PriceTables.{table_at, step_cost, break_at, IsSoundTa
 use Rattle.rbc_model.specs.PriceChecks.{first_from, unless_some, above_at, first_above, columns, steps_of_use, too_high_at, starts_before, first_too_high, last_price, has_shape, lost, price_check, IsCertificate}
 use Rattle.rbc_table_laws.proofs.TableLawLemmas.{sound_tables_bound}
 use Rattle.rbc_model.specs.Scales.{unit_of}
-use Rattle.rbc_price.proofs.ColumnLemmas.{some_unit}
 use Rattle.rbc_price.proofs.SearchLemmas.{first_from-none, none_at, or_none, test_of_none}
 use Rattle.rbc_price.proofs.ShapeLemmas.{IsShaped, shaped, has_shape_of}
+use Rattle.rbc_model.proofs.ScaleLemmas.{some_unit}
 
 no_steps : (rows : List (List ℕ)) (i : ℕ) → table_at rows 0 i ≡ 0
 no_steps rows zero = refl

@@ -1,13 +1,14 @@
 -- The columns of a table, and the least values of their stretches.
-use Rattle.std.proofs.Common.{◌≡◌, refl, ap, sym, ◌∙◌, arith, ℕ, zero, suc, ◌+◌, ◌-◌, ◌%◌, ◌<◌, ◌≤◌, Bool, true, false, nat_le, Some, if◌then◌else◌}
+use Rattle.std.proofs.Common.{◌≡◌, refl, ap, sym, ◌∙◌, arith, ℕ, zero, suc, ◌+◌, ◌-◌, ◌%◌, ◌<◌, ◌≤◌, Bool, true, false, nat_le, [], ◌∷◌, ◌++◌, length, length-append, Some, if◌then◌else◌}
+use Rattle.std.proofs.lemmas.List.{length-map}
 use Rattle.rbc_model.specs.declared.limits.TheConstants.{FARTHEST_END, TEN_METRES}
 use Rattle.rbc_model.specs.Levels.{Levels, IsInRange, IsAtMost, IsLawful}
-use Rattle.rbc_model.specs.Profiles.{StepFunction, IsTrackFunction, value_at}
-use Rattle.rbc_model.specs.PriceTables.{least_value, cost}
+use Rattle.rbc_model.specs.Profiles.{StepFunction, IsTrackFunction, starts_of, value_at}
+use Rattle.rbc_model.specs.PriceTables.{breaks_of, least_value, cost}
 use Rattle.rbc_model.specs.Scales.{unit_of}
 use Rattle.rbc_table_laws.specs.Breaks.{breaks_in, IsLowest}
 use Rattle.rbc_table_laws.specs.Stretches.{AreBreaksFor, breaks_for, cost_of_step}
-use Rattle.rbc_table_laws.proofs.TrackBreakLemmas.{in_track}
+use Rattle.rbc_table_laws.proofs.TrackBreakLemmas.{breaks_are, in_track}
 use Rattle.rbc_table_laws.proofs.TableLawLemmas.{breaks_walked}
 use Rattle.rbc_table_laws.proofs.StretchLemmas.{breaks_to_end, least_is, least_range}
 use Rattle.rbc_table_laws.proofs.LeastLemmas.{least_between, in_range_at, other_lower}
@@ -16,13 +17,11 @@ use Rattle.rbc_price.specs.declared.columns.Column.{Column}
 use Rattle.rbc_price.specs.Columns.{IsColumn, stretches_of, break_metre}
 use Rattle.rbc_price.specs.Costs.{stretch_value, is_stretch_at_most, IsCostAt}
 use Rattle.rbc_price.proofs.CostLemmas.{cost_at}
+use Rattle.rbc_model.proofs.ScaleLemmas.{some_unit}
 
 some_of : (test : Bool) → 0 < (if test then 1 else TEN_METRES)
 some_of true = omega arith
 some_of false = omega arith
-
-pub some_unit : (end : ℕ) → 0 < unit_of end
-some_unit end = some_of (nat_le end FARTHEST_END)
 
 module _ {V : Type 0} (levels : Levels V) (lawful : IsLawful levels) (track : StepFunction V) (function : IsTrackFunction levels track.end track.steps)
     (whole : track.end % unit_of track.end ≡ 0) where
@@ -43,6 +42,15 @@ module _ {V : Type 0} (levels : Levels V) (lawful : IsLawful levels) (track : St
       let up = rises i (omega arith) in
       let same : break_metre track (i + 1) ≡ break_metre track (suc i) = ap (break_metre track) (omega arith) in
       omega arith
+
+  -- at a unit of 1 there is one column for each run
+  pub columns_are_runs : unit_of track.end ≡ 1 → length track.steps ≡ stretches_of track
+  columns_are_runs one =
+      let starts = starts_of track.steps in
+      let breaks : breaks_for (unit_of track.end) track ≡ starts ++ track.end ∷ [] =
+      ap (λ unit. breaks_of unit track.end starts) one ∙ breaks_are track.end starts function.starts.rising function.starts.inside in
+      let count : length (breaks_for (unit_of track.end) track) ≡ length starts + 1 = ap length breaks ∙ length-append starts (track.end ∷ []) in
+      omega (arith, count, length-map track.steps (λ (run : ℕ × V). run.0))
 
   -- ---- the least value of a stretch
 

@@ -9,6 +9,7 @@ use Rattle.rbc_table_laws.specs.Stretches.{cost_of_step}
 use Rattle.rbc_price.specs.Columns.{stretches_of}
 use Rattle.rbc_price.specs.declared.places.Place.{Place}
 use Rattle.rbc_price.specs.Places.{IsDearer, IsFirstRow, IsFirst, comes_before, earlier}
+use Rattle.std.proofs.lemmas.Bool.{cases_lt}
 
 -- ---- the order of places
 
@@ -21,9 +22,6 @@ not_both_ways a b e = grind (arith, nat_tests)
 
 not_before_row : (a b : Place) → b.row ≤ a.row → a.to ≡ b.to → a.from ≡ b.from → comes_before a b ≡ false
 not_before_row a b h e f = grind (arith, nat_tests)
-
-below_or_not : (a b : ℕ) → (a < b) ⊎ (b ≤ a)
-below_or_not a b = grind arith
 
 module _ {V : Type 0} (levels : Levels V) (track : StepFunction V) (rows : List (List ℕ)) where
   -- of fewer pairs
@@ -91,7 +89,7 @@ module _ {V : Type 0} (levels : Levels V) (track : StepFunction V) (rows : List 
       let cost_is : cost_of_step levels (unit_of track.end) track place.from place.to ≡ cost_of_step levels (unit_of track.end) track from to =
       ap (λ k. cost_of_step levels (unit_of track.end) track k place.to) there ∙ ap (cost_of_step levels (unit_of track.end) track from) up_to in (
         record { inside = f.2; on = omega arith; column = omega arith; dearer = record { start = f.3.start; above = omega arith } },
-        λ other judged high. elim (below_or_not other.row place.row) [
+        λ other judged high. elim (cases_lt other.row place.row) [
           | inl less ↦ absurd (f.4 other.row less (dearer_here other from to cost judged.0 judged.1 is high.dearer))
           | inr not ↦ not_before_row other place not (judged.1 ∙ sym up_to) (judged.0 ∙ sym there)
         ],

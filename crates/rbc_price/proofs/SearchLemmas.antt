@@ -1,7 +1,7 @@
 -- The first answer of a row of numbers, and the first price that is too high as it is found by its place.
 use Rattle.std.proofs.Common.{◌≡◌, refl, ap, sym, ◌∙◌, arith, ℕ, zero, suc, ◌+◌, ◌<◌, ◌≤◌, ◌⊎◌, inl, inr, Bool, true, false, List, length, Option, Some, None, Err, nat_le, if◌then◌else◌}
 use Rattle.std.specs.Option.{option_or}
-use Rattle.std.proofs.lemmas.Bool.{le-leb}
+use Rattle.std.proofs.lemmas.Bool.{le-leb, lt-leb}
 use Rattle.std.proofs.lemmas.Bool.Decides.{nat_tests}
 use Rattle.rbc_model.specs.declared.prices.Reason.{Reason}
 use Rattle.rbc_model.specs.declared.prices.Reason.TheVariants.{Inequality}
@@ -13,6 +13,7 @@ use Rattle.rbc_model.specs.Scales.{unit_of}
 use Rattle.rbc_price.specs.Columns.{stretches_of}
 use Rattle.rbc_price.specs.declared.places.Place.{Place}
 use Rattle.rbc_price.specs.Places.{IsTooHigh, comes_before}
+use Rattle.rbc_model.proofs.ScanLemmas.{le_or_lt}
 
 -- ---- the first answer
 
@@ -58,15 +59,6 @@ pub test_of_none : (test : Bool) (reason : Reason) → (if test then None else S
 test_of_none true reason e = refl
 test_of_none false reason e = absurd (cc)
 
-pub not_le : (a b : ℕ) → b < a → nat_le a b ≡ false
-not_le a b h = grind (arith, nat_tests)
-
-more_or_not : (a b : ℕ) → (a ≤ b) ⊎ (b < a)
-more_or_not a b = grind arith
-
-first_or_later : (j : ℕ) → (j ≡ 0) ⊎ (1 ≤ j)
-first_or_later j = grind arith
-
 by_row : (a b : Place) → a.row < b.row → comes_before a b ≡ true
 by_row a b h = grind (arith, nat_tests)
 
@@ -102,7 +94,7 @@ module _ {V : Type 0} (levels : Levels V) (limit : ℕ) (track : StepFunction V)
   high_at place high =
       let above = high.dearer.above in
       or_some (nat_le (table_at rows (suc place.row) place.to) (table_at rows place.row place.from + step_cost levels (unit_of track.end) limit track.end track.steps place.from place.to)) (reason_at place)
-      (not_le (table_at rows (suc place.row) place.to) (table_at rows place.row place.from + step_cost levels (unit_of track.end) limit track.end track.steps place.from place.to) above)
+      (lt-leb (table_at rows (suc place.row) place.to) (table_at rows place.row place.from + step_cost levels (unit_of track.end) limit track.end track.steps place.from place.to) above)
 
   low_at : (place : Place) → place.row < length rows → 1 ≤ place.to → place.to ≤ stretches_of track
       → place.from < starts_before levels limit track rows place.row place.to → (IsTooHigh levels track rows place → ⊥)
@@ -110,7 +102,7 @@ module _ {V : Type 0} (levels : Levels V) (limit : ℕ) (track : StepFunction V)
   low_at place row some column start low =
       let s = starts_low place.row place.from place.to some start in
       or_none (nat_le (table_at rows (suc place.row) place.to) (table_at rows place.row place.from + step_cost levels (unit_of track.end) limit track.end track.steps place.from place.to)) (reason_at place)
-      (elim (more_or_not (table_at rows (suc place.row) place.to) (table_at rows place.row place.from + step_cost levels (unit_of track.end) limit track.end track.steps place.from place.to)) [
+      (elim (le_or_lt (table_at rows (suc place.row) place.to) (table_at rows place.row place.from + step_cost levels (unit_of track.end) limit track.end track.steps place.from place.to)) [
         | inl h ↦ le-leb (table_at rows (suc place.row) place.to) (table_at rows place.row place.from + step_cost levels (unit_of track.end) limit track.end track.steps place.from place.to) h
         | inr h ↦ absurd (low (record { inside = row; on = s.0; column = column; dearer = record { start = s.1; above = h } }))
       ])

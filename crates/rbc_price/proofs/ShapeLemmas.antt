@@ -1,7 +1,7 @@
 -- The shape of a table: what it says, test by test.
 use Rattle.std.proofs.Common.{◌≡◌, refl, sym, ℕ, ◌%◌, ◌≤◌, List, length, Bool, true, false, ◌&&◌, ◌==◌, nat_le, min}
 use Rattle.std.specs.List.{list_all}
-use Rattle.std.proofs.lemmas.Bool.{eqb-true, eq-eqb, le-leb, leb-true}
+use Rattle.std.proofs.lemmas.Bool.{eqb-true, eq-eqb, le-leb, leb-true, and_from}
 use Rattle.rbc_model.specs.declared.limits.TheConstants.{MOST_STEPS}
 use Rattle.rbc_model.specs.Results.{is_from_to}
 use Rattle.rbc_model.specs.Levels.{Levels}
@@ -10,10 +10,6 @@ use Rattle.rbc_model.specs.Scales.{unit_of}
 use Rattle.rbc_model.specs.PriceChecks.{has_shape}
 use Rattle.rbc_model.proofs.CountingLemmas.{both_of}
 use Rattle.rbc_price.specs.Columns.{stretches_of}
-
-both : (a b : Bool) → a ≡ true → b ≡ true → (a && b) ≡ true
-both true b e f = f
-both false b e f = e
 
 module _ {V : Type 0} (levels : Levels V) (limit : ℕ) (track profile : StepFunction V) (rows : List (List ℕ)) where
   pub record IsShaped : Type 0 where
@@ -51,12 +47,12 @@ module _ {V : Type 0} (levels : Levels V) (limit : ℕ) (track profile : StepFun
 
   pub has_shape_of : IsShaped → has_shape levels limit track profile rows ≡ true
   has_shape_of s =
-      let limits = both (nat_le 1 limit) (nat_le limit MOST_STEPS) (le-leb 1 limit s.some) (le-leb limit MOST_STEPS s.few) in
-      let end = both (is_from_to 1 MOST_STEPS limit) (track.end == profile.end) limits (eq-eqb track.end profile.end s.end) in
-      let whole = both ends (track.end % unit_of track.end == 0) end (eq-eqb (track.end % unit_of track.end) 0 s.whole) in
-      let in_units = both (ends && (track.end % unit_of track.end == 0)) (are_multiples (unit_of track.end) (starts_of profile.steps)) whole s.in_units in
-      let count = both units (length rows == min limit (stretches_of track)) in_units (eq-eqb (length rows) (min limit (stretches_of track)) s.count) in
-      both (units && (length rows == min limit (stretches_of track))) (list_all (λ row. length row == stretches_of track) rows) count s.wide
+      let limits = and_from (nat_le 1 limit) (nat_le limit MOST_STEPS) (le-leb 1 limit s.some) (le-leb limit MOST_STEPS s.few) in
+      let end = and_from (is_from_to 1 MOST_STEPS limit) (track.end == profile.end) limits (eq-eqb track.end profile.end s.end) in
+      let whole = and_from ends (track.end % unit_of track.end == 0) end (eq-eqb (track.end % unit_of track.end) 0 s.whole) in
+      let in_units = and_from (ends && (track.end % unit_of track.end == 0)) (are_multiples (unit_of track.end) (starts_of profile.steps)) whole s.in_units in
+      let count = and_from units (length rows == min limit (stretches_of track)) in_units (eq-eqb (length rows) (min limit (stretches_of track)) s.count) in
+      and_from (units && (length rows == min limit (stretches_of track))) (list_all (λ row. length row == stretches_of track) rows) count s.wide
 
   not_true : (test : Bool) → (test ≡ true → ⊥) → false ≡ test
   not_true true never = absurd (never refl)

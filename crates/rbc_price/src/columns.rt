@@ -67,7 +67,11 @@ pub fn column_count<V: Level>(track: &Runs<V>) -> usize
     ensures count { result ≡ stretches_of track.now }
     ensures track { IsTrackFunction V.levels track.now.end track.now.steps }
 {
-    let _end = track.end();
+    let end = track.end();
+    if unit_of(end) == 1 {
+        // Each run is a stretch.
+        return track.runs().len();
+    }
     let mut last = first_column(track);
     while let Some(next) = column_behind(track, last) {
         last = next;

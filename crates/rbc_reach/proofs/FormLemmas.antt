@@ -1,7 +1,7 @@
 -- Parts that pass the test make a view in form.
-use Rattle.std.proofs.Common.{◌≡◌, ℕ, ◌+◌, ◌-◌, ◌≤◌, ◌^◌, Bool, true, ◌&&◌, nat_le, refl, arith, subst}
+use Rattle.std.proofs.Common.{◌≡◌, ◌+◌, ◌-◌, ◌≤◌, ◌^◌, true, ◌&&◌, nat_le, arith, subst}
 use Rattle.std.specs.Prelude.{◌==◌}
-use Rattle.std.proofs.lemmas.Bool.{leb-true, le-leb, eqb-true}
+use Rattle.std.proofs.lemmas.Bool.{leb-true, le-leb, eqb-true, and_from, eq-eqb}
 use Rattle.rbc_model.specs.declared.limits.TheConstants.{FARTHEST_END_IN_TENS, MOST_STEPS}
 use Rattle.rbc_model.specs.declared.places.Format.TheVariants.{Far}
 use Rattle.rbc_model.specs.Levels.{speed_levels, grade_levels}
@@ -12,9 +12,8 @@ use Rattle.rbc_model.proofs.CountingLemmas.{both_of}
 use Rattle.rbc_model.proofs.ScaleLemmas.{expressible_some, expressible_near_enough}
 use Rattle.rbc_reach.specs.declared.parts.ViewParts.{ViewParts}
 use Rattle.rbc_reach.specs.Forms.{view_of_parts, are_in_form, IsViewInForm}
-
-from_to : (low high n : ℕ) → is_from_to low high n ≡ true → (low ≤ n) × (n ≤ high)
-from_to low high n h = let parts = both_of (nat_le low n) (nat_le n high) h in (leb-true low n parts.0, leb-true n high parts.1)
+use Rattle.rbc_model.proofs.FrameLemmas.{limits_of}
+use Rattle.rbc_model.proofs.SpellingLemmas.{within}
 
 pub in_form-parts : (parts : ViewParts) → are_in_form parts ≡ true
     → IsTrackFunction speed_levels parts.speeds.end parts.speeds.steps
@@ -36,8 +35,8 @@ in_form-parts parts h speeds grades =
     let some = expressible_some Far n second.1 in
     let far = expressible_near_enough Far n second.1 in
     let near = leb-true parts.origin (2 ^ 32 - 1 - FARTHEST_END_IN_TENS) third.1 in
-    let speeds_limit = from_to 1 MOST_STEPS parts.speed_steps fourth.1 in
-    let grades_limit = from_to 1 MOST_STEPS parts.grade_steps last.1 in (
+    let speeds_limit = limits_of 1 MOST_STEPS parts.speed_steps fourth.1 in
+    let grades_limit = limits_of 1 MOST_STEPS parts.grade_steps last.1 in (
       record {
         ahead = omega arith;
         expressible = subst (λ k. is_expressible Far k ≡ true) here second.1;
@@ -54,15 +53,6 @@ in_form-parts parts h speeds grades =
 
 -- ---- parts that the search finds pass the test
 
-both_hold : (a b : Bool) → a ≡ true → b ≡ true → (a && b) ≡ true
-both_hold a b h k = rw (h, k) refl
-
-within : (low high n : ℕ) → low ≤ n → n ≤ high → is_from_to low high n ≡ true
-within low high n h k = both_hold (nat_le low n) (nat_le n high) (le-leb low n h) (le-leb n high k)
-
-same_end : (a b : ℕ) → a ≡ b → (a == b) ≡ true
-same_end a b h = grind (arith, h)
-
 pub parts-in_form : (parts : ViewParts) → parts.grades.end ≡ parts.speeds.end → is_expressible Far parts.speeds.end ≡ true → parts.origin ≤ 2 ^ 32 - 1 - FARTHEST_END_IN_TENS
     → 1 ≤ parts.speed_steps → parts.speed_steps ≤ MOST_STEPS → 1 ≤ parts.grade_steps → parts.grade_steps ≤ MOST_STEPS → are_in_form parts ≡ true
 parts-in_form parts ends end room s0 s1 g0 g1 =
@@ -72,10 +62,10 @@ parts-in_form parts ends end room s0 s1 g0 g1 =
     let room_test = nat_le parts.origin (2 ^ 32 - 1 - FARTHEST_END_IN_TENS) in
     let speed_limit = is_from_to 1 MOST_STEPS parts.speed_steps in
     let grade_limit = is_from_to 1 MOST_STEPS parts.grade_steps in
-    both_hold (end_test && expressible && room_test && speed_limit) grade_limit
-    (both_hold (end_test && expressible && room_test) speed_limit
-    (both_hold (end_test && expressible) room_test
-    (both_hold end_test expressible (same_end parts.grades.end n ends) end)
+    and_from (end_test && expressible && room_test && speed_limit) grade_limit
+    (and_from (end_test && expressible && room_test) speed_limit
+    (and_from (end_test && expressible) room_test
+    (and_from end_test expressible (eq-eqb parts.grades.end n ends) end)
     (le-leb parts.origin (2 ^ 32 - 1 - FARTHEST_END_IN_TENS) room))
     (within 1 MOST_STEPS parts.speed_steps s0 s1))
     (within 1 MOST_STEPS parts.grade_steps g0 g1)

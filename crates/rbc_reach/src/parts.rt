@@ -1,13 +1,13 @@
 //! The parts that a view is made of.
 
-use rbc_model::{GroupName, Leg, Obstacle};
+use rbc_model::{GroupName, Leg, Obstacle, TrainId};
 use rbc_steps::{Grade, Runs, Speed};
 
 /// The parts that a view is made of. Places are metres from the start of the train's line.
 #[derive(Drop)]
 pub struct ViewParts {
     /// The train's number.
-    pub train: u32,
+    pub train: TrainId,
     /// The balise group of its last report (LRBG).
     pub group: GroupName,
     /// Whether it runs in the group's nominal direction.

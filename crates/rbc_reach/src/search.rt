@@ -14,7 +14,7 @@ ghost use Rattle.rbc_scene_laws.specs.Good.{IsGoodLocks};
 ghost use Rattle.rbc_scene.specs.Reaches.{scene_of};
 
 use crate::{View, ViewParts};
-use rbc_model::{Leg, Memory, OrMemory, ViewFault};
+use rbc_model::{Leg, Memory, OrMemory, TrainId, ViewFault};
 use rbc_scene::{Book, Line, Locks, Reach, Scene, Train, reach};
 use std::alloc::Global;
 
@@ -28,7 +28,7 @@ use std::alloc::Global;
 ///   a safe end.
 ///
 /// `Memory`, where the allocator refuses room for the search or the view.
-pub fn view(alloc: Global, scene: &Scene, train: u32) -> Result<View, OrMemory<ViewFault>>
+pub fn view(alloc: Global, scene: &Scene, train: TrainId) -> Result<View, OrMemory<ViewFault>>
     ensures view { AnswersOrMemory result (view scene.now.track scene.now.scene train) }
     ensures unknown { train_numbered scene.now.scene train ≡ None → result ≡ Err (Refused UnknownTrain) }
 {

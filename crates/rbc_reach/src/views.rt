@@ -9,7 +9,7 @@ ghost use Rattle.rbc_reach.specs.Forms.{metres_shown, view_of_parts, are_in_form
 use crate::ViewParts;
 use rbc_model::limits::{FARTHEST_END_IN_TENS, MOST_STEPS};
 use rbc_model::scales::is_expressible;
-use rbc_model::{Format, GroupName, Leg, Obstacle};
+use rbc_model::{Format, GroupName, Leg, Obstacle, TrainId};
 use rbc_steps::{Grade, Runs, Speed};
 use std::marker::Model;
 
@@ -63,7 +63,7 @@ impl View {
     }
 
     /// The train's number.
-    pub fn train(&self) -> u32
+    pub fn train(&self) -> TrainId
         ensures { result ≡ self.now.train }
     {
         self.parts.train

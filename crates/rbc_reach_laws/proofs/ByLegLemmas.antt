@@ -1,25 +1,22 @@
 -- What is told of each leg's metres, at the places of a way: the first place of its spans.
-use Rattle.std.specs.List.{list_any}
-use Rattle.std.proofs.Common.{◌≡◌, ℕ, ◌+◌, ◌-◌, ◌<◌, ◌≤◌, max, Bool, true, false, ◌&&◌, ◌||◌, [], ◌∷◌, Option, Some, None, refl, ap, sym, subst, ◌∙◌, arith, ◌⊎◌, inl, inr, nat_lt, nat_le}
+use Rattle.std.proofs.Common.{◌≡◌, ℕ, ◌+◌, ◌-◌, ◌<◌, ◌≤◌, max, Bool, true, false, ◌&&◌, [], ◌∷◌, Option, Some, None, refl, ap, sym, subst, ◌∙◌, arith, ◌⊎◌, inl, inr, nat_lt, nat_le}
 use Rattle.std.specs.Prelude.{if◌then◌else◌}
 use Rattle.std.specs.Option.{option_or}
-use Rattle.std.proofs.lemmas.Bool.{ltb-true, lt-ltb}
-use Rattle.std.proofs.lemmas.List.Sums.{sum_by-cons}
+use Rattle.std.proofs.lemmas.Bool.{ltb-true, lt-ltb, false_from_ne_true}
 use Rattle.rbc_model.specs.declared.places.Leg.{Leg}
 use Rattle.rbc_model.specs.Tracks.{Track, metres_of}
 use Rattle.rbc_model.specs.Lines.{Line, line_length}
 use Rattle.rbc_model.proofs.ScanLemmas.{le_or_lt}
-use Rattle.rbc_reach_laws.specs.Spans.{lies_in, first_in, first_by, spans_by}
-use Rattle.rbc_reach_laws.proofs.BasicLemmas.{clash, if_in, if_past, not_passed, below, is_below, same_between}
+use Rattle.rbc_reach_laws.specs.Spans.{lies_in, first_in, first_by}
+use Rattle.rbc_reach_laws.proofs.BasicLemmas.{clash, below, is_below}
 use Rattle.rbc_reach_laws.proofs.FirstLemmas.{IsFirstFrom, IsFound, IsFound-same, IsFound-then}
+use Rattle.rbc_model.proofs.BasicLemmas.{if_in, if_past}
+use Rattle.rbc_model.proofs.MetreLemmas.{line_length-cons}
 
 -- a test of the metres of each leg and of the leg before it, at a place of a line
 abbrev pub at_leg : (Option Leg → Leg → ℕ → Bool) → Track → Option Leg → Line → ℕ → Bool
 at_leg test track before [] i = false
 at_leg test track before (leg ∷ legs) i = if nat_lt i (metres_of track leg.section) then test before leg i else at_leg test track (Some leg) legs (i - metres_of track leg.section)
-
-pub line_length-cons : (track : Track) (leg : Leg) (line : Line) → line_length track (leg ∷ line) ≡ metres_of track leg.section + line_length track line
-line_length-cons track leg line = sum_by-cons (λ (l : Leg). metres_of track l.section) leg line
 
 pub at_leg-same : (test other : Option Leg → Leg → ℕ → Bool) (track : Track) (before : Option Leg) (line : Line) (i : ℕ) → ((b : Option Leg) (l : Leg) (k : ℕ) → k < metres_of track l.section → test b l k ≡ other b l k) → at_leg test track before line i ≡ at_leg other track before line i
 at_leg-same test other track before [] i same = refl
@@ -45,11 +42,11 @@ in_span start p a b i h e =
       low = omega arith;
       high = omega arith;
       passes = is_below a b (i - p) (omega arith) (omega arith);
-      before = λ j l u. not_passed (nat_le a (j - p) && nat_lt (j - p) b) (λ t. let x = below a b (j - p) t in let y = x.0 in omega arith);
+      before = λ j l u. false_from_ne_true (nat_le a (j - p) && nat_lt (j - p) b) (λ t. let x = below a b (j - p) t in let y = x.0 in omega arith);
     }
 
 none_in_span : (start p a b j : ℕ) → p + b ≤ max start (p + a) → max start p ≤ j → (nat_le a (j - p) && nat_lt (j - p) b) ≡ false
-none_in_span start p a b j h l = not_passed (nat_le a (j - p) && nat_lt (j - p) b) (λ t. let x = below a b (j - p) t in let y = x.0 in let z = x.1 in omega arith)
+none_in_span start p a b j h l = false_from_ne_true (nat_le a (j - p) && nat_lt (j - p) b) (λ t. let x = below a b (j - p) t in let y = x.0 in let z = x.1 in omega arith)
 
 IsFirstFrom-wider : (test : ℕ → Bool) (low high higher i : ℕ) → high ≤ higher → IsFirstFrom test low high i → IsFirstFrom test low higher i
 IsFirstFrom-wider test low high higher i h f = let u = f.high in record { low = f.low; high = omega arith; passes = f.passes; before = f.before }
@@ -94,43 +91,3 @@ IsFound-first_by say track start before p (leg ∷ legs) on =
     sym (if_past (lies_in (say before leg) (j - p)) (at_leg (λ b l k. lies_in (say b l) k) track (Some leg) legs (j - p - m)) (j - p) m (omega arith)
     ∙ ap (at_leg (λ b l k. lies_in (say b l) k) track (Some leg) legs) (let e : j - p - m ≡ j - (p + m) = omega arith in e)))
     (IsFound-first_by say track start (Some leg) (p + m) legs on)))
-
--- ---- a place lies in one of the spans just where its leg's span has its metre
-
-in_first : (say : Option Leg → Leg → ℕ × ℕ) (p i a b m : ℕ) → b ≤ m → i < m → lies_in (p + a, p + b) (p + i) ≡ lies_in (a, b) i
-in_first say p i a b m h k = same_between (p + a) (p + b) (p + i) a b i (λ l u. (omega arith, omega arith)) (λ l u. (omega arith, omega arith))
-
-spans_from : (say : Option Leg → Leg → ℕ × ℕ) (track : Track) (before : Option Leg) (p i : ℕ) (line : Line) → i < p → list_any (λ s. lies_in s i) (spans_by say track before p line) ≡ false
-spans_from say track before p i [] h = refl
-spans_from say track before p i (leg ∷ legs) h =
-    none_of (lies_in (p + (say before leg).0, p + (say before leg).1) i) (list_any (λ s. lies_in s i) (spans_by say track (Some leg) (p + metres_of track leg.section) legs))
-    (not_passed (lies_in (p + (say before leg).0, p + (say before leg).1) i) (λ t. let x = below (p + (say before leg).0) (p + (say before leg).1) i t in let y = x.0 in omega arith))
-    (spans_from say track (Some leg) (p + metres_of track leg.section) i legs (omega arith))
-  where
-    none_of : (a b : Bool) → a ≡ false → b ≡ false → (a || b) ≡ false
-    none_of a b h k = rw (h, k) refl
-
-pub any_span : (say : Option Leg → Leg → ℕ × ℕ) (track : Track) (before : Option Leg) (p i : ℕ) (line : Line) → OnLegs say track → at_leg (λ b l k. lies_in (say b l) k) track before line i ≡ list_any (λ s. lies_in s (p + i)) (spans_by say track before p line)
-any_span say track before p i [] on = refl
-any_span say track before p i (leg ∷ legs) on =
-    let m = metres_of track leg.section in
-    elim (le_or_lt m i) [
-      | inl past ↦
-          if_past (lies_in (say before leg) i) (at_leg (λ b l k. lies_in (say b l) k) track (Some leg) legs (i - m)) i m past
-          ∙ any_span say track (Some leg) (p + m) (i - m) legs on
-          ∙ ap (λ j. list_any (λ s. lies_in s j) (spans_by say track (Some leg) (p + m) legs)) (let e : p + m + (i - m) ≡ p + i = omega arith in e)
-          ∙ sym (false_first (lies_in (p + (say before leg).0, p + (say before leg).1) (p + i)) (list_any (λ s. lies_in s (p + i)) (spans_by say track (Some leg) (p + m) legs))
-          (not_passed (lies_in (p + (say before leg).0, p + (say before leg).1) (p + i)) (λ t. let x = below (p + (say before leg).0) (p + (say before leg).1) (p + i) t in let y = x.1 in let z = on before leg in omega arith)))
-      | inr here ↦
-          if_in (lies_in (say before leg) i) (at_leg (λ b l k. lies_in (say b l) k) track (Some leg) legs (i - m)) i m here
-          ∙ sym (in_first say p i (say before leg).0 (say before leg).1 m (on before leg) here)
-          ∙ sym (false_second (lies_in (p + (say before leg).0, p + (say before leg).1) (p + i)) (list_any (λ s. lies_in s (p + i)) (spans_by say track (Some leg) (p + m) legs))
-          (spans_from say track (Some leg) (p + m) (p + i) legs (omega arith)))
-    ]
-  where
-    false_first : (a b : Bool) → a ≡ false → (a || b) ≡ b
-    false_first a b h = rw h refl
-
-    false_second : (a b : Bool) → b ≡ false → (a || b) ≡ a
-    false_second true b h = refl
-    false_second false b h = h

@@ -3,10 +3,11 @@ use Rattle.std.specs.List.{range_with_len, list_any, find}
 use Rattle.std.proofs.Common.{◌≡◌, ℕ, ◌-◌, ◌<◌, ◌≤◌, min, max, Bool, true, false, ◌||◌, List, [], ◌∷◌, Option, Some, None, refl, sym, subst, ◌∙◌, arith, ◌⊎◌, inl, inr, nat_lt}
 use Rattle.std.specs.Prelude.{not, unwrap_or, fold, if◌then◌else◌}
 use Rattle.std.specs.Option.{option_or}
-use Rattle.std.proofs.lemmas.Bool.{ltb-true, lt-ltb, or_from}
+use Rattle.std.proofs.lemmas.Bool.{ltb-true, lt-ltb, or_from, or_left, or_right}
 use Rattle.rbc_model.proofs.ScanLemmas.{first_blocked, le_or_lt, find-numbers, find-numbers_none}
 use Rattle.rbc_reach_laws.specs.Nearest.{nearer}
 use Rattle.rbc_reach_laws.proofs.BasicLemmas.{clash}
+use Rattle.std.proofs.Math.Bool.{or-false}
 
 -- i is the first number from low up to high that passes
 pub record IsFirstFrom (test : ℕ → Bool) (a b i : ℕ) : Type 0 where
@@ -122,13 +123,6 @@ IsNearest-then test low mid next end a b far e f g = by_test (nat_lt a mid) refl
 
 -- ---- one test beside the other
 
-first_passes : (a b : Bool) → a ≡ true → (a || b) ≡ true
-first_passes a b h = rw h refl
-
-second_passes : (a b : Bool) → b ≡ true → (a || b) ≡ true
-second_passes true b h = refl
-second_passes false b h = h
-
 pub IsNearest-nothing : (low end : ℕ) → IsNearest (λ i. false) low end end
 IsNearest-nothing low end = record { le = omega arith; low = λ h. absurd (omega arith); passes = λ h. absurd (omega arith); before = λ j l u. refl }
 
@@ -138,7 +132,7 @@ IsNearest-nearer test other low end high i None far f g =
     record {
       le = f.le;
       low = f.low;
-      passes = λ h. first_passes (test i) (other i) (f.passes h);
+      passes = λ h. or_left (test i) (other i) (f.passes h);
       before = λ j l u. or_from (test j) (other j) (f.before j l u) (g.none refl j l (omega arith));
     }
 IsNearest-nearer test other low end high i (Some x) far f g = by_order (le_or_lt i x)
@@ -151,7 +145,7 @@ IsNearest-nearer test other low end high i (Some x) far f g = by_order (le_or_lt
         (record {
           le = f.le;
           low = f.low;
-          passes = λ h. first_passes (test i) (other i) (f.passes h);
+          passes = λ h. or_left (test i) (other i) (f.passes h);
           before = λ j l u. or_from (test j) (other j) (f.before j l u) (y.before j l (omega arith));
         })
     by_order (inr h) =
@@ -161,7 +155,7 @@ IsNearest-nearer test other low end high i (Some x) far f g = by_order (le_or_lt
         (record {
           le = omega arith;
           low = λ k. y.low;
-          passes = λ k. second_passes (test x) (other x) y.passes;
+          passes = λ k. or_right (test x) (other x) y.passes;
           before = λ j l u. or_from (test j) (other j) (f.before j l (omega arith)) (y.before j l u);
         })
 
@@ -169,15 +163,11 @@ or_joined : (p q r : Bool) → ((p || q) || r) ≡ (p || (q || r))
 or_joined true q r = refl
 or_joined false q r = refl
 
-or_nothing : (p : Bool) → p ≡ (p || false)
-or_nothing true = refl
-or_nothing false = refl
-
 -- two tests of each of some things
 pub IsNearest-each : {X : Type 0} (one two : X → ℕ → Bool) (first second : X → Option ℕ) (low end high : ℕ) (xs : List X) (test : ℕ → Bool) (i : ℕ) → end ≤ high
     → ((x : X) → IsFound (one x) low high (first x)) → ((x : X) → IsFound (two x) low high (second x))
     → IsNearest test low end i → IsNearest (λ j. test j || list_any (λ x. one x j || two x j) xs) low end (fold (λ place x. nearer (nearer place (first x)) (second x)) i xs)
-IsNearest-each one two first second low end high [] test i far f g n = IsNearest-same test (λ j. test j || false) low end i (λ j l u. or_nothing (test j)) n
+IsNearest-each one two first second low end high [] test i far f g n = IsNearest-same test (λ j. test j || false) low end i (λ j l u. sym (or-false (test j))) n
 IsNearest-each one two first second low end high (x ∷ xs) test i far f g n =
     let here = IsNearest-nearer (λ j. test j || one x j) (two x) low end high (nearer i (first x)) (second x) far (IsNearest-nearer test (one x) low end high i (first x) far n (f x)) (g x) in
     IsNearest-same (λ j. ((test j || one x j) || two x j) || list_any (λ y. one y j || two y j) xs) (λ j. test j || ((one x j || two x j) || list_any (λ y. one y j || two y j) xs)) low end

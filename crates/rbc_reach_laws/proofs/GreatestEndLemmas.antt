@@ -1,8 +1,8 @@
 -- The greatest end: the last place up to the reach whose distance from the group a message can give, if an end may lie there.
 use Rattle.std.specs.List.{range_with_len, filter}
-use Rattle.std.proofs.Common.{◌≡◌, ℕ, ◌+◌, ◌-◌, ◌*◌, ◌/◌, ◌%◌, ◌<◌, ◌≤◌, ◌↔◌, min, max, Bool, true, false, ◌&&◌, ◌||◌, Option, Some, None, refl, ap, sym, subst, ◌∙◌, arith, ◌⊎◌, inl, inr, nat_lt, nat_le, ◌==◌}
+use Rattle.std.proofs.Common.{◌≡◌, ℕ, ◌+◌, ◌-◌, ◌*◌, ◌/◌, ◌%◌, ◌<◌, ◌≤◌, ◌↔◌, min, max, Bool, true, false, ◌&&◌, Option, Some, None, refl, ap, sym, subst, ◌∙◌, arith, ◌⊎◌, inl, inr, nat_lt, nat_le, ◌==◌}
 use Rattle.std.specs.Prelude.{if◌then◌else◌}
-use Rattle.std.proofs.lemmas.Bool.{leb-true, ltb-true, lt-ltb, le-leb, eqb-true, eq-eqb, or_cases}
+use Rattle.std.proofs.lemmas.Bool.{leb-true, ltb-true, lt-ltb, le-leb, eqb-true, eq-eqb, or_cases, and_from, false_from_ne_true, or_right}
 use Rattle.rbc_model.specs.declared.places.Format.{Format}
 use Rattle.rbc_model.specs.declared.places.Format.TheVariants.{Near, Far}
 use Rattle.rbc_model.specs.Results.{is_from_to}
@@ -14,43 +14,32 @@ use Rattle.rbc_model.specs.Views.{reach, last_of, is_expressible_end, greatest_e
 use Rattle.rbc_model.proofs.ScanLemmas.{IsLast, filter-numbers, filter-numbers_none, le_or_lt}
 use Rattle.rbc_reach_laws.specs.Laws.{IsGreatestUpTo}
 use Rattle.rbc_reach_laws.specs.Nearest.{greatest_up_to, nearest_end, is_ahead, greatest_end_by}
-use Rattle.rbc_reach_laws.proofs.BasicLemmas.{both, and_left, and_right, clash, not_passed}
+use Rattle.rbc_reach_laws.proofs.BasicLemmas.{and_left, and_right, clash}
+use Rattle.rbc_model.proofs.BasicLemmas.{if_true, if_false}
+use Rattle.rbc_model.proofs.FrameLemmas.{limits_of}
+use Rattle.rbc_model.proofs.SpellingLemmas.{within}
 
 -- ---- distances
 
-from_to : (low high v : ℕ) → is_from_to low high v ≡ true → (low ≤ v) × (v ≤ high)
-from_to low high v h = (leb-true low v (and_left (nat_le low v) (nat_le v high) h), leb-true v high (and_right (nat_le low v) (nat_le v high) h))
-
-is_within : (low high v : ℕ) → low ≤ v → v ≤ high → is_from_to low high v ≡ true
-is_within low high v a b = both (nat_le low v) (nat_le v high) (le-leb low v a) (le-leb v high b)
-
-or_right : (a b : Bool) → b ≡ true → (a || b) ≡ true
-or_right true b h = refl
-or_right false b h = h
-
 tens : (v : ℕ) → is_in_tens v ≡ true → (32010 ≤ v) × (v ≤ 80000) × (v % 10 ≡ 0)
 tens v h =
-    let range = from_to 32010 80000 v (and_left (is_from_to 32010 80000 v) (v % 10 == 0) h) in
+    let range = limits_of 32010 80000 v (and_left (is_from_to 32010 80000 v) (v % 10 == 0) h) in
     (range.0, range.1, eqb-true (v % 10) 0 (and_right (is_from_to 32010 80000 v) (v % 10 == 0) h))
 
 in_tens : (v : ℕ) → 32010 ≤ v → v ≤ 80000 → v % 10 ≡ 0 → is_expressible Far v ≡ true
 in_tens v low high whole =
     or_right (is_from_to 1 32000 v) (is_in_tens v)
-    (both (is_from_to 32010 80000 v) (v % 10 == 0) (is_within 32010 80000 v low high) (eq-eqb (v % 10) 0 whole))
+    (and_from (is_from_to 32010 80000 v) (v % 10 == 0) (within 32010 80000 v low high) (eq-eqb (v % 10) 0 whole))
 
 in_metres : (v : ℕ) → 0 < v → v ≤ 32000 → is_expressible Far v ≡ true
-in_metres v low high = rw (is_within 1 32000 v (omega arith) high) refl
+in_metres v low high = rw (within 1 32000 v (omega arith) high) refl
 
 -- what a message can give
 far_said : (v : ℕ) → is_expressible Far v ≡ true → ((0 < v) × (v ≤ 32000)) ⊎ ((32010 ≤ v) × (v ≤ 80000) × (v % 10 ≡ 0))
 far_said v h = elim (or_cases (is_from_to 1 32000 v) (is_in_tens v) h) [
-  | inl near ↦ let r = from_to 1 32000 v near in let low = r.0 in inl (omega arith, r.1)
+  | inl near ↦ let r = limits_of 1 32000 v near in let low = r.0 in inl (omega arith, r.1)
   | inr far ↦ inr (tens v far)
 ]
-
-pub expressible_some : (format : Format) (v : ℕ) → is_expressible format v ≡ true → 0 < v
-expressible_some Near v h = let r = from_to 1 32000 v h in let low = r.0 in omega arith
-expressible_some Far v h = elim (far_said v h) [ inl near ↦ near.0 | inr far ↦ let low = far.0 in omega arith ]
 
 far_below : (distance : ℕ) → distance < 32010 → IsGreatestUpTo Far distance (min distance 32000)
 far_below distance h = record {
@@ -83,8 +72,8 @@ far_by distance false e = far_above distance (by_order (le_or_lt 32010 distance)
 pub greatest_is : (format : Format) (distance : ℕ) → IsGreatestUpTo format distance (greatest_up_to format distance)
 greatest_is Near distance = record {
   up_to = omega arith;
-  expressible = λ some. is_within 1 32000 (min distance 32000) (omega arith) (omega arith);
-  none_between = λ other above below said. let r = from_to 1 32000 other said in let high = r.1 in absurd (omega arith);
+  expressible = λ some. within 1 32000 (min distance 32000) (omega arith) (omega arith);
+  none_between = λ other above below said. let r = limits_of 1 32000 other said in let high = r.1 in absurd (omega arith);
 }
 greatest_is Far distance = far_by distance (nat_lt distance 32010) refl
 
@@ -100,14 +89,8 @@ ahead_said train e h =
 
 ahead_is : (train : Train) (e : ℕ) → train.front < e → train.to ≤ e → train.origin < e → is_ahead train e ≡ true
 ahead_is train e a b c =
-    both (nat_lt train.front e && nat_le train.to e) (nat_lt train.origin e)
-    (both (nat_lt train.front e) (nat_le train.to e) (lt-ltb train.front e a) (le-leb train.to e b)) (lt-ltb train.origin e c)
-
-if_passed : {X : Type 0} (t : Bool) (x y : X) → t ≡ true → (if t then x else y) ≡ x
-if_passed t x y h = rw h refl
-
-if_failed : {X : Type 0} (t : Bool) (x y : X) → t ≡ false → (if t then x else y) ≡ y
-if_failed t x y h = rw h refl
+    and_from (nat_lt train.front e && nat_le train.to e) (nat_lt train.origin e)
+    (and_from (nat_lt train.front e) (nat_le train.to e) (lt-ltb train.front e a) (le-leb train.to e b)) (lt-ltb train.origin e c)
 
 module _ (track : Track) (train : Train) where
   -- whether a message can give the place
@@ -135,7 +118,7 @@ module _ (track : Track) (train : Train) where
     last_passes h =
         let some : 0 < greatest = omega arith in
         let same : greatest ≡ last - train.origin = omega arith in
-        both (nat_lt train.origin last) (is_expressible track.format (last - train.origin)) (lt-ltb train.origin last h)
+        and_from (nat_lt train.origin last) (is_expressible track.format (last - train.origin)) (lt-ltb train.origin last h)
         (subst (λ d. is_expressible track.format d ≡ true) same (is.expressible some))
 
     last_inside : train.origin < last → last ≤ r
@@ -172,10 +155,10 @@ module _ (track : Track) (train : Train) where
     by_last : (o : Option ℕ) → last_of (filter test (range_with_len (max (train.front + 1) train.to) (r + 1 - max (train.front + 1) train.to))) ≡ o → o ≡ greatest_end_by track.format train r
     by_last (Some i) h =
         let f = found i (filter-numbers test (max (train.front + 1) train.to) (r + 1 - max (train.front + 1) train.to) i h) in
-        ap Some f.0 ∙ sym (if_passed (is_ahead train last) (Some last) None f.1)
+        ap Some f.0 ∙ sym (if_true (is_ahead train last) (Some last) None f.1)
     by_last None h =
-        sym (if_failed (is_ahead train last) (Some last) None
-        (not_passed (is_ahead train last) (λ b.
+        sym (if_false (is_ahead train last) (Some last) None
+        (false_from_ne_true (is_ahead train last) (λ b.
         let x = ahead_said train last b in
         let front = x.0 in
         let to = x.1 in

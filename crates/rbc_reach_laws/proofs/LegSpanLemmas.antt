@@ -2,7 +2,7 @@
 use Rattle.std.proofs.Common.{◌≡◌, ℕ, ◌+◌, ◌-◌, ◌<◌, ◌≤◌, min, Bool, true, false, ◌&&◌, [], ◌∷◌, Option, Some, None, refl, ap, sym, subst, ◌∙◌, arith, nat_lt, nat_le}
 use Rattle.std.specs.Prelude.{◌==◌, if◌then◌else◌, option_map}
 use Rattle.std.specs.Option.{option_map_or}
-use Rattle.std.proofs.lemmas.Bool.{eqb-true}
+use Rattle.std.proofs.lemmas.Bool.{eqb-true, false_from_ne_true}
 use Rattle.rbc_model.specs.declared.places.Direction.{Direction}
 use Rattle.rbc_model.specs.declared.places.Direction.TheVariants.{Rising, Falling}
 use Rattle.rbc_model.specs.declared.places.Leg.{Leg}
@@ -11,7 +11,8 @@ use Rattle.rbc_model.specs.Lines.{Line, place_of_metre, metres_before}
 use Rattle.rbc_model.specs.Trains.{Train}
 use Rattle.rbc_model.specs.Scenes.{extent_has, authority_has}
 use Rattle.rbc_reach_laws.specs.Spans.{lies_in, span_met, leg_span, extent_span, authority_span}
-use Rattle.rbc_reach_laws.proofs.BasicLemmas.{not_passed, below, same_between}
+use Rattle.rbc_reach_laws.proofs.BasicLemmas.{below, same_between}
+use Rattle.rbc_model.proofs.ExtentLemmas.{leg_of}
 
 -- ---- one leg
 
@@ -53,10 +54,7 @@ one_leg true x n q a b k o s u here rest = here refl
 one_leg false x n q a b k o s u here rest = further q n a b o ∙ rest
 
 none_within : (k : ℕ) → false ≡ lies_in (0, 0) k
-none_within k = sym (not_passed (nat_le 0 k && nat_lt k 0) (λ h. let x = below 0 0 k h in let y = x.1 in omega arith))
-
-towards : (leg : Leg) (section : ℕ) → leg.section ≡ section → leg ≡ record { section = section; direction = leg.direction }
-towards leg section e = ap (λ x. let l : Leg = record { section = x; direction = leg.direction } in l) e
+none_within k = sym (false_from_ne_true (nat_le 0 k && nat_lt k 0) (λ h. let x = below 0 0 k h in let y = x.1 in omega arith))
 
 has_metre : (track : Track) (leg : Leg) (q a b k : ℕ) (line : Line) → k < metres_of track leg.section → met_test q a b (place_of_metre track line (metre_of_leg track leg k)) ≡ lies_in (leg_span track leg q a b line) k
 has_metre track leg q a b k [] h = none_within k
@@ -67,7 +65,7 @@ has_metre track leg q a b k (other ∷ line) h =
     (leg_span track leg (q + metres_of track other.section) a b line)
     (λ e.
     subst (λ (o : Leg). (nat_le a (q + metres_before track (metre_of_leg track leg k) o) && nat_lt (q + metres_before track (metre_of_leg track leg k) o) b) ≡ lies_in (span_met (direction_eq other.direction leg.direction) (metres_of track leg.section) q a b) k)
-    (sym (towards other leg.section (eqb-true other.section leg.section e)))
+    (sym (leg_of other leg.section (eqb-true other.section leg.section e)))
     (on_leg track leg.section other.direction leg.direction q a b k h))
     (has_metre track leg (q + metres_of track other.section) a b k line h)
 

@@ -8,6 +8,5 @@ pub mod GreatestEndLemmas
 pub mod ObstacleLemmas
 pub mod WalkLemmas
 pub mod LoopLemmas
-pub mod LimitLemmas
 pub mod ShownLemmas
 pub mod TwiceLemmas

@@ -1,9 +1,9 @@
 -- The same as loops may find it: over all trains, over all pairs of legs, and along legs that are looked up on the way.
-use Rattle.std.specs.List.{find, filter}
-use Rattle.std.proofs.Common.{◌≡◌, ℕ, zero, suc, ◌+◌, ◌-◌, max, Bool, true, false, ◌&&◌, ◌||◌, not, cond, List, [], ◌∷◌, ◌++◌, length, Option, Some, None, refl, ap, sym, subst, ◌∙◌, arith, nat_lt}
+use Rattle.std.proofs.Common.{◌≡◌, ℕ, zero, suc, ◌+◌, ◌-◌, max, Bool, true, false, not, cond, List, [], ◌∷◌, ◌++◌, length, Option, Some, None, refl, ap, sym, subst, ◌∙◌, arith, nat_lt}
 use Rattle.std.specs.Prelude.{fold, ◌==◌, if◌then◌else◌, option_and_then}
 use Rattle.std.specs.Option.{option_map_or}
-use Rattle.std.proofs.lemmas.Bool.{eqb-true, not-true}
+use Rattle.std.proofs.lemmas.Bool.{eqb-true, not-true, or_parts}
+use Rattle.std.proofs.lemmas.List.{append-nil, append_assoc}
 use Rattle.rbc_model.specs.declared.places.Leg.{Leg}
 use Rattle.rbc_model.specs.declared.refusals.Obstacle.{Obstacle}
 use Rattle.rbc_model.specs.declared.refusals.Obstacle.TheVariants.{Own}
@@ -14,11 +14,13 @@ use Rattle.rbc_model.specs.Locks.{Locks, next, longer_ahead, lengthened_fully}
 use Rattle.rbc_model.specs.Trains.{Train}
 use Rattle.rbc_model.specs.Scenes.{Scene}
 use Rattle.rbc_model.specs.Obstacles.{way}
-use Rattle.rbc_model.specs.Views.{start_of, reach, stop}
-use Rattle.rbc_reach_laws.specs.Spans.{span_met, leg_span, first_in, unlocked_span}
-use Rattle.rbc_reach_laws.specs.Nearest.{nearer, first_limit, nearest_on, leg_reach, leg_stop, end_obstacle, walk, nearest_pairs, walk_then, walk_on}
-use Rattle.rbc_reach_laws.proofs.BasicLemmas.{and_left, and_right, if_past}
+use Rattle.rbc_model.specs.Views.{reach, stop}
+use Rattle.rbc_reach_laws.specs.Spans.{span_met, leg_span, first_in}
+use Rattle.rbc_reach_laws.specs.Nearest.{nearer, leg_reach, leg_stop, end_obstacle, walk, nearest_pairs, walk_then, walk_on}
+use Rattle.rbc_reach_laws.proofs.BasicLemmas.{and_left, and_right}
 use Rattle.rbc_reach_laws.proofs.WalkLemmas.{reach-walk, stop-walk}
+use Rattle.rbc_model.proofs.BasicLemmas.{if_past}
+use Rattle.rbc_model.proofs.StopLemmas.{last_leg-push}
 
 -- ---- all trains, with one left out
 
@@ -26,41 +28,10 @@ one_kept : {X Y : Type 0} (f : Y → X → Y) (t : Bool) (y : Y) (x : X) (xs : L
 one_kept f true y x xs = refl
 one_kept f false y x xs = refl
 
-pub fold_filter : {X Y : Type 0} (f : Y → X → Y) (test : X → Bool) (y : Y) (xs : List X) → fold f y (filter test xs) ≡ fold (λ z x. if test x then f z x else z) y xs
-fold_filter f test y [] = refl
-fold_filter f test y (x ∷ xs) = one_kept f (test x) y x (filter test xs) ∙ fold_filter f test (if test x then f y x else y) xs
-
-one_sought : {X : Type 0} (test : X → Bool) (t : Bool) (x : X) (xs : List X) (o : Option X) → find test xs ≡ o → find test (cond t (x ∷ xs) xs) ≡ cond (t && test x) (Some x) o
-one_sought test true x xs o e = ap (cond (test x) (Some x)) e
-one_sought test false x xs o e = e
-
-pub find_filter : {X : Type 0} (sought test : X → Bool) (xs : List X) → find sought (filter test xs) ≡ find (λ x. test x && sought x) xs
-find_filter sought test [] = refl
-find_filter sought test (x ∷ xs) = one_sought sought (test x) x (filter test xs) (find (λ y. test y && sought y) xs) (find_filter sought test xs)
-
--- the nearest on a leg, over all trains of the scene
-pub leg_reach-all : (track : Track) (scene : Scene) (train : Train) (before : Option Leg) (p : ℕ) (leg : Leg) →
-    leg_reach track scene train before p leg
-    ≡ fold (λ place (other : Train). if not (other.report.train == train.report.train) then nearest_on track (start_of train) p leg place other else place)
-    (nearer (nearer (p + metres_of track leg.section) (first_limit track train (max (start_of train) p))) (first_in (start_of train) p (unlocked_span track scene.locks before leg)))
-    scene.trains
-leg_reach-all track scene train before p leg =
-    fold_filter (nearest_on track (start_of train) p leg) (λ (other : Train). not (other.report.train == train.report.train))
-    (nearer (nearer (p + metres_of track leg.section) (first_limit track train (max (start_of train) p))) (first_in (start_of train) p (unlocked_span track scene.locks before leg)))
-    scene.trains
-
 -- ---- all pairs of legs
 
 nothing_nearer : (place start p : ℕ) → place ≡ nearer place (first_in start p (0, 0))
 nothing_nearer place start p = sym (ap (nearer place) (if_past (Some (max start (p + 0))) None (max start (p + 0)) (p + 0) (omega arith)))
-
-or_false_left : (a b : Bool) → (a || b) ≡ false → a ≡ false
-or_false_left true b h = cc
-or_false_left false b h = refl
-
-or_false_right : (a b : Bool) → (a || b) ≡ false → b ≡ false
-or_false_right true b h = cc
-or_false_right false b h = h
 
 module _ (track : Track) (start p : ℕ) (leg : Leg) (a b : ℕ) where
   -- no leg of the section, nothing nearer
@@ -68,8 +39,8 @@ module _ (track : Track) (start p : ℕ) (leg : Leg) (a b : ℕ) where
   no_pairs q place [] h = refl
   no_pairs q place (other ∷ line) h =
       let s = nearer place (first_in start p (span_met (direction_eq other.direction leg.direction) (metres_of track leg.section) q a b)) in
-      ap (λ (t : Bool). nearest_pairs track start p leg (q + metres_of track other.section) a b (if t then s else place) line) (or_false_left (other.section == leg.section) (has_section line leg.section) h)
-      ∙ no_pairs (q + metres_of track other.section) place line (or_false_right (other.section == leg.section) (has_section line leg.section) h)
+      ap (λ (t : Bool). nearest_pairs track start p leg (q + metres_of track other.section) a b (if t then s else place) line) ((or_parts (other.section == leg.section) (has_section line leg.section) h).0)
+      ∙ no_pairs (q + metres_of track other.section) place line ((or_parts (other.section == leg.section) (has_section line leg.section) h).1)
 
   by_section : (t : Bool) (q n place : ℕ) (span : ℕ × ℕ) (line : Line) → (t ≡ true → has_section line leg.section ≡ false) →
       ((place : ℕ) → nearest_pairs track start p leg (q + n) a b place line ≡ nearer place (first_in start p (leg_span track leg (q + n) a b line))) →
@@ -88,31 +59,23 @@ module _ (track : Track) (start p : ℕ) (leg : Leg) (a b : ℕ) where
 -- ---- legs that are looked up on the way
 
 -- the legs that a line gains
-abbrev gained : ℕ → Locks → Line → Line
+abbrev pub gained : ℕ → Locks → Line → Line
 gained zero locks line = []
 gained (suc n) locks line = option_map_or (λ leg. if has_section line leg.section then [] else leg ∷ gained n locks (line ++ leg ∷ [])) (option_and_then (next locks) (last_leg line)) []
 
-push_then : (line : Line) (leg : Leg) (legs : Line) → (line ++ leg ∷ []) ++ legs ≡ line ++ leg ∷ legs
-push_then [] leg legs = refl
-push_then (a ∷ line) leg legs = ap (λ l. a ∷ l) (push_then line leg legs)
-
-append_nothing : (line : Line) → line ≡ line ++ []
-append_nothing [] = refl
-append_nothing (a ∷ line) = ap (λ l. a ∷ l) (append_nothing line)
-
 one_gained : (n : ℕ) (locks : Locks) (line : Line) (t : Bool) (leg : Leg) → lengthened_fully n (longer_ahead locks) (line ++ leg ∷ []) ≡ (line ++ leg ∷ []) ++ gained n locks (line ++ leg ∷ []) →
     option_map_or (lengthened_fully n (longer_ahead locks)) (if t then None else Some (line ++ leg ∷ [])) line ≡ line ++ (if t then [] else leg ∷ gained n locks (line ++ leg ∷ []))
-one_gained n locks line true leg ih = append_nothing line
-one_gained n locks line false leg ih = ih ∙ push_then line leg (gained n locks (line ++ leg ∷ []))
+one_gained n locks line true leg ih = sym (append-nil line)
+one_gained n locks line false leg ih = ih ∙ append_assoc line (leg ∷ []) (gained n locks (line ++ leg ∷ []))
 
 gained_by : (n : ℕ) (locks : Locks) (line : Line) (o : Option Leg) → ((leg : Leg) → lengthened_fully n (longer_ahead locks) (line ++ leg ∷ []) ≡ (line ++ leg ∷ []) ++ gained n locks (line ++ leg ∷ [])) →
     option_map_or (lengthened_fully n (longer_ahead locks)) (option_and_then (λ leg. if has_section line leg.section then None else Some (line ++ leg ∷ [])) o) line
     ≡ line ++ option_map_or (λ leg. if has_section line leg.section then [] else leg ∷ gained n locks (line ++ leg ∷ [])) o []
-gained_by n locks line None ih = append_nothing line
+gained_by n locks line None ih = sym (append-nil line)
 gained_by n locks line (Some leg) ih = one_gained n locks line (has_section line leg.section) leg (ih leg)
 
-lengthened-gained : (n : ℕ) (locks : Locks) (line : Line) → lengthened_fully n (longer_ahead locks) line ≡ line ++ gained n locks line
-lengthened-gained zero locks line = append_nothing line
+pub lengthened-gained : (n : ℕ) (locks : Locks) (line : Line) → lengthened_fully n (longer_ahead locks) line ≡ line ++ gained n locks line
+lengthened-gained zero locks line = sym (append-nil line)
 lengthened-gained (suc n) locks line = gained_by n locks line (option_and_then (next locks) (last_leg line)) (λ leg. lengthened-gained n locks (line ++ leg ∷ []))
 
 -- the last leg of a line, or the one before it
@@ -127,11 +90,6 @@ last_or-last_leg leg (next ∷ line) = last_or-last_leg next line
 last_or-none : (line : Line) → last_or None line ≡ last_leg line
 last_or-none [] = refl
 last_or-none (leg ∷ line) = last_or-last_leg leg line
-
-last_leg-push : (line : Line) (leg : Leg) → last_leg (line ++ leg ∷ []) ≡ Some leg
-last_leg-push [] leg = refl
-last_leg-push (a ∷ []) leg = refl
-last_leg-push (a ∷ b ∷ line) leg = last_leg-push (b ∷ line) leg
 
 module _ (track : Track) (scene : Scene) (train : Train) where
   -- what the walk comes to on a leg, or goes on to

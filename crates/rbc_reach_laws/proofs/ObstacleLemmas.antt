@@ -3,7 +3,7 @@ use Rattle.std.specs.List.{find}
 use Rattle.std.proofs.Common.{◌≡◌, ℕ, ◌+◌, ◌-◌, ◌<◌, ◌≤◌, Bool, true, false, not, cond, List, [], ◌∷◌, Option, Some, None, refl, ap, ap₂, sym, ◌∙◌, arith, inl, inr}
 use Rattle.std.specs.Prelude.{is_some, is_none, ◌==◌, if◌then◌else◌, option_map, option_and_then, unwrap_or}
 use Rattle.std.specs.Option.{option_or}
-use Rattle.std.proofs.lemmas.Bool.{eqb-true}
+use Rattle.std.proofs.lemmas.Bool.{eqb-true, false_from_ne_true}
 use Rattle.rbc_model.specs.declared.places.Format.{Format}
 use Rattle.rbc_model.specs.declared.places.Format.TheVariants.{Near, Far}
 use Rattle.rbc_model.specs.declared.places.Leg.{Leg}
@@ -20,10 +20,10 @@ use Rattle.rbc_model.specs.Obstacles.{first_some, no_link, not_locked, own, occu
 use Rattle.rbc_model.proofs.ScanLemmas.{le_or_lt}
 use Rattle.rbc_reach_laws.specs.Spans.{lies_in, extent_span, authority_span}
 use Rattle.rbc_reach_laws.specs.Nearest.{obstacle_on_leg, obstacle_by_legs, end_obstacle}
-use Rattle.rbc_reach_laws.proofs.BasicLemmas.{if_in, if_past, not_passed, same_number}
 use Rattle.rbc_reach_laws.proofs.LegSpanLemmas.{extent_has-span, authority_has-span}
-use Rattle.rbc_reach_laws.proofs.ByLegLemmas.{line_length-cons}
 use Rattle.rbc_reach_laws.proofs.ReachLemmas.{no_link-before, own-before}
+use Rattle.rbc_model.proofs.BasicLemmas.{same_number, if_in, if_past}
+use Rattle.rbc_model.proofs.MetreLemmas.{line_length-cons}
 
 find_same : {X : Type 0} (f g : X → Bool) (xs : List X) → ((x : X) → f x ≡ g x) → find f xs ≡ find g xs
 find_same f g [] h = refl
@@ -140,4 +140,4 @@ module _ (track : Track) (scene : Scene) (train : Train) where
   far_away Far = omega arith
 
   pub obstacle_on-nothing : unwrap_or (obstacle_on track scene train [] 0) Own ≡ Own
-  obstacle_on-nothing = ap (λ t. unwrap_or (option_or (if t then Some Limit else None) None) Own) (not_passed (0 == train.origin + farthest track.format) (λ e. let s = eqb-true 0 (train.origin + farthest track.format) e in let f = far_away track.format in omega arith))
+  obstacle_on-nothing = ap (λ t. unwrap_or (option_or (if t then Some Limit else None) None) Own) (false_from_ne_true (0 == train.origin + farthest track.format) (λ e. let s = eqb-true 0 (train.origin + farthest track.format) e in let f = far_away track.format in omega arith))

@@ -1,6 +1,5 @@
 -- What the definitions say of a place of the way, told of its leg.
-use Rattle.std.specs.List.{list_any}
-use Rattle.std.proofs.Common.{◌≡◌, ℕ, ◌+◌, ◌-◌, ◌<◌, ◌≤◌, max, Bool, true, false, ◌&&◌, List, [], ◌∷◌, Option, Some, None, refl, ap, sym, subst, ◌∙◌, arith, inl, inr, nat_lt, nat_le}
+use Rattle.std.proofs.Common.{◌≡◌, ℕ, ◌+◌, ◌-◌, ◌<◌, ◌≤◌, max, Bool, true, false, ◌&&◌, [], ◌∷◌, Option, Some, None, refl, ap, sym, subst, ◌∙◌, arith, inl, inr, nat_lt, nat_le}
 use Rattle.std.specs.Prelude.{not, is_some, if◌then◌else◌}
 use Rattle.std.specs.Option.{option_map_or}
 use Rattle.rbc_model.specs.declared.places.Leg.{Leg}
@@ -12,11 +11,13 @@ use Rattle.rbc_model.specs.Trains.{Train}
 use Rattle.rbc_model.specs.Scenes.{extent_has, authority_has}
 use Rattle.rbc_model.specs.Obstacles.{is_locked, unlocked_section}
 use Rattle.rbc_model.proofs.ScanLemmas.{le_or_lt}
-use Rattle.rbc_reach_laws.specs.Spans.{lies_in, spans_by, extent_span, authority_span, unlocked_span, first_by, first_occupied_by, first_held_by, first_unlocked}
-use Rattle.rbc_reach_laws.proofs.BasicLemmas.{if_in, if_past, not_passed, below, is_below}
+use Rattle.rbc_reach_laws.specs.Spans.{lies_in, extent_span, authority_span, unlocked_span, first_by, first_occupied_by, first_held_by, first_unlocked}
+use Rattle.rbc_reach_laws.proofs.BasicLemmas.{below, is_below}
 use Rattle.rbc_reach_laws.proofs.LegSpanLemmas.{extent_has-span, authority_has-span, leg_span-on}
 use Rattle.rbc_reach_laws.proofs.FirstLemmas.{IsFound, IsFound-same}
-use Rattle.rbc_reach_laws.proofs.ByLegLemmas.{at_leg, at_leg-same, OnLegs, any_span, IsFound-first_by}
+use Rattle.rbc_reach_laws.proofs.ByLegLemmas.{at_leg, at_leg-same, OnLegs, IsFound-first_by}
+use Rattle.std.proofs.lemmas.Bool.{false_from_ne_true}
+use Rattle.rbc_model.proofs.BasicLemmas.{if_in, if_past}
 
 -- ---- a test of the metre at a place
 
@@ -57,29 +58,6 @@ authority_at-leg track way other i =
     at_metre (λ metre. authority_has track metre other) track None way i
     ∙ at_leg-same (λ b l k. authority_has track (metre_of_leg track l k) other) (λ b l k. lies_in (authority_span track other l) k) track None way i (λ b l k h. authority_has-span track l k other h)
 
--- Law 1: the metre at place i of the way is in the other's extent just where i lies in one of the spans.
-abbrev pub extent_spans : Track → Line → Train → List (ℕ × ℕ)
-extent_spans track way other = spans_by (λ before leg. extent_span track other leg) track None 0 way
-
-abbrev pub authority_spans : Track → Line → Train → List (ℕ × ℕ)
-authority_spans track way other = spans_by (λ before leg. authority_span track other leg) track None 0 way
-
-pub extent_at-spans : (track : Track) (way : Line) (other : Train) (i : ℕ) → extent_at track way other i ≡ list_any (λ span. lies_in span i) (extent_spans track way other)
-extent_at-spans track way other i =
-    extent_at-leg track way other i ∙ any_span (λ b l. extent_span track other l) track None 0 i way (extent_on track other)
-    ∙ ap (λ j. list_any (λ span. lies_in span j) (extent_spans track way other)) (let e : 0 + i ≡ i = omega arith in e)
-
-pub authority_at-spans : (track : Track) (way : Line) (other : Train) (i : ℕ) → authority_at track way other i ≡ list_any (λ span. lies_in span i) (authority_spans track way other)
-authority_at-spans track way other i =
-    authority_at-leg track way other i ∙ any_span (λ b l. authority_span track other l) track None 0 i way (authority_on track other)
-    ∙ ap (λ j. list_any (λ span. lies_in span j) (authority_spans track way other)) (let e : 0 + i ≡ i = omega arith in e)
-
-pub extent_has-spans : (track : Track) (way : Line) (other : Train) (i : ℕ) (metre : Metre) → metre_at track way i ≡ Some metre → extent_has track metre other ≡ list_any (λ span. lies_in span i) (extent_spans track way other)
-extent_has-spans track way other i metre e = ap (λ o. option_map_or (λ met. extent_has track met other) o false) (sym e) ∙ extent_at-spans track way other i
-
-pub authority_has-spans : (track : Track) (way : Line) (other : Train) (i : ℕ) (metre : Metre) → metre_at track way i ≡ Some metre → authority_has track metre other ≡ list_any (λ span. lies_in span i) (authority_spans track way other)
-authority_has-spans track way other i metre e = ap (λ o. option_map_or (λ met. authority_has track met other) o false) (sym e) ∙ authority_at-spans track way other i
-
 -- ---- the first such place
 
 -- what is found on the way, counted from its start
@@ -107,7 +85,7 @@ IsFound-first_held_by track start way other =
 -- ---- legs that are not locked
 
 all_or_none : (t : Bool) (k m : ℕ) → k < m → not t ≡ lies_in (0, if t then 0 else m) k
-all_or_none true k m h = sym (not_passed (nat_le 0 k && nat_lt k 0) (λ t. let x = below 0 0 k t in let y = x.1 in omega arith))
+all_or_none true k m h = sym (false_from_ne_true (nat_le 0 k && nat_lt k 0) (λ t. let x = below 0 0 k t in let y = x.1 in omega arith))
 all_or_none false k m h = sym (is_below 0 m k (omega arith) h)
 
 pub unlocked_within : (track : Track) (locks : Locks) (before : Option Leg) (leg : Leg) (k : ℕ) → k < metres_of track leg.section → not (is_locked locks before leg) ≡ lies_in (unlocked_span track locks before leg) k

@@ -3,7 +3,7 @@ use Rattle.std.specs.List.{list_any, find}
 use Rattle.std.proofs.Common.{◌≡◌, ℕ, ◌+◌, ◌<◌, max, Bool, true, false, ◌&&◌, ◌||◌, cond, List, [], ◌∷◌, Option, Some, None, refl, ap, ap₂, sym, subst, ◌∙◌, arith, nat_le}
 use Rattle.std.specs.Prelude.{not, is_some, is_none, ◌==◌, if◌then◌else◌, option_map, option_and_then}
 use Rattle.std.specs.Option.{option_map_or}
-use Rattle.std.proofs.lemmas.Bool.{leb-true, le-leb, eqb-true}
+use Rattle.std.proofs.lemmas.Bool.{leb-true, le-leb, eqb-true, false_from_ne_true}
 use Rattle.rbc_model.specs.declared.places.Leg.{Leg}
 use Rattle.rbc_model.specs.declared.places.Metre.{Metre}
 use Rattle.rbc_model.specs.declared.refusals.Obstacle.{Obstacle}
@@ -18,15 +18,16 @@ use Rattle.rbc_model.specs.Obstacles.{first_some, no_link, not_locked, own, occu
 use Rattle.rbc_model.specs.Views.{start_of, way_end, reach}
 use Rattle.rbc_reach_laws.specs.Spans.{first_occupied_by, first_held_by, first_unlocked}
 use Rattle.rbc_reach_laws.specs.Nearest.{nearer, first_limit, reach_by_legs}
-use Rattle.rbc_reach_laws.proofs.BasicLemmas.{clash, not_passed, same_number}
+use Rattle.rbc_reach_laws.proofs.BasicLemmas.{clash}
 use Rattle.rbc_reach_laws.proofs.FirstLemmas.{IsFirstFrom, IsFound, IsNearest, IsNearest-unique, IsNearest-same, IsNearest-nothing, IsNearest-nearer, IsNearest-each, IsNearest-first_blocked}
 use Rattle.rbc_reach_laws.proofs.PlaceLemmas.{extent_at, authority_at, IsFound-first_occupied_by, IsFound-first_held_by, IsFound-first_unlocked}
+use Rattle.rbc_model.proofs.BasicLemmas.{same_number}
 
 -- ---- the six reasons as tests
 
 -- no reason stands at the way's end alone, before it
 not_end : (i n : ℕ) → i < n → (i == n) ≡ false
-not_end i n h = not_passed (i == n) (λ e. let s = eqb-true i n e in omega arith)
+not_end i n h = false_from_ne_true (i == n) (λ e. let s = eqb-true i n e in omega arith)
 
 none_before_end : (i n : ℕ) (say : Leg → Obstacle) (test : Leg → Bool) (o : Option Leg) → i < n → option_and_then (λ leg. if i == n && test leg then Some (say leg) else None) o ≡ None
 none_before_end i n say test None h = refl
@@ -131,12 +132,12 @@ module _ (track : Track) (scene : Scene) (train : Train) where
             let same : place ≡ i = cc in
             let low = leb-true from place h in
             subst (λ j. IsFirstFrom (λ k. k == place) from (max end (place + 1)) j) same
-            (record { low = low; high = omega arith; passes = same_number place; before = λ j l u. not_passed (j == place) (λ p. let q = eqb-true j place p in omega arith) });
+            (record { low = low; high = omega arith; passes = same_number place; before = λ j l u. false_from_ne_true (j == place) (λ p. let q = eqb-true j place p in omega arith) });
         none = λ e. absurd (let bad : ⊥ = cc in bad);
       }
       by_test place false h = record {
         some = λ i e. absurd (let bad : ⊥ = cc in bad);
-        none = λ e j l u. not_passed (j == place) (λ p. clash (nat_le from place) (le-leb from place (let q = eqb-true j place p in omega arith)) h);
+        none = λ e j l u. false_from_ne_true (j == place) (λ p. clash (nat_le from place) (le-leb from place (let q = eqb-true j place p in omega arith)) h);
       }
 
   -- ---- Law 2: the reach

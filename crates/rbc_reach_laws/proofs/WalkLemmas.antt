@@ -17,12 +17,13 @@ use Rattle.rbc_model.specs.Views.{start_of, way_end, reach, stop}
 use Rattle.rbc_model.proofs.ScanLemmas.{le_or_lt}
 use Rattle.rbc_reach_laws.specs.Spans.{lies_in, extent_span, authority_span, unlocked_span, first_in}
 use Rattle.rbc_reach_laws.specs.Nearest.{nearer, first_limit, leg_reach, first_having, obstacle_on_leg, leg_stop, obstacle_by_legs, end_obstacle, walk}
-use Rattle.rbc_reach_laws.proofs.BasicLemmas.{if_in, if_past}
 use Rattle.rbc_reach_laws.proofs.FirstLemmas.{IsNearest, IsNearest-unique, IsNearest-same, IsNearest-then, IsNearest-nothing, IsNearest-nearer, IsNearest-each}
-use Rattle.rbc_reach_laws.proofs.ByLegLemmas.{at_leg, line_length-cons, IsFound-first_in}
+use Rattle.rbc_reach_laws.proofs.ByLegLemmas.{at_leg, IsFound-first_in}
 use Rattle.rbc_reach_laws.proofs.PlaceLemmas.{extent_at, authority_at, extent_at-leg, authority_at-leg, unlocked_at-leg, extent_on, authority_on, unlocked_on, unlocked_within}
 use Rattle.rbc_reach_laws.proofs.ReachLemmas.{some_mapped, some_found, any_either, any_same, limit_at, blocked_at, IsFound-first_limit, IsNearest-reach}
 use Rattle.rbc_reach_laws.proofs.ObstacleLemmas.{obstacle_on-legs, obstacle_on-end, obstacle_on-nothing}
+use Rattle.rbc_model.proofs.BasicLemmas.{if_in, if_past}
+use Rattle.rbc_model.proofs.MetreLemmas.{line_length-cons}
 
 module _ (track : Track) (scene : Scene) (train : Train) where
   -- whether some reason stands so many metres from the start of a line that begins at p

@@ -12,10 +12,11 @@ use Rattle.rbc_model.specs.Views.{View, reach, view}
 use Rattle.rbc_model.proofs.EndLemmas.{IsGreatestEnd-greatest_end, le_reach-IsSafe, reach-le}
 use Rattle.rbc_model.proofs.ScanLemmas.{le_or_lt}
 use Rattle.rbc_scene_laws.proofs.BasicLemmas.{the_some}
-use Rattle.rbc_scene_laws.proofs.SpotLemmas.{if_in, line_length-cons}
 use Rattle.rbc_grant_laws.specs.Candidates.{IsCandidateOf}
 use Rattle.rbc_grant_laws.proofs.CandidateLemmas.{IsSeen, IsThere, is_seen, is_there, placed_well}
 use Rattle.rbc_grant.specs.Steps.{LeadTo}
+use Rattle.rbc_model.proofs.BasicLemmas.{if_in}
+use Rattle.rbc_model.proofs.MetreLemmas.{line_length-cons}
 
 take_one_more : (leg : Leg) (k : ℕ) (line : Line) → take (1 + k) (leg ∷ line) ≡ leg ∷ take k line
 take_one_more leg k line = ap (λ j. take j (leg ∷ line)) (let e : 1 + k ≡ suc k = omega arith in e)

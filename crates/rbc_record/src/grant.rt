@@ -3,14 +3,14 @@
 ghost use Rattle.std.specs.Prelude.{◌≡◌};
 
 use rbc_grant::Candidate;
-use rbc_model::Obstacle;
+use rbc_model::{Obstacle, TrainId};
 use rbc_packet::Authority;
 use std::marker::Model;
 
 /// What was granted to a train: from where on, which authority, and what stands beyond its end.
 #[derive(Drop)]
 pub struct Grant {
-    train: u32,
+    train: TrainId,
     from: i64,
     authority: Authority,
     obstacle: Obstacle,
@@ -55,7 +55,7 @@ impl Grant {
     }
 
     /// The train's number.
-    pub fn train(&self) -> u32
+    pub fn train(&self) -> TrainId
         ensures { result ≡ self.now.train }
     {
         self.train

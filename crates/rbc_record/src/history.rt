@@ -22,7 +22,7 @@ ghost use Rattle.rbc_record.specs.Records.{scene_now, is_full};
 use crate::{ApplyFault, CommitFault, Entry, Filed, Receipt};
 use rbc_grant::{Candidate, Scene, View};
 use rbc_model::limits::MOST_ENTRIES;
-use rbc_model::{Memory, OrMemory, Refusal, Told, ViewFault};
+use rbc_model::{Distance, Memory, OrMemory, Refusal, Told, TrainId, ViewFault};
 use rbc_track::Track;
 use std::alloc::Global;
 use std::marker::Model;
@@ -239,7 +239,7 @@ impl Record {
         self.entries.reserve(1)?;
         let filed = Filed::of(alloc, candidate)?;
         candidate.known();
-        let end = candidate.authority().end();
+        let end = Distance::new(candidate.authority().end());
         let legs = candidate.view().legs();
         // What is best for the view that the train is shown is accepted, and the view's legs lead to its end.
         self.scene.grant_along(alloc, candidate.train(), end, legs)?;
@@ -259,7 +259,7 @@ impl Record {
     }
 
     /// Whether there is a train of this number.
-    pub fn has_train(&self, train: u32) -> bool
+    pub fn has_train(&self, train: TrainId) -> bool
         ensures { result ≡ has_train self.now train }
     {
         self.scene.book().get(train).is_some()
@@ -275,7 +275,7 @@ impl Record {
     ///   be given by a message.
     ///
     /// `Memory`, where the allocator refuses room for the search or the view.
-    pub fn view(&self, alloc: Global, train: u32) -> Result<View, OrMemory<ViewFault>>
+    pub fn view(&self, alloc: Global, train: TrainId) -> Result<View, OrMemory<ViewFault>>
         ensures view { AnswersOrMemory result (view self.now.track (scene_now self.now) train) }
         ensures train { IfOk result (λ v. v.train ≡ train) }
         ensures unknown { train_numbered (scene_now self.now) train ≡ None → result ≡ Err (Refused UnknownTrain) }

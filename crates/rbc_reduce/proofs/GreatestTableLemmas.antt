@@ -1,9 +1,8 @@
 -- A table whose columns are filled with the least prices is the greatest sound one.
-use Rattle.std.proofs.Common.{◌≡◌, refl, ap, sym, ◌∙◌, arith, ℕ, zero, suc, ◌+◌, ◌-◌, ◌<◌, ◌≤◌, Bool, true, false, ◌&&◌, ◌==◌, Option, List, [], ◌∷◌, length, get_or, min}
+use Rattle.std.proofs.Common.{◌≡◌, refl, ap, sym, ◌∙◌, arith, ℕ, zero, suc, ◌+◌, ◌-◌, ◌<◌, ◌≤◌, true, ◌==◌, Option, List, [], ◌∷◌, length, get_or, min}
 use Rattle.std.specs.List.{list_all}
 use Rattle.std.specs.Global.{Vec}
 use Rattle.std.proofs.lemmas.List.{length-map}
-use Rattle.std.proofs.lemmas.Bool.Decides.{nat_tests}
 use Rattle.rbc_model.specs.Levels.{Levels}
 use Rattle.rbc_model.specs.Profiles.{StepFunction, value_at, starts_of}
 use Rattle.rbc_model.specs.PriceTables.{breaks_of, cost, stretch_count, row_count, IsSoundTable, IsGreatestSoundTable}
@@ -13,6 +12,7 @@ use Rattle.rbc_table_laws.specs.PriceRows.{prices_of, AreWide}
 use Rattle.rbc_table_laws.proofs.StretchLemmas.{stretches_for}
 use Rattle.rbc_reduce.specs.Rows.{AreFilled, AreSmall, price_in, price_up_to, row_at}
 use Rattle.rbc_reduce.proofs.RowLemmas.{small_prices}
+use Rattle.std.proofs.lemmas.Bool.{and_from, eq-eqb}
 
 -- a price, read by its row
 pub price_read : (rows : List (Vec ℕ)) (j i : ℕ) → price_in rows (suc j) i ≡ price_up_to (row_at rows j) i
@@ -27,17 +27,10 @@ price_read rows j (suc i) = ap (λ row. get_or row i 0) (same_row rows j)
 cost_of_none : {V : Type 0} (levels : Levels V) (track : ℕ → Option V) (x : ℕ) → cost levels track x x ≡ 0
 cost_of_none levels track x = let e : x - x ≡ 0 = omega arith in rw e refl
 
-equal : (a b : ℕ) → a ≡ b → (a == b) ≡ true
-equal a b h = grind (arith, nat_tests)
-
-both : (a b : Bool) → a ≡ true → b ≡ true → (a && b) ≡ true
-both true b e f = f
-both false b e f = e
-
 widths : (rows : List (Vec ℕ)) (m : ℕ) → ((j : ℕ) → j < length rows → length (row_at rows j) ≡ m) → list_all (λ row. length row == m) (prices_of rows) ≡ true
 widths [] m wide = refl
 widths (row ∷ rows) m wide =
-    both (length row.items == m) (list_all (λ row. length row == m) (prices_of rows)) (equal (length row.items) m (wide 0 (omega arith))) (widths rows m (λ j h. wide (suc j) (omega arith)))
+    and_from (length row.items == m) (list_all (λ row. length row == m) (prices_of rows)) (eq-eqb (length row.items) m (wide 0 (omega arith))) (widths rows m (λ j h. wide (suc j) (omega arith)))
 
 pub wide_rows : (width : ℕ) (rows : List (Vec ℕ)) → ((j : ℕ) → j < length rows → length (row_at rows j) ≡ width) → AreWide width rows
 wide_rows width [] wide j row e = absurd (cc)

@@ -1,22 +1,18 @@
 -- Steps that fit make a profile.
-use Rattle.std.proofs.Common.{◌≡◌, refl, ap, ◌∙◌, arith, ℕ, ◌≤◌, Bool, true, false, ◌&&◌, List, [], ◌∷◌, None, Result, Ok, Err, length, nat_le, nat_lt}
+use Rattle.std.proofs.Common.{◌≡◌, refl, ap, ◌∙◌, arith, ℕ, ◌≤◌, Bool, true, ◌&&◌, List, [], ◌∷◌, None, Result, Ok, Err, length, nat_le, nat_lt}
 use Rattle.std.specs.List.{list_all}
-use Rattle.std.proofs.lemmas.Bool.{le-leb}
+use Rattle.std.proofs.lemmas.Bool.{le-leb, and_from}
 use Rattle.rbc_model.specs.declared.functions.ProfileFault.{ProfileFault}
 use Rattle.rbc_model.specs.declared.limits.TheConstants.{LONGEST_TRACK, MOST_STEPS}
 use Rattle.rbc_model.specs.Levels.{Levels}
 use Rattle.rbc_model.specs.Profiles.{IsProfile, StepFunction, are_inside, profile_fault, profile_of, starts_of}
 use Rattle.rbc_model.proofs.CountingLemmas.{both_of}
 
-both : (a b : Bool) → a ≡ true → b ≡ true → (a && b) ≡ true
-both true b e f = f
-both false b e f = e
-
 all_second : {A : Type 0} (first second : A → Bool) (xs : List A) → list_all (λ x. first x && second x) xs ≡ true → list_all second xs ≡ true
 all_second first second [] e = refl
 all_second first second (x ∷ xs) e =
     let here = both_of (first x && second x) (list_all (λ y. first y && second y) xs) e in
-    both (second x) (list_all second xs) (both_of (first x) (second x) here.0).1 (all_second first second xs here.1)
+    and_from (second x) (list_all second xs) (both_of (first x) (second x) here.0).1 (all_second first second xs here.1)
 
 module _ {V : Type 0} (levels : Levels V) (unit limit end : ℕ) where
   no_fault : (steps : List (ℕ × V)) → IsProfile levels unit limit end steps → limit ≤ MOST_STEPS → end ≤ LONGEST_TRACK → profile_fault levels end steps ≡ None
@@ -25,8 +21,8 @@ module _ {V : Type 0} (levels : Levels V) (unit limit end : ℕ) where
       let rising = p.starts.rising in
       let count = p.few in
       let inside : are_inside end (starts_of (step ∷ later)) ≡ true =
-      both (nat_le end LONGEST_TRACK) (list_all (λ start. nat_lt start end) (starts_of (step ∷ later))) (le-leb end LONGEST_TRACK near) p.starts.inside in
-      let room = both (are_inside end (starts_of (step ∷ later))) (nat_le (length (step ∷ later)) MOST_STEPS) inside (le-leb (length (step ∷ later)) MOST_STEPS (omega arith)) in
+      and_from (nat_le end LONGEST_TRACK) (list_all (λ start. nat_lt start end) (starts_of (step ∷ later))) (le-leb end LONGEST_TRACK near) p.starts.inside in
+      let room = and_from (are_inside end (starts_of (step ∷ later))) (nat_le (length (step ∷ later)) MOST_STEPS) inside (le-leb (length (step ∷ later)) MOST_STEPS (omega arith)) in
       let expressible = all_second (λ (s : ℕ × V). levels.in_range s.1) (λ (s : ℕ × V). levels.is_expressible s.1) (step ∷ later) p.values in
       rw (rising, room, expressible) refl
 

@@ -1,11 +1,9 @@
 -- The steps that are read off the greatest sound table, as they are pushed.
-use Rattle.std.proofs.Common.{◌≡◌, ◌≢◌, refl, ap, sym, ◌∙◌, arith, subst, ℕ, zero, suc, ◌+◌, ◌-◌, ◌%◌, ◌<◌, ◌≤◌, List, [], ◌∷◌, ◌++◌, Some, length, get_or, reverse, option_map, Bool, true, false, nat_le, if◌then◌else◌}
+use Rattle.std.proofs.Common.{◌≡◌, ◌≢◌, refl, ap, sym, ◌∙◌, arith, subst, ℕ, zero, suc, ◌+◌, ◌-◌, ◌%◌, ◌<◌, ◌≤◌, List, [], ◌∷◌, ◌++◌, Some, length, get_or, reverse, option_map}
 use Rattle.std.specs.Global.{Vec}
 use Rattle.std.proofs.lemmas.List.{length-map}
 use Rattle.rbc_model.specs.Levels.{Levels, IsLawful}
 use Rattle.rbc_model.specs.Profiles.{StepFunction, IsTrackFunction, value_at}
-use Rattle.rbc_model.specs.Scales.{unit_of}
-use Rattle.rbc_model.specs.declared.limits.TheConstants.{FARTHEST_END, TEN_METRES}
 use Rattle.rbc_model.specs.PriceTables.{row_count, stretch_count, least_value, IsGreatestSoundTable}
 use Rattle.rbc_table_laws.specs.TableLaws.{row_price, last_price}
 use Rattle.rbc_table_laws.specs.Breaks.{IsLowest}
@@ -17,14 +15,7 @@ use Rattle.rbc_table_laws.proofs.ReadOffLemmas.{read_of_trace}
 use Rattle.rbc_table_laws.proofs.TableLawLemmas.{searches_are_found}
 use Rattle.rbc_table_laws.proofs.StretchLemmas.{stretches_for, breaks_to_end, least_is}
 use Rattle.rbc_reduce.specs.Rows.{price_in}
-
--- a message counts some metres as one
-pub some_unit : (end : ℕ) → 0 < unit_of end
-some_unit end = by_test (nat_le end FARTHEST_END)
-  where
-    by_test : (test : Bool) → 0 < (if test then 1 else TEN_METRES)
-    by_test true = omega arith
-    by_test false = omega arith
+use Rattle.rbc_model.proofs.ScaleLemmas.{some_unit}
 
 module _ {V : Type 0} (levels : Levels V) (lawful : IsLawful levels) (track : StepFunction V) (function : IsTrackFunction levels track.end track.steps)
     (unit : ℕ) (some_unit : 0 < unit) (whole_end : track.end % unit ≡ 0) (breaks : List ℕ) (are : AreBreaksFor unit track breaks) (limit : ℕ) (rows : List (Vec ℕ)) (greatest : IsGreatestSoundTable levels unit limit track.end track.steps (prices_of rows)) where

@@ -5,7 +5,7 @@ use Rattle.std.specs.Option.{option_map_or}
 use Rattle.std.specs.Global.{Vec}
 use Rattle.std.proofs.lemmas.List.{map-id}
 use Rattle.rbc_costs.proofs.TotalLemmas.{last_or_before}
-use Rattle.rbc_reduce.specs.Rows.{AreFilled, IsCheapest, IsColumn, IsColumnMore, price_up_to, row_at, row_in}
+use Rattle.rbc_reduce.specs.Rows.{AreAlike, AreFilled, IsCheapest, IsColumn, IsColumnMore, price_up_to, row_at, row_in}
 
 -- ---- one price more in a row
 
@@ -165,3 +165,59 @@ numbers_of (Some row) = sym (map-id row.items)
 
 pub numbers_in : (rows : List (Vec ℕ)) (j : ℕ) → row_at rows j ≡ row_in (λ n. n) rows j
 numbers_in rows j = numbers_of (slice_get rows j)
+
+-- ---- rows of as many steps as columns, or more
+
+least_alike : (a b costs : ℕ → ℕ) (to p q : ℕ) → IsCheapest a costs to p → IsCheapest b costs to q → ((i : ℕ) → i < to → a i ≡ b i) → p ≡ q
+least_alike a b costs to p q one other same =
+    let there = one.reached in
+    let here = other.reached in
+    let low = one.lowest other.from other.inside in
+    let high = other.lowest one.from one.inside in
+    let x = same one.from one.inside in
+    let y = same other.from other.inside in
+    omega arith
+
+same_rows : (a b : List ℕ) → length a ≡ length b → ((i : ℕ) → i < length a → get_or a i 0 ≡ get_or b i 0) → a ≡ b
+same_rows [] [] long same = refl
+same_rows [] (y ∷ b) long same = absurd (omega arith)
+same_rows (x ∷ a) [] long same = absurd (omega arith)
+same_rows (x ∷ a) (y ∷ b) long same =
+    let first : x ≡ y = same 0 (omega arith) in
+    let rest = same_rows a b (omega arith) (λ i h. same (suc i) (omega arith)) in
+    λ k. first k ∷ rest k
+
+module _ (cost : ℕ → ℕ → ℕ) (count : ℕ) (row : ℕ → List ℕ) (columns : ℕ) (f : AreFilled cost count row columns) where
+  up_alike : (n to j : ℕ) → to ≤ n → to ≤ columns → to ≤ suc j → suc j < count → price_up_to (row (suc j)) to ≡ price_up_to (row j) to
+  up_alike n zero j below inside near few = refl
+  up_alike zero (suc to) j below inside near few = absurd (omega arith)
+  up_alike (suc n) (suc zero) zero below inside near few =
+      let c = f.each 1 (omega arith) inside in
+      let more = c.more_steps 0 few in
+      let step = c.one_step in
+      let first : more.from ≡ 0 = let h = more.inside in omega arith in
+      let at : price_up_to (row 1) 1 ≡ 0 + cost 0 1 = more.reached ∙ (λ k. price_up_to (row 0) (first k) + cost (first k) 1) in
+      omega arith
+  up_alike (suc n) (suc (suc to)) zero below inside near few = absurd (omega arith)
+  up_alike (suc n) (suc to) (suc j) below inside near few =
+      let c = f.each (suc to) (omega arith) inside in
+      least_alike (price_up_to (row (suc j))) (price_up_to (row j)) (λ i. cost i (suc to)) (suc to) (price_up_to (row (suc (suc j))) (suc to)) (price_up_to (row (suc j)) (suc to))
+      (c.more_steps (suc j) few) (c.more_steps j (omega arith))
+      (λ i h. up_alike n i j (omega arith) (omega arith) (omega arith) (omega arith))
+
+  pub alike_filled : AreAlike columns count row
+  alike_filled j far few =
+      let here = f.wide j (omega arith) in
+      let there = f.wide (suc j) few in
+      same_rows (row (suc j)) (row j) (omega arith) (λ i h. up_alike (suc i) (suc i) j (omega arith) (omega arith) (omega arith) few)
+
+-- they are as the one of so many steps
+pub alike_from : (first count : ℕ) (row : ℕ → List ℕ) → AreAlike (suc first) count row → (j : ℕ) → first ≤ j → j < count → row j ≡ row first
+alike_from first count row alike zero far few = ap row (let e : zero ≡ first = omega arith in e)
+alike_from first count row alike (suc j) far few = elim (reached first j far) [
+  | inl there ↦ ap row (sym there)
+  | inr behind ↦ alike j (omega arith) few ∙ alike_from first count row alike j behind (omega arith)
+]
+  where
+    reached : (first j : ℕ) → first ≤ suc j → (first ≡ suc j) ⊎ (first ≤ j)
+    reached first j h = grind arith

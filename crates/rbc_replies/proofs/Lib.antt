@@ -1,2 +1,3 @@
 pub mod GrantTextLemmas
 pub mod LineWordLemmas
+pub use Rattle.rbc_words.proofs.PrintingLemmas

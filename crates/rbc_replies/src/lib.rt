@@ -6,4 +6,5 @@ mod printing;
 mod replies;
 
 pub use printing::print;
+pub use rbc_words as words;
 pub use replies::{Basis, Granted, SessionRefusal, SessionReply};

@@ -38,7 +38,7 @@ pub fn print<W: Sink>(
         SessionReply::Granted(granted) => print_granted(track, granted, writer),
         SessionReply::Blocked(train, obstacle, at, version) => {
             let words = [
-                Word::Number(*train),
+                Word::Number(train.number()),
                 Word::Count(*version),
                 Word::Distance(*at),
             ];
@@ -77,7 +77,7 @@ fn print_grant_line<W: Sink>(
         (grant_line track.now granted.now) result }
 {
     let words = [
-        Word::Number(granted.train),
+        Word::Number(granted.train.number()),
         Word::Count(granted.version),
         Word::Distance(granted.from),
         Word::Number(granted.authority.end()),
@@ -138,10 +138,13 @@ fn print_obstacle<W: Sink>(
         }
         Obstacle::Own => print_words(&[Word::Text(b"Own")], writer),
         Obstacle::Occupied(train) => {
-            print_words(&[Word::Text(b"Occupied"), Word::Number(train)], writer)
+            print_words(
+                &[Word::Text(b"Occupied"), Word::Number(train.number())],
+                writer,
+            )
         }
         Obstacle::Held(train) => {
-            print_words(&[Word::Text(b"Held"), Word::Number(train)], writer)
+            print_words(&[Word::Text(b"Held"), Word::Number(train.number())], writer)
         }
         Obstacle::Limit => print_words(&[Word::Text(b"Limit")], writer),
     }
@@ -210,21 +213,21 @@ fn print_event_refusal<W: Sink>(
             &[
                 Word::Text(b"Busy"),
                 section_word(track, section),
-                Word::Number(train),
+                Word::Number(train.number()),
             ],
             writer,
         ),
         Refusal::UnknownTrain(train) => {
             print_line(
                 b"refused",
-                &[Word::Text(b"UnknownTrain"), Word::Number(train)],
+                &[Word::Text(b"UnknownTrain"), Word::Number(train.number())],
                 writer,
             )
         }
         Refusal::YieldRange(train) => {
             print_line(
                 b"refused",
-                &[Word::Text(b"YieldRange"), Word::Number(train)],
+                &[Word::Text(b"YieldRange"), Word::Number(train.number())],
                 writer,
             )
         }

@@ -5,7 +5,7 @@ ghost use Rattle.rbc_model.specs.Levels.{speed_levels, grade_levels};
 ghost use Rattle.rbc_model.specs.Messages.{message_bytes};
 ghost use Rattle.rbc_replies.specs.Certificates.{IsBasisOf, speeds_of, grades_of};
 
-use rbc_model::{LineFault, Obstacle, Refusal};
+use rbc_model::{LineFault, Obstacle, Refusal, TrainId};
 use rbc_packet::Authority;
 use rbc_steps::{Grade, Runs, Speed};
 use rbc_track::Name;
@@ -41,7 +41,7 @@ pub struct Basis<'reply, V: Spelled> {
 #[derive(Clone, Copy)]
 pub struct Granted<'reply> {
     /// The train's number.
-    pub train: u32,
+    pub train: TrainId,
     /// How many entries the history has with this one.
     pub version: u64,
     /// Where the authority begins, in metres from the train's group (negative: before the group).
@@ -72,7 +72,7 @@ pub enum SessionReply<'reply> {
     Granted(Granted<'reply>),
     /// This train may run no further: this stands in its way, so many metres from its group (negative: before the
     /// group), in a history of so many entries.
-    Blocked(u32, Obstacle, i64, u64),
+    Blocked(TrainId, Obstacle, i64, u64),
     /// The line is refused.
     Refused(SessionRefusal),
 }

@@ -30,8 +30,6 @@ use Rattle.rbc_scene_laws.proofs.BasicLemmas.{and_left, and_right, the_some}
 use Rattle.rbc_scene_laws.proofs.GrantingLemmas.{good_after_grant}
 use Rattle.rbc_scene_laws.proofs.LengtheningLemmas.{ahead_fully}
 use Rattle.rbc_scene_laws.proofs.OnLineLemmas.{IsLine-OnLine, OnLine, OnLine-IsLine, OnLine-left}
-use Rattle.rbc_scene_laws.proofs.SpotLemmas.{if_in, if_past, line_length-cons}
-use Rattle.rbc_scene_laws.proofs.TrainListLemmas.{find-passes}
 use Rattle.rbc_reach_laws.proofs.ShownLemmas.{legs_shown}
 use Rattle.rbc_way.specs.OnTracks.{LineOnTrack}
 use Rattle.rbc_way.specs.TrainsOnTracks.{TrainOnTrack}
@@ -42,6 +40,8 @@ use Rattle.rbc_scene.specs.declared.granting.Granted.{Granted}
 use Rattle.rbc_scene.specs.Grants.{granted_train}
 use Rattle.rbc_scene.specs.ScenesOnTracks.{SceneOnTrack, IsKept, scene_on}
 use Rattle.rbc_scene.specs.Steps.{LeadTo, reach_of}
+use Rattle.rbc_model.proofs.BasicLemmas.{if_in, if_past, find-passes}
+use Rattle.rbc_model.proofs.MetreLemmas.{line_length-cons}
 
 -- ---- the line that is continued
 

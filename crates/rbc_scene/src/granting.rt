@@ -14,7 +14,7 @@ ghost use Rattle.rbc_scene.specs.Steps.{is_out_of_range};
 ghost use Rattle.rbc_scene_laws.specs.Good.{IsGoodLocks};
 ghost use Rattle.rbc_way.specs.Reaches.{BeginsWay, scene_of};
 
-use rbc_model::{Leg, Memory, OrMemory, Refusal};
+use rbc_model::{Distance, Leg, Memory, OrMemory, Refusal};
 use rbc_way::{Book, Line, Locks, Train, reach};
 use std::alloc::Global;
 
@@ -64,7 +64,7 @@ fn line_along(alloc: Global, train: &Train, legs: &[Leg], to: u32) -> Result<Lin
 pub(crate) fn granted_along(
     alloc: Global,
     train: &Train,
-    distance: u32,
+    distance: Distance,
     legs: &[Leg],
 ) -> Result<Granted, Memory>
     requires line { IsLine train.now.track legs.now }
@@ -81,7 +81,7 @@ pub(crate) fn granted_along(
     let line = train.line();
     prove!(train.origin() <= train.front());
     prove!(train.front() <= line.length());
-    let to = train.origin() + distance;
+    let to = train.origin() + distance.metres();
     let line = line_along(alloc, train, legs, to)?;
     let from = train.start();
     Ok(Granted { line, from, to })
@@ -94,7 +94,7 @@ pub(crate) fn granted_to(
     locks: &Locks,
     book: &Book,
     train: &Train,
-    distance: u32,
+    distance: Distance,
 ) -> Result<Granted, OrMemory<Refusal>>
     requires track { train.now.track ≡ book.now.track }
     requires locks { IsGoodLocks book.now.track locks.now }
@@ -104,12 +104,12 @@ pub(crate) fn granted_to(
     ensures range { is_out_of_range book.now.track train.now.train distance ≡ true → result ≡ Err (Refused NotSafe) }
 {
     let line = train.line();
-    if distance > line.track().farthest_end() {
+    if distance.metres() > line.track().farthest_end() {
         return Err(OrMemory::Refused(Refusal::NotSafe));
     }
     prove!(train.origin() <= train.front());
     prove!(train.front() <= line.length());
-    let to = train.origin() + distance;
+    let to = train.origin() + distance.metres();
     if to <= train.front() || to < train.to() {
         return Err(OrMemory::Refused(Refusal::NotSafe));
     }

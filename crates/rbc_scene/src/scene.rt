@@ -19,7 +19,8 @@ ghost use Rattle.rbc_scene.specs.Steps.{end_cut, end_given_back, granted_at_once
 use crate::granting::{Granted, granted_along, granted_to};
 use rbc_model::limits::MOST_TRAINS;
 use rbc_model::{
-    Event, Leg, Memory, Obstacle, OrMemory, Refusal, Report, RouteId, SectionId, Told,
+    Distance, Event, Leg, Memory, Obstacle, OrMemory, Refusal, Report, RouteId, SectionId, Told,
+    TrainId,
 };
 use rbc_track::Track;
 use rbc_way::{Book, Locks, Train, reach, reported};
@@ -47,11 +48,11 @@ impl Model for Scene {
 
 /// The place so many metres beyond the train's group, if the train may give back what its authority has from
 /// there on.
-fn end_cut(train: &Train, distance: u32) -> Option<u32>
+fn end_cut(train: &Train, distance: Distance) -> Option<u32>
     ensures { result ≡ end_cut train.now.train distance }
 {
     let end = train.to();
-    let to = train.origin().checked_add(distance)?;
+    let to = train.origin().checked_add(distance.metres())?;
     if to < end && train.front() <= to && train.from() <= to {
         Some(to)
     } else {
@@ -214,7 +215,7 @@ impl Scene {
     /// # Errors
     ///
     /// `UnknownTrain`: there is no train of this number. Nothing changes.
-    pub fn leave(&mut self, train: u32) -> Result<(), Refusal>
+    pub fn leave(&mut self, train: TrainId) -> Result<(), Refusal>
         ensures { StepsTo result self.old self.new (after_leave self.old.scene train) }
     {
         if self.book.leave(train) {
@@ -233,7 +234,7 @@ impl Scene {
     /// - `UnknownTrain`: there is no train of this number,
     /// - `YieldRange`: its authority does not end beyond that place, or the place lies behind its front or before its
     ///   authority.
-    pub fn give_back(&mut self, train: u32, distance: u32) -> Result<(), Refusal>
+    pub fn give_back(&mut self, train: TrainId, distance: Distance) -> Result<(), Refusal>
         ensures { StepsTo result self.old self.new
             (after_give_back self.old.track self.old.scene train distance) }
     {
@@ -243,7 +244,7 @@ impl Scene {
     }
 
     /// Why the train can't leave, if it can't.
-    fn leave_refusal(&self, train: u32) -> Option<Refusal>
+    fn leave_refusal(&self, train: TrainId) -> Option<Refusal>
         ensures { result ≡ result_err (after_leave self.now.scene train) }
     {
         match self.book.get(train) {
@@ -253,14 +254,14 @@ impl Scene {
     }
 
     /// Why the train can't give that back, if it can't.
-    fn give_back_refusal(&self, train: u32, distance: u32) -> Option<Refusal>
+    fn give_back_refusal(&self, train: TrainId, distance: Distance) -> Option<Refusal>
         ensures { result ≡ result_err (after_give_back self.now.track self.now.scene train distance) }
     {
         self.end_given_back(train, distance).err()
     }
 
     /// The place at which the train's authority ends once it has given back what lies beyond.
-    fn end_given_back(&self, train: u32, distance: u32) -> Result<u32, Refusal>
+    fn end_given_back(&self, train: TrainId, distance: Distance) -> Result<u32, Refusal>
         ensures { result ≡ end_given_back self.now.scene train distance }
     {
         match self.book.get(train) {
@@ -285,8 +286,8 @@ impl Scene {
     pub fn grant(
         &mut self,
         alloc: Global,
-        train: u32,
-        distance: u32,
+        train: TrainId,
+        distance: Distance,
     ) -> Result<(), OrMemory<Refusal>>
         ensures granted { StepsOrMemory result self.old self.new
             (after_grant self.old.track self.old.scene train distance) }
@@ -302,8 +303,8 @@ impl Scene {
     fn granted(
         &self,
         alloc: Global,
-        train: u32,
-        distance: u32,
+        train: TrainId,
+        distance: Distance,
     ) -> Result<Granted, OrMemory<Refusal>>
         ensures unknown { train_numbered self.now.scene train ≡ None → result ≡ Err (Refused (UnknownTrain train)) }
         ensures track { IfOk result (λ granted. granted.line.track ≡ self.now.track) }
@@ -329,8 +330,8 @@ impl Scene {
     pub fn grant_along(
         &mut self,
         alloc: Global,
-        train: u32,
-        distance: u32,
+        train: TrainId,
+        distance: Distance,
         legs: &[Leg],
     ) -> Result<(), Memory>
         requires accepted { IsTrue (is_ok (after_grant self.old.track self.old.scene train distance)) }
@@ -348,8 +349,8 @@ impl Scene {
     fn granted_along(
         &self,
         alloc: Global,
-        train: u32,
-        distance: u32,
+        train: TrainId,
+        distance: Distance,
         legs: &[Leg],
     ) -> Result<Granted, Memory>
         requires accepted { IsTrue (is_ok (after_grant self.now.track self.now.scene train distance)) }
@@ -430,7 +431,7 @@ impl Scene {
     ///
     /// `Refused` with `UnknownTrain`, before any memory is asked for: there is no train of this number. `Memory`,
     /// where the allocator refuses room for the search.
-    pub fn reach(&self, alloc: Global, train: u32) -> Result<(Obstacle, i64), OrMemory<Refusal>>
+    pub fn reach(&self, alloc: Global, train: TrainId) -> Result<(Obstacle, i64), OrMemory<Refusal>>
         ensures reach { AnswersOrMemory result (reach_of self.now.track self.now.scene train) }
         ensures unknown { train_numbered self.now.scene train ≡ None → result ≡ Err (Refused (UnknownTrain train)) }
     {

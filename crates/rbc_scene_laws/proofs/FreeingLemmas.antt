@@ -18,11 +18,13 @@ use Rattle.rbc_model.specs.Trains.{Train}
 use Rattle.rbc_model.specs.Scenes.{Scene}
 use Rattle.rbc_model.specs.Events.{after_free, with_locks, stands_on}
 use Rattle.rbc_scene_laws.specs.Good.{OneRowBehindEach, IsGoodScene, IsGoodLocks, spot}
-use Rattle.rbc_scene_laws.proofs.BasicLemmas.{or_false_left, or_false_right, clash, same_number, each_both}
+use Rattle.rbc_scene_laws.proofs.BasicLemmas.{each_both}
 use Rattle.rbc_scene_laws.proofs.SpotLemmas.{at_place-spot}
 use Rattle.rbc_scene_laws.proofs.RowLemmas.{row-set_other, row-set_cases, is_locked-row}
 use Rattle.rbc_scene_laws.proofs.TrainListLemmas.{find-none}
 use Rattle.rbc_scene_laws.proofs.AuthorityLemmas.{IsHeldLocked}
+use Rattle.std.proofs.lemmas.Bool.{or_parts, both_ways}
+use Rattle.rbc_model.proofs.BasicLemmas.{same_number}
 
 -- ---- what an accepted one tells
 
@@ -67,8 +69,8 @@ none_of_range : (test : ℕ → Bool) (a n : ℕ) → list_any test (range_with_
 none_of_range test a zero h i low high = absurd (omega arith)
 none_of_range test a (suc n) h i low high =
     elim (at_or_past a i low) [
-      | inl e ↦ subst (λ k. test k ≡ false) (sym e) (or_false_left (test a) (list_any test (range_with_len (a + 1) n)) h)
-      | inr past ↦ none_of_range test (a + 1) n (or_false_right (test a) (list_any test (range_with_len (a + 1) n)) h) i past (omega arith)
+      | inl e ↦ subst (λ k. test k ≡ false) (sym e) ((or_parts (test a) (list_any test (range_with_len (a + 1) n)) h).0)
+      | inr past ↦ none_of_range test (a + 1) n ((or_parts (test a) (list_any test (range_with_len (a + 1) n)) h).1) i past (omega arith)
     ]
   where
     at_or_past : (a i : ℕ) → a ≤ i → (i ≡ a) ⊎ (a + 1 ≤ i)
@@ -89,9 +91,9 @@ in_section track section line i = option_map_or (λ (metre : Metre). metre.secti
 no_leg_of : (track : Track) (section : ℕ) (train : Train) → stands_on track section train ≡ false → (i : ℕ) (leg : Leg) → train.from ≤ i → i < train.to → leg_at track train.line i ≡ Some leg → (section ≡ leg.section) → ⊥
 no_leg_of track section train idle i leg low high there same =
     let metre = metre_there track train.line i leg there in
-    let out : in_section track section train.line i ≡ false = none_of_range (in_section track section train.line) train.from (train.to - train.from) (or_false_right (list_any (in_section track section train.line) (places train.rear train.front)) (list_any (in_section track section train.line) (places train.from train.to)) idle) i low (omega arith) in
+    let out : in_section track section train.line i ≡ false = none_of_range (in_section track section train.line) train.from (train.to - train.from) ((or_parts (list_any (in_section track section train.line) (places train.rear train.front)) (list_any (in_section track section train.line) (places train.from train.to)) idle).1) i low (omega arith) in
     let in' : in_section track section train.line i ≡ true = ap (λ o. option_map_or (λ (m : Metre). m.section == section) o false) metre.1 ∙ subst (λ s. (leg.section == s) ≡ true) (sym same) (same_number leg.section) in
-    clash (in_section track section train.line i) in' out
+    both_ways (in_section track section train.line i) out in'
 
 held_on : (track : Track) (locks : Locks) (section : ℕ) (train : Train) → stands_on track section train ≡ false → IsHeldLocked track locks train → IsHeldLocked track (slice_set locks section None) train
 held_on track locks section train idle held i leg low high there =

@@ -15,12 +15,13 @@ use Rattle.rbc_model.specs.Histories.{AuthoritiesAreApart}
 use Rattle.rbc_scene_laws.specs.Good.{IsGoodScene, IsGoodTrain, IsWithin, spot}
 use Rattle.rbc_scene_laws.proofs.BasicLemmas.{and_left, and_right}
 use Rattle.rbc_scene_laws.proofs.SpotLemmas.{at_place-append_left}
-use Rattle.rbc_scene_laws.proofs.TrainListLemmas.{find-holds, find-passes}
+use Rattle.rbc_scene_laws.proofs.TrainListLemmas.{find-holds}
 use Rattle.rbc_scene_laws.proofs.OnLineLemmas.{OnLine, OnLine-IsLine, IsLine-OnLine, OnLine-left}
 use Rattle.rbc_scene_laws.proofs.ThroughLemmas.{IsThrough, is_through}
 use Rattle.rbc_scene_laws.proofs.WithinLemmas.{apart_within, good_within}
 use Rattle.rbc_scene_laws.proofs.AuthorityLemmas.{Apart}
 use Rattle.rbc_scene_laws.proofs.BookLemmas.{AuthoritiesAreApart-with_train, NumbersDiffer}
+use Rattle.rbc_model.proofs.BasicLemmas.{find-passes}
 
 -- what may be given back: up to here
 pub record IsCut (train : Train) (to : ℕ) : Type 0 where

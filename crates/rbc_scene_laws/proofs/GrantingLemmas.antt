@@ -5,7 +5,7 @@ use Rattle.std.specs.Option.{option_map_or, option_eq}
 use Rattle.std.specs.List.{AllByRecursion}
 use Rattle.std.proofs.lemmas.List.{take-append-drop, length-append}
 use Rattle.std.proofs.lemmas.List.Elements.{recursion_from_All}
-use Rattle.std.proofs.lemmas.Bool.{and_from, not_from_false}
+use Rattle.std.proofs.lemmas.Bool.{and_from, not_from_false, both_ways}
 use Rattle.rbc_model.specs.declared.places.Metre.{Metre}
 use Rattle.rbc_model.specs.declared.places.Leg.{Leg}
 use Rattle.rbc_model.specs.declared.tracks.Lock.{Lock}
@@ -25,13 +25,14 @@ use Rattle.rbc_model.proofs.EndLemmas.{IsSafe-is_safe, le_reach-IsSafe, reach-le
 use Rattle.rbc_model.proofs.StopLemmas.{IsStopped-reach}
 use Rattle.rbc_model.proofs.ExtentLemmas.{place-authority_has}
 use Rattle.rbc_scene_laws.specs.Good.{IsGoodScene, IsGoodTrain, IsGoodLocks}
-use Rattle.rbc_scene_laws.proofs.BasicLemmas.{and_left, the_some, clash}
-use Rattle.rbc_scene_laws.proofs.SpotLemmas.{at_place-on, at_place-append_left, line_length-append, if_in, if_past}
+use Rattle.rbc_scene_laws.proofs.BasicLemmas.{and_left, the_some}
+use Rattle.rbc_scene_laws.proofs.SpotLemmas.{at_place-on, at_place-append_left, line_length-append}
 use Rattle.rbc_scene_laws.proofs.TrainListLemmas.{find-none, find-holds}
 use Rattle.rbc_scene_laws.proofs.AuthorityLemmas.{Apart, IsHeldLocked, good_with_train}
 use Rattle.rbc_scene_laws.proofs.OnLineLemmas.{OnLine, OnLine-IsLine, IsLine-OnLine, OnLine-left}
 use Rattle.rbc_scene_laws.proofs.LengtheningLemmas.{IsAhead, ahead_fully}
 use Rattle.rbc_scene_laws.proofs.ReachingLemmas.{begun_reach, line_length-take_more, take_past}
+use Rattle.rbc_model.proofs.BasicLemmas.{if_in, if_past}
 
 -- ---- a place without an obstacle
 
@@ -98,7 +99,7 @@ others_lack test stays (x ∷ xs) h = by_stay (stays x) refl h (λ none. others_
     by_stay : (b : Bool) → stays x ≡ b → find test (cond b (x ∷ filter stays xs) (filter stays xs)) ≡ None → (find test (filter stays xs) ≡ None → AllByRecursion (λ y. stays y ≡ true → test y ≡ false) xs)
         → AllByRecursion (λ y. stays y ≡ true → test y ≡ false) (x ∷ xs)
     by_stay true e none later = let n = find-none test (x ∷ filter stays xs) none in ((λ s. n.0), later (rest_none (test x) x (find test (filter stays xs)) none))
-    by_stay false e none later = ((λ s. absurd (clash (stays x) s e)), later none)
+    by_stay false e none later = ((λ s. absurd (both_ways (stays x) e s)), later none)
 
 metre_free : (track : Track) (scene : Scene) (train : Train) (line : Line) (i : ℕ) (metre : Metre) → held track scene train line i ≡ None → metre_at track line i ≡ Some metre
     → find (authority_has track metre) (others scene train) ≡ None
@@ -193,7 +194,7 @@ apart_from_all : (track : Track) (after : Train) (number : ℕ) (xs : List Train
     → AllByRecursion (λ (other : Train). (other.report.train == number) ≡ false → Apart track after other) xs
 apart_from_all track after number [] h = tt
 apart_from_all track after number (x ∷ xs) h = (
-  (λ unlike metre of_track has also. clash (authority_has track metre x) also ((h metre of_track has).0 (not_from_false (x.report.train == number) unlike))),
+  (λ unlike metre of_track has also. both_ways (authority_has track metre x) ((h metre of_track has).0 (not_from_false (x.report.train == number) unlike)) also),
   apart_from_all track after number xs (λ metre of_track has. (h metre of_track has).1),
 )
 

@@ -15,7 +15,7 @@ use Rattle.rbc_model.specs.SoundTracks.{IsSound}
 use Rattle.rbc_model.specs.Locks.{no_locks}
 use Rattle.rbc_model.specs.Scenes.{Scene, empty_scene}
 use Rattle.rbc_model.specs.Events.{step}
-use Rattle.rbc_model.specs.Histories.{Entry, event_of, scene_after, replay, scene_at, IsLegal, NoMetreIsHeldTwice, HeldAreLocked, IsBestHistory}
+use Rattle.rbc_model.specs.Histories.{Entry, event_of, scene_after, replay, IsLegal, NoMetreIsHeldTwice, IsBestHistory}
 use Rattle.rbc_model.proofs.LegalLemmas.{IsBestHistory-legal}
 use Rattle.rbc_scene_laws.specs.Good.{IsGoodScene, IsGoodLocks}
 use Rattle.rbc_scene_laws.proofs.LeavingLemmas.{good_after_leave}
@@ -80,10 +80,6 @@ good_replay track entries sound = good_from track entries (empty_scene track) so
 -- at no moment of any history does a metre stand in two authorities
 pub NoMetreIsHeldTwice-any : (track : Track) (entries : List Entry) → IsSound track → NoMetreIsHeldTwice track entries
 NoMetreIsHeldTwice-any track entries sound moment within = let good = good_replay track (take moment entries) sound in good.apart
-
--- at each moment each metre of an authority is locked
-pub HeldAreLocked-any : (track : Track) (entries : List Entry) → IsSound track → (moment : ℕ) → HeldAreLocked track (scene_at track entries moment)
-HeldAreLocked-any track entries sound moment = let good = good_replay track (take moment entries) sound in good.locked
 
 pub NoMetreIsHeldTwice-legal : (track : Track) (entries : List Entry) → IsSound track → IsLegal track entries → NoMetreIsHeldTwice track entries
 NoMetreIsHeldTwice-legal track entries sound legal = NoMetreIsHeldTwice-any track entries sound

@@ -1,73 +1,19 @@
 -- One leg of a line: the places of its section's metres, and when an extent or an authority has some of them.
-use Rattle.std.proofs.Common.{◌≡◌, ℕ, zero, suc, ◌+◌, ◌-◌, ◌<◌, ◌≤◌, min, max, Bool, true, false, cond, ◌&&◌, ◌||◌, [], ◌∷◌, ◌++◌, Option, Some, None, refl, ap, ap₂, sym, ◌∙◌, subst, arith, ◌⊎◌, inl, inr, nat_lt, nat_le}
-use Rattle.std.specs.Prelude.{◌==◌, option_map}
+use Rattle.std.proofs.Common.{◌≡◌, ℕ, zero, suc, ◌+◌, ◌-◌, ◌<◌, ◌≤◌, min, max, Bool, true, false, ◌&&◌, ◌||◌, [], ◌∷◌, ◌++◌, Some, refl, ap, ap₂, sym, ◌∙◌, arith, ◌⊎◌, inl, inr, nat_lt, nat_le}
+use Rattle.std.specs.Prelude.{◌==◌}
 use Rattle.std.specs.Option.{option_map_or}
 use Rattle.std.specs.List.{list_any, range_with_len}
-use Rattle.std.proofs.lemmas.Bool.{leb-true, ltb-true, lt-ltb, le-leb, le-ltb, lt-leb, and_from}
+use Rattle.std.proofs.lemmas.Bool.{leb-true, ltb-true, lt-ltb, le-leb, le-ltb, lt-leb, and_from, cases_Bool, or_parts, or_from, or_left, both_ways}
 use Rattle.rbc_model.specs.declared.places.Metre.{Metre}
 use Rattle.rbc_model.specs.declared.places.Leg.{Leg}
-use Rattle.rbc_model.specs.declared.places.Direction.{Direction}
-use Rattle.rbc_model.specs.declared.places.Direction.TheVariants.{Rising, Falling}
-use Rattle.rbc_model.specs.Tracks.{Track, metres_of, metre_of_leg, reverse_leg}
-use Rattle.rbc_model.specs.Lines.{Line, line_length, has_section, metre_at, place_of_metre, metres_before, places}
+use Rattle.rbc_model.specs.Tracks.{Track, metres_of, metre_of_leg}
+use Rattle.rbc_model.specs.Lines.{Line, line_length, has_section, metre_at, places}
 use Rattle.rbc_model.specs.Trains.{Train}
-use Rattle.rbc_model.specs.Scenes.{extent_has, authority_has}
 use Rattle.rbc_model.specs.Events.{stands_on}
 use Rattle.rbc_model.proofs.ScanLemmas.{le_or_lt}
-use Rattle.rbc_scene_laws.proofs.BasicLemmas.{and_left, and_right, or_left, neither, or_false_left, or_false_right, same_number, clash, either}
-use Rattle.rbc_scene_laws.proofs.SpotLemmas.{at_place-append_left, at_place-append_right, if_in, if_past}
-use Rattle.rbc_scene_laws.proofs.OriginLemmas.{place_on-append_right}
-
--- ---- the places of a section's metres
-
-pub metres_before-leg : (track : Track) (leg : Leg) (k : ℕ) → k < metres_of track leg.section → metres_before track (metre_of_leg track leg k) leg ≡ k
-metres_before-leg track leg k h = by_direction leg.direction
-  where
-    by_direction : (d : Direction) → metres_before track (metre_of_leg track (record { section = leg.section; direction = d }) k) (record { section = leg.section; direction = d }) ≡ k
-    by_direction Rising = refl
-    by_direction Falling = omega arith
-
--- on the leg run the other way they come in the other order
-pub metres_before-reverse : (track : Track) (leg : Leg) (k : ℕ) → k < metres_of track leg.section → metres_before track (metre_of_leg track leg k) (reverse_leg leg) ≡ metres_of track leg.section - 1 - k
-metres_before-reverse track leg k h = by_direction leg.direction
-  where
-    by_direction : (d : Direction) → metres_before track (metre_of_leg track (record { section = leg.section; direction = d }) k) (reverse_leg (record { section = leg.section; direction = d })) ≡ metres_of track leg.section - 1 - k
-    by_direction Rising = refl
-    by_direction Falling = refl
-
-pub place_of_metre-leg : (track : Track) (a b : Line) (leg : Leg) (metre : Metre) → has_section a metre.section ≡ false → leg.section ≡ metre.section → place_of_metre track (a ++ leg ∷ b) metre ≡ Some (line_length track a + metres_before track metre leg)
-place_of_metre-leg track a b leg metre lacks same =
-    place_on-append_right track metre.section (metres_before track metre) a (leg ∷ b) (metres_before track metre leg) lacks
-    (if_so (leg.section == metre.section) (Some (metres_before track metre leg)) (option_map (λ place. metres_of track leg.section + place) (place_of_metre track b metre)) (subst (λ s. (leg.section == s) ≡ true) same (same_number leg.section)))
-  where
-    if_so : (t : Bool) (x y : Option ℕ) → t ≡ true → cond t x y ≡ x
-    if_so t x y e = rw e refl
-
-pub place_of_metre-lacks : (track : Track) (line : Line) (metre : Metre) → has_section line metre.section ≡ false → place_of_metre track line metre ≡ None
-place_of_metre-lacks track [] metre h = refl
-place_of_metre-lacks track (leg ∷ line) metre h =
-    if_not (leg.section == metre.section) (Some (metres_before track metre leg)) (option_map (λ place. metres_of track leg.section + place) (place_of_metre track line metre)) (or_false_left (leg.section == metre.section) (has_section line metre.section) h)
-    ∙ ap (option_map (λ place. metres_of track leg.section + place)) (place_of_metre-lacks track line metre (or_false_right (leg.section == metre.section) (has_section line metre.section) h))
-  where
-    if_not : (t : Bool) (x y : Option ℕ) → t ≡ false → cond t x y ≡ y
-    if_not t x y e = rw e refl
-
--- so of a leg an authority has those metres whose places lie in it
-pub authority_has-leg : (track : Track) (a b : Line) (leg : Leg) (metre : Metre) (train : Train) → train.line ≡ a ++ leg ∷ b → has_section a metre.section ≡ false → leg.section ≡ metre.section
-    → authority_has track metre train ≡ (nat_le train.from (line_length track a + metres_before track metre leg) && nat_lt (line_length track a + metres_before track metre leg) train.to)
-authority_has-leg track a b leg metre train is lacks same =
-    ap (λ o. option_map_or (λ place. nat_le train.from place && nat_lt place train.to) o false) (ap (λ (l : Line). place_of_metre track l metre) is ∙ place_of_metre-leg track a b leg metre lacks same)
-
-pub extent_has-leg : (track : Track) (a b : Line) (leg : Leg) (metre : Metre) (train : Train) → train.line ≡ a ++ leg ∷ b → has_section a metre.section ≡ false → leg.section ≡ metre.section
-    → extent_has track metre train ≡ (nat_le train.rear (line_length track a + metres_before track metre leg) && nat_lt (line_length track a + metres_before track metre leg) train.front)
-extent_has-leg track a b leg metre train is lacks same =
-    ap (λ o. option_map_or (λ place. nat_le train.rear place && nat_lt place train.front) o false) (ap (λ (l : Line). place_of_metre track l metre) is ∙ place_of_metre-leg track a b leg metre lacks same)
-
-pub authority_has-lacks : (track : Track) (metre : Metre) (train : Train) → has_section train.line metre.section ≡ false → authority_has track metre train ≡ false
-authority_has-lacks track metre train h = ap (λ o. option_map_or (λ place. nat_le train.from place && nat_lt place train.to) o false) (place_of_metre-lacks track train.line metre h)
-
-pub extent_has-lacks : (track : Track) (metre : Metre) (train : Train) → has_section train.line metre.section ≡ false → extent_has track metre train ≡ false
-extent_has-lacks track metre train h = ap (λ o. option_map_or (λ place. nat_le train.rear place && nat_lt place train.front) o false) (place_of_metre-lacks track train.line metre h)
+use Rattle.rbc_scene_laws.proofs.BasicLemmas.{and_left, and_right}
+use Rattle.rbc_scene_laws.proofs.SpotLemmas.{at_place-append_left, at_place-append_right}
+use Rattle.rbc_model.proofs.BasicLemmas.{same_number, if_in, if_past}
 
 -- ---- whether a train stands on a section, by the leg's ends
 
@@ -85,10 +31,10 @@ is_in-lacks track section (leg ∷ line) i h =
     elim (le_or_lt m i) [
       | inl past ↦
           is_in-by track section (leg ∷ line) line i (i - m) (if_past (Some (metre_of_leg track leg i)) (metre_at track line (i - m)) i m past)
-          ∙ is_in-lacks track section line (i - m) (or_false_right (leg.section == section) (has_section line section) h)
+          ∙ is_in-lacks track section line (i - m) ((or_parts (leg.section == section) (has_section line section) h).1)
       | inr here ↦
           ap (λ o. option_map_or (λ (metre : Metre). metre.section == section) o false) (if_in (Some (metre_of_leg track leg i)) (metre_at track line (i - m)) i m here)
-          ∙ or_false_left (leg.section == section) (has_section line section) h
+          ∙ (or_parts (leg.section == section) (has_section line section) h).0
     ]
 
 -- the leg's places are those from its start to its end
@@ -131,7 +77,7 @@ any_by test other a (suc n) h = ap₂ (λ x y. x || y) (h a) (any_by test other 
 any_between : (low high a n : ℕ) → list_any (λ i. nat_le low i && nat_lt i high) (range_with_len a n) ≡ nat_lt (max a low) (min (a + n) high)
 any_between low high a zero = sym (le-ltb (max a low) (min (a + 0) high) (omega arith))
 any_between low high a (suc n) =
-    elim (either (nat_le low a && nat_lt a high)) [
+    elim (cases_Bool (nat_le low a && nat_lt a high)) [
       | inl e ↦
           let l = leb-true low a (and_left (nat_le low a) (nat_lt a high) e) in
           let h = ltb-true a high (and_right (nat_le low a) (nat_lt a high) e) in
@@ -148,7 +94,7 @@ any_between low high a (suc n) =
 
     out : (low high a : ℕ) → (nat_le low a && nat_lt a high) ≡ false → (a < low) ⊎ (high ≤ a)
     out low high a e = elim (le_or_lt low a) [
-      | inl on ↦ elim (le_or_lt high a) [ inl past ↦ inr past | inr here ↦ absurd (clash (nat_le low a && nat_lt a high) (and_from (nat_le low a) (nat_lt a high) (le-leb low a on) (lt-ltb a high here)) e) ]
+      | inl on ↦ elim (le_or_lt high a) [ inl past ↦ inr past | inr here ↦ absurd (both_ways (nat_le low a && nat_lt a high) e (and_from (nat_le low a) (nat_lt a high) (le-leb low a on) (lt-ltb a high here))) ]
       | inr before ↦ inl before
     ]
 
@@ -185,11 +131,11 @@ stands_on-leg track a b leg train is before behind =
 
 none_lacks : (test : ℕ → Bool) (a n : ℕ) → ((i : ℕ) → test i ≡ false) → list_any test (range_with_len a n) ≡ false
 none_lacks test a zero h = refl
-none_lacks test a (suc n) h = neither (test a) (list_any test (range_with_len (a + 1) n)) (h a) (none_lacks test (a + 1) n h)
+none_lacks test a (suc n) h = or_from (test a) (list_any test (range_with_len (a + 1) n)) (h a) (none_lacks test (a + 1) n h)
 
 -- and on no section that its line lacks
 pub stands_on-lacks : (track : Track) (section : ℕ) (train : Train) → has_section train.line section ≡ false → stands_on track section train ≡ false
 stands_on-lacks track section train h =
-    neither (list_any (is_in track section train.line) (places train.rear train.front)) (list_any (is_in track section train.line) (places train.from train.to))
+    or_from (list_any (is_in track section train.line) (places train.rear train.front)) (list_any (is_in track section train.line) (places train.from train.to))
     (none_lacks (is_in track section train.line) train.rear (train.front - train.rear) (λ i. is_in-lacks track section train.line i h))
     (none_lacks (is_in track section train.line) train.from (train.to - train.from) (λ i. is_in-lacks track section train.line i h))

@@ -21,11 +21,12 @@ use Rattle.rbc_model.specs.Scenes.{Scene}
 use Rattle.rbc_model.specs.Events.{after_lock, with_locks}
 use Rattle.rbc_model.proofs.SamenessLemmas.{leg_eq-itself}
 use Rattle.rbc_scene_laws.specs.Good.{OneRowBehindEach, IsGoodScene, IsGoodLocks}
-use Rattle.rbc_scene_laws.proofs.BasicLemmas.{EachPair, or_false_left, or_false_right, and_left, and_right, not_false, same_number, each_weaker, each_both, the_some, flipped, number_apart, neither}
-use Rattle.rbc_scene_laws.proofs.BasicLemmas as basics
+use Rattle.rbc_scene_laws.proofs.BasicLemmas.{EachPair, and_left, and_right, each_weaker, each_both, the_some}
 use Rattle.rbc_scene_laws.proofs.RowLemmas.{row-set_other, row-set_cases, is_locked-row, is_locked-none, next-some}
 use Rattle.rbc_scene_laws.proofs.TrainListLemmas.{find-none}
 use Rattle.rbc_scene_laws.proofs.AuthorityLemmas.{IsHeldLocked}
+use Rattle.std.proofs.lemmas.Bool.{not-true, or_parts, or_from, both_ways}
+use Rattle.rbc_model.proofs.BasicLemmas.{flipped}
 
 abbrev pub Need : Type 0
 Need = Leg × Option Leg
@@ -124,8 +125,8 @@ linked_needs track before (leg ∷ after ∷ legs) enters linked = (
 others_before : (b leg : Leg) (legs : List Leg) → list_any (leg_eq b) (but_last (leg ∷ legs)) ≡ false → AllByRecursion (λ (need : Need). (need.1 ≡ Some b) → ⊥) (with_leg_before (Some leg) legs)
 others_before b leg [] h = tt
 others_before b leg (l ∷ legs) h = (
-  (λ e. basics.clash (leg_eq b leg) (subst (λ z. leg_eq b z ≡ true) (sym (the_some leg b e)) (leg_eq-itself b)) (or_false_left (leg_eq b leg) (list_any (leg_eq b) (but_last (l ∷ legs))) h)),
-  others_before b l legs (or_false_right (leg_eq b leg) (list_any (leg_eq b) (but_last (l ∷ legs))) h),
+  (λ e. both_ways (leg_eq b leg) ((or_parts (leg_eq b leg) (list_any (leg_eq b) (but_last (l ∷ legs))) h).0) (subst (λ z. leg_eq b z ≡ true) (sym (the_some leg b e)) (leg_eq-itself b))),
+  others_before b l legs ((or_parts (leg_eq b leg) (list_any (leg_eq b) (but_last (l ∷ legs))) h).1),
 )
 
 -- a leg of another section than the legs is none of them
@@ -136,9 +137,9 @@ none_but_last : (b : Leg) (legs : List Leg) → has_section legs b.section ≡ f
 none_but_last b [] h = refl
 none_but_last b (leg ∷ []) h = refl
 none_but_last b (leg ∷ l ∷ legs) h =
-    neither (leg_eq b leg) (list_any (leg_eq b) (but_last (l ∷ legs)))
-    (unlike b leg (or_false_left (leg.section == b.section) (has_section (l ∷ legs) b.section) h))
-    (none_but_last b (l ∷ legs) (or_false_right (leg.section == b.section) (has_section (l ∷ legs) b.section) h))
+    or_from (leg_eq b leg) (list_any (leg_eq b) (but_last (l ∷ legs)))
+    (unlike b leg ((or_parts (leg.section == b.section) (has_section (l ∷ legs) b.section) h).0))
+    (none_but_last b (l ∷ legs) ((or_parts (leg.section == b.section) (has_section (l ∷ legs) b.section) h).1))
 
 first_differs : (before : Option Leg) (leg : Leg) (legs : List Leg) → ((b : Leg) → before ≡ Some b → list_any (leg_eq b) (but_last (leg ∷ legs)) ≡ false) → AllByRecursion (BeforesDiffer (leg, before)) (with_leg_before (Some leg) legs)
 first_differs None leg legs h = no_before (with_leg_before (Some leg) legs)
@@ -157,7 +158,7 @@ differ_needs before (leg ∷ legs) differ enters = (
   first_differs before leg legs enters,
   differ_needs (Some leg) legs (and_right (not (has_section legs leg.section)) (sections_differ legs) differ)
       (λ b e. subst (λ z. list_any (leg_eq z) (but_last legs) ≡ false) (the_some leg b e)
-      (none_but_last leg legs (not_false (has_section legs leg.section) (and_left (not (has_section legs leg.section)) (sections_differ legs) differ)))),
+      (none_but_last leg legs (not-true (has_section legs leg.section) (and_left (not (has_section legs leg.section)) (sections_differ legs) differ)))),
 )
 
 -- ---- what an accepted route finds
@@ -167,7 +168,7 @@ apart_from_row : (locks : Locks) (s : ℕ) (lock : Lock) → row locks s ≡ Som
     → AllByRecursion (λ (need : Need). (need.0.section ≡ s) → ⊥) (with_leg_before before legs)
 apart_from_row locks s lock there before [] h = tt
 apart_from_row locks s lock there before (leg ∷ legs) h =
-    ((λ e. basics.clash (is_some (row locks leg.section)) (ap (λ k. is_some (row locks k)) e ∙ ap is_some there) h.0), apart_from_row locks s lock there (Some leg) legs h.1)
+    ((λ e. both_ways (is_some (row locks leg.section)) h.0 (ap (λ k. is_some (row locks k)) e ∙ ap is_some there)), apart_from_row locks s lock there (Some leg) legs h.1)
 
 -- and nothing is behind what its rows are behind
 split : (Q : Leg → Type 0) (o : Option Leg) (rest : List Leg) → AllByRecursion Q (cons_option o rest) → ((b : Leg) → o ≡ Some b → Q b) × AllByRecursion Q rest
@@ -178,7 +179,7 @@ pub free_needs : (locks : Locks) (needs : List Need) → AllByRecursion (λ leg.
 free_needs locks [] h = tt
 free_needs locks (need ∷ needs) h =
     let parts = split (λ leg. is_some (next locks leg) ≡ false) need.1 (filter_map (λ (n : Need). n.1) needs) h in
-    ((λ before at s lock there behind. basics.clash (is_some (next locks before)) (next-some locks before s lock there behind) (parts.0 before at)), free_needs locks needs parts.1)
+    ((λ before at s lock there behind. both_ways (is_some (next locks before)) (parts.0 before at) (next-some locks before s lock there behind)), free_needs locks needs parts.1)
 
 pub all_got : {X : Type 0} (test : X → Bool) (xs : List X) (k : ℕ) (x : X) → list_all test xs ≡ true → slice_get xs k ≡ Some x → test x ≡ true
 all_got test [] k x h e = cc
@@ -218,7 +219,7 @@ not_among track after [] h b e = refl
 not_among track None (first ∷ legs) h b e = cc
 not_among track (Some after) (first ∷ legs) h b e =
     subst (λ z. list_any (leg_eq z) (but_last (first ∷ legs)) ≡ false) (the_some after b e)
-    (not_false (list_any (leg_eq after) (but_last (first ∷ legs))) (and_right (is_linked track after first) (not (list_any (leg_eq after) (but_last (first ∷ legs)))) h))
+    (not-true (list_any (leg_eq after) (but_last (first ∷ legs))) (and_right (is_linked track after first) (not (list_any (leg_eq after) (but_last (first ∷ legs)))) h))
 
 -- locks that are good, and have the rows that there were
 record IsLockedFrom (track : Track) (before after : Locks) : Type 0 where
@@ -253,7 +254,7 @@ locked_from track number locks after (Some route) sound good e h =
 -- ---- the scene after
 
 is_locked_some : (locks after : Locks) (leg : Leg) (o : Option Lock) → row locks leg.section ≡ o → ((lock : Lock) → o ≡ Some lock → row after leg.section ≡ Some lock) → is_locked locks None leg ≡ true → is_locked after None leg ≡ true
-is_locked_some locks after leg None e kept h = absurd (let f = is_locked-none locks leg e in basics.clash (is_locked locks None leg) h f)
+is_locked_some locks after leg None e kept h = absurd (let f = is_locked-none locks leg e in both_ways (is_locked locks None leg) f h)
 is_locked_some locks after leg (Some lock) e kept h = is_locked-row after locks None leg (kept lock refl ∙ sym e) ∙ h
 
 held_kept : (track : Track) (locks after : Locks) (train : Train) → ((s : ℕ) (lock : Lock) → row locks s ≡ Some lock → row after s ≡ Some lock) → IsHeldLocked track locks train → IsHeldLocked track after train

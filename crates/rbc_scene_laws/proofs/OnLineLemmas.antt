@@ -3,12 +3,14 @@ use Rattle.std.proofs.Common.{◌≡◌, ℕ, zero, suc, ◌+◌, ◌<◌, Bool,
 use Rattle.std.specs.Prelude.{◌==◌, IsTrue}
 use Rattle.std.specs.List.{AllByRecursion, AllAdjacentBelow}
 use Rattle.std.proofs.lemmas.List.Elements.{All-from_recursion, recursion_from_All}
-use Rattle.std.proofs.lemmas.Bool.{and_from, not_from_false}
+use Rattle.std.proofs.lemmas.Bool.{and_from, not_from_false, not-true, or_parts, or_from, ne_eqb, eqb-false}
 use Rattle.rbc_model.specs.declared.places.Leg.{Leg}
 use Rattle.rbc_model.specs.Tracks.{Track, is_linked}
 use Rattle.rbc_model.specs.SoundTracks.{sections_differ, are_linked}
 use Rattle.rbc_model.specs.Lines.{Line, IsLine, has_section, last_leg, first_leg}
-use Rattle.rbc_scene_laws.proofs.BasicLemmas.{EachPair, AllPairs-from_recursion, recursion_from_AllPairs, and_left, and_right, not_false, or_false_left, or_false_right, neither, flipped, number_apart, other_number}
+use Rattle.rbc_scene_laws.proofs.BasicLemmas.{EachPair, AllPairs-from_recursion, recursion_from_AllPairs, and_left, and_right}
+use Rattle.std.proofs.ByRecursion.{All-push}
+use Rattle.rbc_model.proofs.ContinuedLineLemmas.{differ-push}
 
 -- a line, by tests
 pub record OnLine (track : Track) (line : Line) : Type 0 where
@@ -25,16 +27,16 @@ DifferentSections a b = (a.section ≡ b.section) → ⊥
 each_unlike : (section : ℕ) (line : Line) → has_section line section ≡ false → AllByRecursion (λ (b : Leg). (section ≡ b.section) → ⊥) line
 each_unlike section [] h = tt
 each_unlike section (leg ∷ line) h =
-    ((λ e. number_apart leg.section section (or_false_left (leg.section == section) (has_section line section) h) (sym e)), each_unlike section line (or_false_right (leg.section == section) (has_section line section) h))
+    ((λ e. eqb-false leg.section section ((or_parts (leg.section == section) (has_section line section) h).0) (sym e)), each_unlike section line ((or_parts (leg.section == section) (has_section line section) h).1))
 
 unlike_each : (section : ℕ) (line : Line) → AllByRecursion (λ (b : Leg). (section ≡ b.section) → ⊥) line → has_section line section ≡ false
 unlike_each section [] h = refl
-unlike_each section (leg ∷ line) h = neither (leg.section == section) (has_section line section) (other_number leg.section section (λ e. h.0 (sym e))) (unlike_each section line h.1)
+unlike_each section (leg ∷ line) h = or_from (leg.section == section) (has_section line section) (ne_eqb leg.section section (λ e. h.0 (sym e))) (unlike_each section line h.1)
 
 pairs_differ : (line : Line) → sections_differ line ≡ true → EachPair DifferentSections line
 pairs_differ [] h = tt
 pairs_differ (leg ∷ line) h =
-    (each_unlike leg.section line (not_false (has_section line leg.section) (and_left (not (has_section line leg.section)) (sections_differ line) h)), pairs_differ line (and_right (not (has_section line leg.section)) (sections_differ line) h))
+    (each_unlike leg.section line (not-true (has_section line leg.section) (and_left (not (has_section line leg.section)) (sections_differ line) h)), pairs_differ line (and_right (not (has_section line leg.section)) (sections_differ line) h))
 
 differ_pairs : (line : Line) → EachPair DifferentSections line → sections_differ line ≡ true
 differ_pairs [] h = refl
@@ -88,16 +90,13 @@ has_section-append (leg ∷ a) b section = ap (λ t. leg.section == section || t
     or_joined false q r = refl
 
 pub lacks_left : (a b : Line) (section : ℕ) → has_section (a ++ b) section ≡ false → has_section a section ≡ false
-lacks_left a b section h = or_false_left (has_section a section) (has_section b section) (sym (has_section-append a b section) ∙ h)
-
-pub lacks_right : (a b : Line) (section : ℕ) → has_section (a ++ b) section ≡ false → has_section b section ≡ false
-lacks_right a b section h = or_false_right (has_section a section) (has_section b section) (sym (has_section-append a b section) ∙ h)
+lacks_left a b section h = (or_parts (has_section a section) (has_section b section) (sym (has_section-append a b section) ∙ h)).0
 
 pub differ_left : (a b : Line) → sections_differ (a ++ b) ≡ true → sections_differ a ≡ true
 differ_left [] b h = refl
 differ_left (leg ∷ a) b h =
     and_from (not (has_section a leg.section)) (sections_differ a)
-    (not_from_false (has_section a leg.section) (lacks_left a b leg.section (not_false (has_section (a ++ b) leg.section) (and_left (not (has_section (a ++ b) leg.section)) (sections_differ (a ++ b)) h))))
+    (not_from_false (has_section a leg.section) (lacks_left a b leg.section (not-true (has_section (a ++ b) leg.section) (and_left (not (has_section (a ++ b) leg.section)) (sections_differ (a ++ b)) h))))
     (differ_left a b (and_right (not (has_section (a ++ b) leg.section)) (sections_differ (a ++ b)) h))
 
 pub differ_right : (a b : Line) → sections_differ (a ++ b) ≡ true → sections_differ b ≡ true
@@ -144,21 +143,6 @@ OnLine-right track a b some l = record {
 
 -- ---- a leg more
 
-each_more : {X : Type 0} (P : X → Type 0) (xs : List X) (x : X) → AllByRecursion P xs → P x → AllByRecursion P (xs ++ x ∷ [])
-each_more P [] x h k = (k, tt)
-each_more P (y ∷ xs) x h k = (h.0, each_more P xs x h.1 k)
-
-differ-push : (line : Line) (leg : Leg) → sections_differ line ≡ true → has_section line leg.section ≡ false → sections_differ (line ++ leg ∷ []) ≡ true
-differ-push [] leg d h = refl
-differ-push (a ∷ line) leg d h =
-    and_from (not (has_section (line ++ leg ∷ []) a.section)) (sections_differ (line ++ leg ∷ []))
-    (not_from_false (has_section (line ++ leg ∷ []) a.section)
-    (has_section-append line (leg ∷ []) a.section
-    ∙ neither (has_section line a.section) (leg.section == a.section || false)
-    (not_false (has_section line a.section) (and_left (not (has_section line a.section)) (sections_differ line) d))
-    (neither (leg.section == a.section) false (flipped a.section leg.section (or_false_left (a.section == leg.section) (has_section line leg.section) h)) refl)))
-    (differ-push line leg (and_right (not (has_section line a.section)) (sections_differ line) d) (or_false_right (a.section == leg.section) (has_section line leg.section) h))
-
 linked-push : (track : Track) (line : Line) (last leg : Leg) → last_leg line ≡ Some last → is_linked track last leg ≡ true → are_linked track line ≡ true → are_linked track (line ++ leg ∷ []) ≡ true
 linked-push track [] last leg e h l = refl
 linked-push track (a ∷ []) last leg e h l = and_from (is_linked track a leg) true (subst (λ z. is_linked track z leg ≡ true) (let s : last ≡ a = cc in s) h) refl
@@ -173,7 +157,7 @@ some_pushed (a ∷ line) leg = omega arith
 pub OnLine-push : (track : Track) (line : Line) (last leg : Leg) → last_leg line ≡ Some last → is_linked track last leg ≡ true → has_section line leg.section ≡ false → leg.section < length track.sections → OnLine track line → OnLine track (line ++ leg ∷ [])
 OnLine-push track line last leg e linked new low l = record {
   some_leg = some_pushed line leg;
-  of_track = each_more (λ (a : Leg). a.section < length track.sections) line leg l.of_track low;
+  of_track = All-push (λ (a : Leg). a.section < length track.sections) line leg l.of_track low;
   differ = differ-push line leg l.differ new;
   linked = linked-push track line last leg e linked l.linked;
 }

@@ -2,7 +2,7 @@
 use Rattle.std.proofs.Common.{◌≡◌, ℕ, zero, suc, ◌+◌, ◌<◌, ◌≤◌, Bool, true, false, cond, ◌||◌, not, [], ◌∷◌, ◌++◌, length, drop, Option, Some, None, refl, ap, sym, ◌∙◌, subst, arith, inl, inr}
 use Rattle.std.specs.Prelude.{◌==◌, option_map, unwrap_or, is_some}
 use Rattle.std.specs.List.{position_or_len}
-use Rattle.std.proofs.lemmas.Bool.{eqb-true, or_cases}
+use Rattle.std.proofs.lemmas.Bool.{eqb-true, or_cases, cases_Bool, not-true, or_parts, or_from, or_left, or_right, both_ways}
 use Rattle.std.proofs.lemmas.List.Folds.{list_any-append}
 use Rattle.rbc_model.specs.Reports.{Report}
 use Rattle.rbc_model.specs.declared.tracks.BaliseGroup.{BaliseGroup}
@@ -12,9 +12,10 @@ use Rattle.rbc_model.specs.Lines.{Line, line_length, has_leg, has_section, place
 use Rattle.rbc_model.specs.SoundTracks.{sections_differ}
 use Rattle.rbc_model.specs.Placing.{leg_told, running_leg, origin_on}
 use Rattle.rbc_model.proofs.SamenessLemmas.{leg_eq-true}
-use Rattle.rbc_scene_laws.proofs.BasicLemmas.{and_left, and_right, or_left, or_right, or_false_left, or_false_right, neither, not_false, clash, same_number, either}
-use Rattle.rbc_scene_laws.proofs.SpotLemmas.{line_length-cons}
+use Rattle.rbc_scene_laws.proofs.BasicLemmas.{and_left, and_right}
 use Rattle.rbc_scene_laws.proofs.OnLineLemmas.{has_section-append}
+use Rattle.rbc_model.proofs.BasicLemmas.{same_number}
+use Rattle.rbc_model.proofs.MetreLemmas.{line_length-cons}
 
 -- ---- legs and sections of a line
 
@@ -52,11 +53,11 @@ has_leg-drop (suc k) (l ∷ line) leg h g =
 pub lacks_before : (a b : Line) (section : ℕ) → sections_differ (a ++ b) ≡ true → has_section b section ≡ true → has_section a section ≡ false
 lacks_before [] b section d h = refl
 lacks_before (leg ∷ a) b section d h =
-    let new = not_false (has_section (a ++ b) leg.section) (and_left (not (has_section (a ++ b) leg.section)) (sections_differ (a ++ b)) d) in
+    let new = not-true (has_section (a ++ b) leg.section) (and_left (not (has_section (a ++ b) leg.section)) (sections_differ (a ++ b)) d) in
     let later = lacks_before a b section (and_right (not (has_section (a ++ b) leg.section)) (sections_differ (a ++ b)) d) h in
-    elim (either (leg.section == section)) [
-      | inl e ↦ absurd (clash (has_section (a ++ b) leg.section) (subst (λ s. has_section (a ++ b) s ≡ true) (sym (eqb-true leg.section section e)) (has_section-append a b section ∙ or_right (has_section a section) (has_section b section) h)) new)
-      | inr e ↦ neither (leg.section == section) (has_section a section) e later
+    elim (cases_Bool (leg.section == section)) [
+      | inl e ↦ absurd (both_ways (has_section (a ++ b) leg.section) new (subst (λ s. has_section (a ++ b) s ≡ true) (sym (eqb-true leg.section section e)) (has_section-append a b section ∙ or_right (has_section a section) (has_section b section) h)))
+      | inr e ↦ or_from (leg.section == section) (has_section a section) e later
     ]
 
 -- ---- a point of a section on the line
@@ -88,8 +89,8 @@ module _ (track : Track) (section : ℕ) (far : Leg → ℕ) where
   pub place_on-append_right : (a b : Line) (p : ℕ) → has_section a section ≡ false → place_on track b section far ≡ Some p → place_on track (a ++ b) section far ≡ Some (line_length track a + p)
   place_on-append_right [] b p lacks h = h ∙ ap Some (let e : p ≡ 0 + p = omega arith in e)
   place_on-append_right (leg ∷ a) b p lacks h =
-      if_not (leg.section == section) (Some (far leg)) (option_map (λ place. metres_of track leg.section + place) (place_on track (a ++ b) section far)) (or_false_left (leg.section == section) (has_section a section) lacks)
-      ∙ ap (option_map (λ place. metres_of track leg.section + place)) (place_on-append_right a b p (or_false_right (leg.section == section) (has_section a section) lacks) h)
+      if_not (leg.section == section) (Some (far leg)) (option_map (λ place. metres_of track leg.section + place) (place_on track (a ++ b) section far)) ((or_parts (leg.section == section) (has_section a section) lacks).0)
+      ∙ ap (option_map (λ place. metres_of track leg.section + place)) (place_on-append_right a b p ((or_parts (leg.section == section) (has_section a section) lacks).1) h)
       ∙ ap Some (omega (arith, line_length-cons track leg a))
     where
       if_not : (t : Bool) (x y : Option ℕ) → t ≡ false → cond t x y ≡ y

@@ -1,7 +1,7 @@
 -- Where a report puts its train: the line before and the line after share the legs that stay, legs go or come behind them, and never both.
-use Rattle.std.proofs.Common.{◌≡◌, ℕ, ◌+◌, ◌-◌, ◌<◌, ◌≤◌, min, Bool, true, false, cond, List, [], ◌∷◌, ◌++◌, length, take, drop, Option, Some, None, Result, Ok, Err, refl, ap, sym, ◌∙◌, subst, arith, ◌⊎◌, inl, inr, nat_lt, nat_le}
-use Rattle.std.specs.List.{AllByRecursion, list_all, position_or_len}
-use Rattle.std.proofs.lemmas.Bool.{leb-true, ltb-true, leb-false}
+use Rattle.std.proofs.Common.{◌≡◌, ℕ, ◌+◌, ◌-◌, ◌<◌, ◌≤◌, min, Bool, true, false, cond, [], ◌∷◌, ◌++◌, length, take, drop, Option, Some, None, Result, Ok, Err, refl, ap, sym, ◌∙◌, subst, arith, ◌⊎◌, inl, inr, nat_lt, nat_le}
+use Rattle.std.specs.List.{position_or_len}
+use Rattle.std.proofs.lemmas.Bool.{leb-true, ltb-true, leb-false, cases_Bool, or_left}
 use Rattle.std.proofs.lemmas.Option.{option_and_then_some}
 use Rattle.std.proofs.lemmas.List.{take-append-drop}
 use Rattle.rbc_model.specs.Reports.{Report}
@@ -17,13 +17,14 @@ use Rattle.rbc_model.specs.Locks.{Locks, longer_ahead, longer_back, lengthened}
 use Rattle.rbc_model.specs.Placing.{Placed, leg_told, running_leg, located, covered, without_legs_behind, placed_on, place, origin_on, rear_on, front_on, has_rear, has_front}
 use Rattle.rbc_model.proofs.SamenessLemmas.{leg_eq-itself}
 use Rattle.rbc_scene_laws.specs.Good.{IsGoodLocks}
-use Rattle.rbc_scene_laws.proofs.BasicLemmas.{and_left, and_right, either, or_left, the_some}
+use Rattle.rbc_scene_laws.proofs.BasicLemmas.{and_left, the_some}
 use Rattle.rbc_scene_laws.proofs.SpotLemmas.{line_length-append}
 use Rattle.rbc_scene_laws.proofs.TrainListLemmas.{find-holds}
 use Rattle.rbc_scene_laws.proofs.OnLineLemmas.{OnLine, OnLine-right, OnLine-one, differ_left}
 use Rattle.rbc_scene_laws.proofs.LengtheningLemmas.{IsAhead, IsFurtherBack, ahead_until, back_until, lengthened-now}
 use Rattle.rbc_scene_laws.proofs.ReachingLemmas.{ending_reach, line_length-take_more}
 use Rattle.rbc_scene_laws.proofs.OriginLemmas.{has_leg-drop, has_leg-right, some_with_leg, origin-append_left, origin-append_right}
+use Rattle.rbc_model.proofs.BasicLemmas.{each_of}
 
 -- ---- what an accepted placing went through
 
@@ -83,10 +84,6 @@ pub record IsStart (track : Track) (leg : Leg) (known : Option Line) (start : Li
   pub on : OnLine track start
   pub has : has_leg start leg ≡ true
   pub ahead : (line : Line) → known ≡ Some line → IsAhead track line start
-
-each_of : {X : Type 0} (test : X → Bool) (xs : List X) → list_all test xs ≡ true → AllByRecursion (λ x. test x ≡ true) xs
-each_of test [] h = tt
-each_of test (x ∷ xs) h = (and_left (test x) (list_all test xs) h, each_of test xs (and_right (test x) (list_all test xs) h))
 
 told_below : (track : Track) (report : Report) (group : BaliseGroup) → IsSound track → group_named track report.group ≡ Some group → (leg_told group report).section < length track.sections
 told_below track report group sound h = by_nominal report.nominal
@@ -189,7 +186,7 @@ module _ (track : Track) (locks : Locks) (group : BaliseGroup) (report : Report)
         is_line = f.is ∙ ap (λ l. l ++ f.more) b.is;
         on = f.on;
         has_told = stays_told;
-        one = elim (either (has_rear track group report stays_legs)) [ inl e ↦ inr (nothing_added mid b h e) | inr e ↦ inl (nothing_gone e) ];
+        one = elim (cases_Bool (has_rear track group report stays_legs)) [ inl e ↦ inr (nothing_added mid b h e) | inr e ↦ inl (nothing_gone e) ];
         front = leb-true (front_on track group report line) (line_length track line) front.1;
       }
 

@@ -1,12 +1,12 @@
 -- How far the legs that a line keeps reach.
-use Rattle.std.proofs.Common.{◌≡◌, ℕ, zero, suc, ◌+◌, ◌-◌, ◌≤◌, [], ◌∷◌, ◌++◌, length, take, drop, ap, sym, ◌∙◌, arith, inl, inr}
+use Rattle.std.proofs.Common.{◌≡◌, ℕ, zero, suc, ◌+◌, ◌-◌, ◌≤◌, [], ◌∷◌, ◌++◌, length, take, ap, ◌∙◌, arith, inl, inr}
 use Rattle.std.proofs.Math.Seq.{take-append-add}
-use Rattle.std.proofs.lemmas.List.{take-append-drop}
 use Rattle.rbc_model.specs.declared.places.Leg.{Leg}
 use Rattle.rbc_model.specs.Tracks.{Track, metres_of}
 use Rattle.rbc_model.specs.Lines.{Line, line_length, legs_begun_before, legs_ending_by}
 use Rattle.rbc_model.proofs.ScanLemmas.{le_or_lt}
-use Rattle.rbc_scene_laws.proofs.SpotLemmas.{line_length-cons, line_length-append, if_in, if_past}
+use Rattle.rbc_model.proofs.BasicLemmas.{if_in, if_past}
+use Rattle.rbc_model.proofs.MetreLemmas.{line_length-cons}
 
 -- more legs, more metres
 pub line_length-take_more : (track : Track) (j k : ℕ) (line : Line) → j ≤ k → line_length track (take j line) ≤ line_length track (take k line)
@@ -58,6 +58,3 @@ ending_reach track i (leg ∷ line) =
 -- so many legs of a longer line, if they are no fewer than the shorter one's
 pub take_past : (k : ℕ) (a b : Line) → length a ≤ k → take k (a ++ b) ≡ a ++ take (k - length a) b
 take_past k a b h = ap (λ j. take j (a ++ b)) (let e : k ≡ length a + (k - length a) = omega arith in e) ∙ take-append-add a b (k - length a)
-
-pub line_length-take_rest : (track : Track) (k : ℕ) (line : Line) → line_length track line ≡ line_length track (take k line) + line_length track (drop k line)
-line_length-take_rest track k line = ap (line_length track) (sym (take-append-drop k line)) ∙ line_length-append track (take k line) (drop k line)

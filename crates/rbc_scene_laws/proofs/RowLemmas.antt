@@ -9,7 +9,8 @@ use Rattle.rbc_model.specs.Locks.{Locks, row, next, prev, is_behind, section_beh
 use Rattle.rbc_model.specs.Obstacles.{is_locked}
 use Rattle.rbc_model.proofs.SamenessLemmas.{leg_eq-true, leg_eq-itself, direction_eq-true}
 use Rattle.rbc_scene_laws.specs.Good.{OneRowBehindEach, IsGoodLocks}
-use Rattle.rbc_scene_laws.proofs.BasicLemmas.{the_some, number_apart}
+use Rattle.rbc_scene_laws.proofs.BasicLemmas.{the_some}
+use Rattle.std.proofs.lemmas.Bool.{eqb-false}
 
 -- ---- a written row
 
@@ -37,7 +38,7 @@ same_or_not a b = by_test (a == b) refl
   where
     by_test : (t : Bool) → (a == b) ≡ t → (a ≡ b) ⊎ ((a ≡ b) → ⊥)
     by_test true e = inl (let g : (a == b) ≡ true = e in grind arith)
-    by_test false e = inr (number_apart a b e)
+    by_test false e = inr (eqb-false a b e)
 
 -- a row after one was written is the written one, or was there
 pub row-set_cases : (locks : Locks) (s t : ℕ) (x : Option Lock) (lock : Lock) → row (slice_set locks s x) t ≡ Some lock → ((s ≡ t) × (x ≡ Some lock)) ⊎ (((s ≡ t) → ⊥) × (row locks t ≡ Some lock))
@@ -159,10 +160,6 @@ next-is_one locks leg behind one r = by_next (next locks leg) refl (next-some lo
         let lock : q.lock ≡ r.lock = the_some q.lock r.lock (sym q.there ∙ ap (row locks) section ∙ r.there) in
         let direction : other.direction ≡ behind.direction = sym q.direction ∙ ap (λ (l : Lock). l.direction) lock ∙ r.direction in
         ap Some (same_leg other behind section direction)
-
--- so it is in good locks
-pub next-is : (track : Track) (locks : Locks) (leg behind : Leg) → IsGoodLocks track locks → IsBehindRow locks leg behind → next locks leg ≡ Some behind
-next-is track locks leg behind good r = next-is_one locks leg behind good.one_behind r
 
 -- the row of a leg that has a leg before
 prev_from : (locks : Locks) (leg before : Leg) (o : Option Lock) → row locks leg.section ≡ o → option_and_then (λ (lock : Lock). cond (direction_eq lock.direction leg.direction) lock.before None) o ≡ Some before → IsBehindRow locks before leg

@@ -1,5 +1,5 @@
 -- What an authority has after a report, as a list of metres: what it had, but for some of the first.
-use Rattle.std.proofs.Common.{◌≡◌, ℕ, ◌+◌, ◌-◌, ◌<◌, ◌≤◌, max, Bool, true, false, cond, List, [], ◌++◌, take, drop, Some, Ok, refl, ap, ap₂, sym, ◌∙◌, subst, arith, append-nil, ◌⊎◌, inl, inr, nat_lt}
+use Rattle.std.proofs.Common.{◌≡◌, ℕ, ◌+◌, ◌-◌, ◌<◌, ◌≤◌, max, Bool, true, false, cond, List, [], ◌++◌, take, drop, Some, refl, ap, ap₂, sym, ◌∙◌, subst, arith, append-nil, ◌⊎◌, inl, inr, nat_lt}
 use Rattle.std.proofs.lemmas.Bool.{ltb-true}
 use Rattle.std.proofs.lemmas.List.{drop-take, drop-drop}
 use Rattle.rbc_model.specs.declared.places.Metre.{Metre}
@@ -10,13 +10,13 @@ use Rattle.rbc_model.specs.SoundTracks.{IsSound}
 use Rattle.rbc_model.specs.Lines.{Line, line_length, line_metres}
 use Rattle.rbc_model.specs.Locks.{Locks}
 use Rattle.rbc_model.specs.Trains.{Train}
-use Rattle.rbc_model.specs.Placing.{Placed, place, through, train_after, renumbered}
+use Rattle.rbc_model.specs.Placing.{Placed, through, train_after, renumbered}
 use Rattle.rbc_scene_laws.specs.Good.{IsGoodLocks, IsGoodTrain}
 use Rattle.rbc_scene_laws.specs.Stretches.{metres_between, authority_metres}
 use Rattle.rbc_scene_laws.proofs.SpotLemmas.{line_length-append}
 use Rattle.rbc_scene_laws.proofs.LengtheningLemmas.{IsAhead}
 use Rattle.rbc_scene_laws.proofs.ThroughLemmas.{is_through}
-use Rattle.rbc_scene_laws.proofs.PlacingLemmas.{IsFound, is_found, IsMoved, HaveOrigins}
+use Rattle.rbc_scene_laws.proofs.PlacingLemmas.{IsFound, IsMoved, HaveOrigins}
 use Rattle.rbc_scene_laws.proofs.StretchLemmas.{metres_between-append_left, metres_between-moved}
 use Rattle.rbc_scene_laws.proofs.ReportingLemmas.{placed_train, is_on, the_line, moved, ahead, line_is, shift, now_at, now_is, to_there}
 
@@ -120,8 +120,3 @@ module _ (track : Track) (locks : Locks) (sound : IsSound track) (good : IsGoodL
                 ∙ ap (metres_between track train.line (from - added + gone)) ends
                 ∙ metres_between-drop track train.line train.from (from - added + gone) train.to begins (omega arith),
           )
-
--- after a report a train has the metres of authority that it had, but for some of the first
-pub IsTail-report : (track : Track) (locks : Locks) (report : Report) (placed : Placed) (train : Train) → IsSound track → IsGoodLocks track locks → IsGoodTrain track train → place track locks (Some train.line) report ≡ Ok placed
-    → IsTail (authority_metres track train) (authority_metres track (train_after track locks (Some train) report placed))
-IsTail-report track locks report placed train sound good was h = is_tail track locks sound good report placed train was (is_found track locks (Some train.line) report placed h)

@@ -1,22 +1,14 @@
 -- Laws on lines: what stands at a place of a line from which legs were dropped, or to which legs were added.
-use Rattle.std.proofs.Common.{◌≡◌, ℕ, ◌+◌, ◌-◌, ◌<◌, ◌≤◌, cond, [], ◌∷◌, ◌++◌, Some, None, refl, ap, sym, ◌∙◌, arith, inl, inr, nat_lt}
+use Rattle.std.proofs.Common.{◌≡◌, ℕ, ◌+◌, ◌-◌, ◌<◌, ◌≤◌, [], ◌∷◌, ◌++◌, Some, None, refl, ap, sym, ◌∙◌, arith, inl, inr}
 use Rattle.std.specs.Prelude.{option_map}
-use Rattle.std.proofs.lemmas.Bool.{lt-ltb, le-ltb}
-use Rattle.std.proofs.lemmas.List.Sums.{sum_by-append, sum_by-cons}
+use Rattle.std.proofs.lemmas.List.Sums.{sum_by-append}
 use Rattle.rbc_model.specs.declared.places.Leg.{Leg}
 use Rattle.rbc_model.specs.Tracks.{Track, metres_of, metre_of_leg}
 use Rattle.rbc_model.specs.Lines.{Line, at_place, line_length, leg_at, metre_at}
 use Rattle.rbc_model.proofs.ScanLemmas.{le_or_lt}
 use Rattle.rbc_scene_laws.specs.Good.{spot}
-
-pub if_in : {X : Type 0} (x y : X) (k n : ℕ) → k < n → cond (nat_lt k n) x y ≡ x
-if_in x y k n h = rw (lt-ltb k n h) refl
-
-pub if_past : {X : Type 0} (x y : X) (k n : ℕ) → n ≤ k → cond (nat_lt k n) x y ≡ y
-if_past x y k n h = rw (le-ltb k n h) refl
-
-pub line_length-cons : (track : Track) (leg : Leg) (line : Line) → line_length track (leg ∷ line) ≡ metres_of track leg.section + line_length track line
-line_length-cons track leg line = sum_by-cons (λ (l : Leg). metres_of track l.section) leg line
+use Rattle.rbc_model.proofs.BasicLemmas.{if_in, if_past}
+use Rattle.rbc_model.proofs.MetreLemmas.{line_length-cons}
 
 module _ {X : Type 0} (say : Leg → ℕ → X) (track : Track) where
   -- legs added behind a line change nothing on it

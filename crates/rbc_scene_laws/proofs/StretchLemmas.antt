@@ -1,76 +1,18 @@
 -- Stretches of a line as lists of metres: what they hold, how they join, and that legs dropped or added only shift them.
 use Rattle.std.specs.Prelude.{slice_get}
-use Rattle.std.proofs.Common.{◌≡◌, ℕ, zero, suc, ◌+◌, ◌-◌, ◌<◌, ◌≤◌, true, List, [], ◌∷◌, ◌++◌, length, take, drop, Some, None, refl, ap, sym, ◌∙◌, subst, arith, inl, inr}
-use Rattle.std.proofs.lemmas.List.{drop-drop, length-append, take-append-drop, take-append-le, drop-append-le, length-take, length-drop, length-take-le}
+use Rattle.std.proofs.Common.{◌≡◌, ℕ, zero, suc, ◌+◌, ◌-◌, ◌<◌, ◌≤◌, List, [], ◌∷◌, ◌++◌, length, take, drop, Some, None, refl, ap, sym, ◌∙◌, arith, inl, inr}
+use Rattle.std.proofs.lemmas.List.{drop-drop, length-append, take-append-le, drop-append-le, length-take, length-drop, length-take-le}
 use Rattle.std.proofs.lemmas.List.FromFn.{length-map-range_with_len}
 use Rattle.std.proofs.lemmas.Grind.{flat_map-append}
 use Rattle.std.proofs.lemmas.Option.{slice_get_past}
 use Rattle.std.proofs.Math.Seq.{take-add, drop-append-add}
 use Rattle.rbc_model.specs.declared.places.Metre.{Metre}
-use Rattle.rbc_model.specs.declared.places.Leg.{Leg}
-use Rattle.rbc_model.specs.declared.places.Direction.{Direction}
-use Rattle.rbc_model.specs.declared.places.Direction.TheVariants.{Rising, Falling}
-use Rattle.rbc_model.specs.Tracks.{Track, IsMetreOf, metres_of, metre_of_leg, leg_metres}
-use Rattle.rbc_model.specs.SoundTracks.{sections_differ}
+use Rattle.rbc_model.specs.Tracks.{Track, metres_of, metre_of_leg, leg_metres}
 use Rattle.rbc_model.specs.Lines.{Line, line_metres, line_length, metre_at}
-use Rattle.rbc_model.specs.Trains.{Train}
-use Rattle.rbc_model.specs.Scenes.{extent_has, authority_has}
-use Rattle.rbc_model.proofs.MetreLemmas.{metre_at-line_metres}
-use Rattle.rbc_model.proofs.ExtentLemmas.{place-metre_at, place-extent_has, extent_has-place, place-authority_has, authority_has-place}
+use Rattle.rbc_model.proofs.MetreLemmas.{metre_at-line_metres, line_length-cons}
 use Rattle.rbc_model.proofs.ScanLemmas.{le_or_lt}
-use Rattle.rbc_scene_laws.specs.Stretches.{metres_between, authority_metres, extent_metres}
-use Rattle.rbc_scene_laws.proofs.BasicLemmas.{the_some}
-use Rattle.rbc_scene_laws.proofs.SpotLemmas.{at_place-append_left, at_place-append_right, at_place-on, at_place-past, line_length-cons, line_length-append, if_in, if_past}
-
--- ---- the metre at a place, after legs are dropped or added
-
-pub metre_at-append_left : (track : Track) (a b : Line) (i : ℕ) → i < line_length track a → metre_at track (a ++ b) i ≡ metre_at track a i
-metre_at-append_left track a b i h = at_place-append_left (metre_of_leg track) track a b i h
-
-pub metre_at-append_right : (track : Track) (a b : Line) (i : ℕ) → metre_at track (a ++ b) (line_length track a + i) ≡ metre_at track b i
-metre_at-append_right track a b i =
-    at_place-append_right (metre_of_leg track) track a b (line_length track a + i) (omega arith) ∙ ap (metre_at track b) (let e : line_length track a + i - line_length track a ≡ i = omega arith in e)
-
-pub metre_at-take : (track : Track) (k : ℕ) (line : Line) (i : ℕ) → i < line_length track (take k line) → metre_at track (take k line) i ≡ metre_at track line i
-metre_at-take track k line i h = sym (ap (λ (l : Line). metre_at track l i) (sym (take-append-drop k line)) ∙ metre_at-append_left track (take k line) (drop k line) i h)
-
-pub metre_at-drop : (track : Track) (k : ℕ) (line : Line) (i : ℕ) → metre_at track (drop k line) i ≡ metre_at track line (line_length track (take k line) + i)
-metre_at-drop track k line i =
-    sym (ap (λ (l : Line). metre_at track l (line_length track (take k line) + i)) (sym (take-append-drop k line)) ∙ metre_at-append_right track (take k line) (drop k line) i)
-
-pub metre_at-on : (track : Track) (line : Line) (i : ℕ) (metre : Metre) → metre_at track line i ≡ Some metre → i < line_length track line
-metre_at-on track line i metre h = at_place-on (metre_of_leg track) track line i metre h
-
-pub metre_at-past : (track : Track) (line : Line) (i : ℕ) → line_length track line ≤ i → metre_at track line i ≡ None
-metre_at-past track line i h = at_place-past (metre_of_leg track) track line i h
-
--- each place of a line has a metre, and it is one of the track
-pub metre_of_leg-of_track : (track : Track) (leg : Leg) (k : ℕ) → k < metres_of track leg.section → IsMetreOf track (metre_of_leg track leg k)
-metre_of_leg-of_track track leg k h = by_direction leg.direction
-  where
-    by_direction : (d : Direction) → IsMetreOf track (metre_of_leg track (record { section = leg.section; direction = d }) k)
-    by_direction Rising = h
-    by_direction Falling = omega arith
-
-pub metre_at-some : (track : Track) (line : Line) (i : ℕ) → i < line_length track line → (metre : Metre) × (metre_at track line i ≡ Some metre) × IsMetreOf track metre
-metre_at-some track [] i h = absurd (omega arith)
-metre_at-some track (leg ∷ line) i h =
-    let m = metres_of track leg.section in
-    elim (le_or_lt m i) [
-      | inl past ↦
-          let rest = metre_at-some track line (i - m) (omega (arith, line_length-cons track leg line)) in
-          (rest.0, if_past (Some (metre_of_leg track leg i)) (metre_at track line (i - m)) i m past ∙ rest.1, rest.2)
-      | inr here ↦ (metre_of_leg track leg i, if_in (Some (metre_of_leg track leg i)) (metre_at track line (i - m)) i m here, metre_of_leg-of_track track leg i here)
-    ]
-
-pub metre_at-of_track : (track : Track) (line : Line) (i : ℕ) (metre : Metre) → metre_at track line i ≡ Some metre → IsMetreOf track metre
-metre_at-of_track track line i metre h =
-    let found = metre_at-some track line i (metre_at-on track line i metre h) in
-    subst (IsMetreOf track) (the_some found.0 metre (sym found.1 ∙ h)) found.2
-
--- no metre stands at two places
-pub metre_at-once : (track : Track) (line : Line) (i j : ℕ) (metre : Metre) → sections_differ line ≡ true → metre_at track line i ≡ Some metre → metre_at track line j ≡ Some metre → i ≡ j
-metre_at-once track line i j metre differ h k = the_some i j (sym (place-metre_at track line metre i differ h) ∙ place-metre_at track line metre j differ k)
+use Rattle.rbc_scene_laws.specs.Stretches.{metres_between}
+use Rattle.rbc_scene_laws.proofs.SpotLemmas.{line_length-append}
 
 -- ---- the list of a stretch
 
@@ -163,29 +105,3 @@ metres_between-moved track gone added stays ahead more i j h =
     ∙ metres_between-append_right track added stays i j
     ∙ sym (metres_between-append_right track gone stays i j)
     ∙ sym (metres_between-append_left track (gone ++ stays) more (line_length track gone + i) (line_length track gone + j) (omega (arith, line_length-append track gone stays)))
-
--- ---- authorities and extents as lists
-
--- the metre is one of the list
-abbrev pub IsOneOf : List Metre → Metre → Type 0
-IsOneOf metres metre = (k : ℕ) × (slice_get metres k ≡ Some metre)
-
-place_in : (track : Track) (line : Line) (a b : ℕ) (metre : Metre) (i : ℕ) → a ≤ i → i < b → metre_at track line i ≡ Some metre → IsOneOf (metres_between track line a b) metre
-place_in track line a b metre i low high there =
-    (i - a, slice_get-metres_between track line a b (i - a) (omega arith) ∙ ap (metre_at track line) (let e : a + (i - a) ≡ i = omega arith in e) ∙ there)
-
-pub authority_has-metres : (track : Track) (metre : Metre) (train : Train) → IsMetreOf track metre → authority_has track metre train ≡ true → IsOneOf (authority_metres track train) metre
-authority_has-metres track metre train of_track h =
-    let p = place-authority_has track metre train of_track h in place_in track train.line train.from train.to metre p.0 p.1 p.2 p.3
-
-pub metres-authority_has : (track : Track) (metre : Metre) (train : Train) → sections_differ train.line ≡ true → IsOneOf (authority_metres track train) metre → authority_has track metre train ≡ true
-metres-authority_has track metre train differ m =
-    let p = at_place_of_stretch track train.line train.from train.to m.0 metre m.1 in authority_has-place track metre train (train.from + m.0) differ (omega arith) p.0 p.1
-
-pub extent_has-metres : (track : Track) (metre : Metre) (train : Train) → IsMetreOf track metre → extent_has track metre train ≡ true → IsOneOf (extent_metres track train) metre
-extent_has-metres track metre train of_track h =
-    let p = place-extent_has track metre train of_track h in place_in track train.line train.rear train.front metre p.0 p.1 p.2 p.3
-
-pub metres-extent_has : (track : Track) (metre : Metre) (train : Train) → sections_differ train.line ≡ true → IsOneOf (extent_metres track train) metre → extent_has track metre train ≡ true
-metres-extent_has track metre train differ m =
-    let p = at_place_of_stretch track train.line train.rear train.front m.0 metre m.1 in extent_has-place track metre train (train.rear + m.0) differ (omega arith) p.0 p.1

@@ -2,11 +2,12 @@
 use Rattle.std.proofs.Common.{◌≡◌, ℕ, Bool, true, false, cond, List, [], ◌∷◌, ◌++◌, map, Option, Some, None, refl, sym, ◌∙◌, subst, ◌⊎◌, inl, inr}
 use Rattle.std.specs.Prelude.{is_some, ◌==◌, find}
 use Rattle.std.specs.List.{AllByRecursion}
-use Rattle.std.proofs.lemmas.Bool.{eqb-true}
+use Rattle.std.proofs.lemmas.Bool.{eqb-true, both_ways, eqb-false}
 use Rattle.rbc_model.specs.Trains.{Train}
 use Rattle.rbc_model.specs.Scenes.{Scene, train_numbered}
 use Rattle.rbc_model.specs.Events.{with_train}
-use Rattle.rbc_scene_laws.proofs.BasicLemmas.{EachPair, each_weaker, each_both, each_push, pairs_push, clash, number_apart}
+use Rattle.rbc_scene_laws.proofs.BasicLemmas.{EachPair, each_weaker, each_both, pairs_push}
+use Rattle.std.proofs.ByRecursion.{All-push}
 
 -- ---- searching
 
@@ -17,11 +18,6 @@ found_cases false x y rest h = inr (refl, h)
 missed : {X : Type 0} (b : Bool) (x : X) (rest : Option X) → cond b (Some x) rest ≡ None → (b ≡ false) × (rest ≡ None)
 missed true x rest h = cc
 missed false x rest h = (refl, h)
-
-pub find-passes : {X : Type 0} (test : X → Bool) (xs : List X) (x : X) → find test xs ≡ Some x → test x ≡ true
-find-passes test [] x h = cc
-find-passes test (y ∷ xs) x h =
-    elim (found_cases (test y) y x (find test xs) h) [ inl e ↦ subst (λ z. test z ≡ true) e.1 e.0 | inr e ↦ find-passes test xs x e.1 ]
 
 pub find-holds : {X : Type 0} (P : X → Type 0) (test : X → Bool) (xs : List X) (x : X) → find test xs ≡ Some x → AllByRecursion P xs → P x
 find-holds P test [] x h all = cc
@@ -45,7 +41,7 @@ found_beside R n [] train flip h pairs = tt
 found_beside R n (x ∷ xs) train flip h pairs =
     elim (found_cases (x.report.train == n) x train (find (λ t. t.report.train == n) xs) h) [
       | inl e ↦
-          ((λ other. absurd (clash (x.report.train == n) e.0 other)), each_weaker (R x) (λ other. (other.report.train == n) ≡ false → R train other) xs (λ other r apart. subst (λ z. R z other) e.1 r) pairs.0)
+          ((λ other. absurd (both_ways (x.report.train == n) other e.0)), each_weaker (R x) (λ other. (other.report.train == n) ≡ false → R train other) xs (λ other r apart. subst (λ z. R z other) e.1 r) pairs.0)
       | inr e ↦
           ((λ other. flip x train (find-holds (R x) (λ t. t.report.train == n) xs train e.1 pairs.0)), found_beside R n xs train flip e.1 pairs.1)
     ]
@@ -113,7 +109,7 @@ none_some (Some x) h = cc
 pub each_with_train : (P : Train → Type 0) (scene : Scene) (train : Train) → AllByRecursion P scene.trains → P train → AllByRecursion P (with_train scene train).trains
 each_with_train P scene train all here =
     by_test (AllByRecursion P) (is_some (train_numbered scene train.report.train)) (map (swap train) scene.trains) (scene.trains ++ train ∷ [])
-    (λ known. each_swapped P train scene.trains all here) (λ new. each_push P scene.trains train all here)
+    (λ known. each_swapped P train scene.trains all here) (λ new. All-push P scene.trains train all here)
 
 pub pairs_with_train : (R : Train → Train → Type 0) (scene : Scene) (train : Train) → EachPair R scene.trains → EachPair Differ scene.trains → AllByRecursion (Beside R train) scene.trains → EachPair R (with_train scene train).trains
 pairs_with_train R scene train pairs differ beside =
@@ -129,4 +125,4 @@ differ_with_train scene train differ = pairs_with_train Differ scene train diffe
   where
     all_beside : (xs : List Train) → AllByRecursion (Beside Differ train) xs
     all_beside [] = tt
-    all_beside (x ∷ xs) = ((λ other. ((λ e. number_apart x.report.train train.report.train other (sym e)), (λ e. number_apart x.report.train train.report.train other e))), all_beside xs)
+    all_beside (x ∷ xs) = ((λ other. ((λ e. eqb-false x.report.train train.report.train other (sym e)), (λ e. eqb-false x.report.train train.report.train other e))), all_beside xs)

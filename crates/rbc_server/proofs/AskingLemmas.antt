@@ -33,7 +33,7 @@ use Rattle.rbc_sweep.specs.CommitFault.TheVariants.{Full as FullToGrants, Stale}
 use Rattle.rbc_sweep.specs.Entering.{EntersOrMemory, entry_granted, is_shown}
 use Rattle.rbc_sweep.specs.Records.{HistoryOnTrack, scene_now, is_full, with_entry}
 use Rattle.rbc_replies.specs.Certificates.{IsBasisOf, speeds_of, grades_of}
-use Rattle.rbc_words.specs.PriceText.{prices_of}
+use Rattle.rbc_replies.specs.PriceText.{prices_of}
 use Rattle.rbc_replies.specs.Replies.{ObstacleIsOfTrack, grant_text}
 use Rattle.rbc_replies.specs.declared.replies.Granted.{Granted as ToldGrant}
 use Rattle.rbc_session_laws.specs.Turns.{AnswersAuthority, AnswersAsker, IsGrantFor, IsGranted, IsRefused}

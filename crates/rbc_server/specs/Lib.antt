@@ -13,3 +13,7 @@ pub use Rattle.rbc_sweep.specs.Later
 pub use Rattle.rbc_sweep.specs.Records
 pub use Rattle.rbc_sweep.specs.Seats
 pub use Rattle.rbc_sweep.specs.Sights
+pub use Rattle.rbc_replies.specs.Replies
+pub use Rattle.rbc_replies.specs.SessionLines
+pub use Rattle.rbc_replies.specs.declared.replies.SessionRefusal
+pub use Rattle.rbc_replies.specs.declared.replies.SessionReply

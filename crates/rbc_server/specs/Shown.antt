@@ -15,7 +15,7 @@ use Rattle.rbc_sweep.specs.ApplyFault.{ApplyFault}
 use Rattle.rbc_sweep.specs.ApplyFault.TheVariants.{Full as FullToTold, Refused as RefusedByScene}
 use Rattle.rbc_sweep.specs.AskFault.{AskFault}
 use Rattle.rbc_sweep.specs.Granted.{Granted as GrantedAtDesk}
-use Rattle.rbc_words.specs.PriceText.{prices_of}
+use Rattle.rbc_replies.specs.PriceText.{prices_of}
 use Rattle.rbc_replies.specs.declared.replies.Granted.{Granted}
 use Rattle.rbc_replies.specs.declared.replies.SessionRefusal.{SessionRefusal}
 use Rattle.rbc_replies.specs.declared.replies.SessionRefusal.TheVariants.{BadEvent, Full, Memory}

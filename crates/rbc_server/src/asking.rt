@@ -15,7 +15,7 @@ ghost use Rattle.rbc_server.specs.Changes.{Comes};
 ghost use Rattle.rbc_server.specs.Shown.{IsToldOf};
 ghost use Rattle.rbc_session_laws.specs.Turns.{AnswersAuthority};
 
-use rbc_model::{OrMemory, Refusal, ViewFault};
+use rbc_model::{OrMemory, Refusal, TrainId, ViewFault};
 use rbc_replies::{Basis, Granted, SessionRefusal, SessionReply, print};
 use rbc_streams::{Sink, WriteFailed};
 use rbc_sweep::{Candidate, CommitFault, Record, View, candidate};
@@ -32,7 +32,7 @@ pub(crate) fn ask<W: Sink>(
     rt: &(impl Threads + Sync),
     alloc: Global,
     history: &mut Record,
-    train: u32,
+    train: TrainId,
     writer: &mut W,
 ) -> Result<(), WriteFailed>
     requires { W.failed writer.old ≡ false }
@@ -51,7 +51,11 @@ pub(crate) fn ask<W: Sink>(
 }
 
 /// The reply to a train that is shown no end.
-pub fn stopped(history: &Record, train: u32, fault: OrMemory<ViewFault>) -> SessionReply<'static>
+pub fn stopped(
+    history: &Record,
+    train: TrainId,
+    fault: OrMemory<ViewFault>,
+) -> SessionReply<'static>
     requires fault { RefusesOrMemory fault (view history.now.track (scene_now history.now) train) }
     requires unknown { train_numbered (scene_now history.now) train ≡ None → fault ≡ Refused UnknownTrain }
     ensures comes { Comes (λ track entries said added. AnswersAuthority track entries said added train)

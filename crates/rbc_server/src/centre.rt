@@ -3,8 +3,8 @@
 use crate::asking::ask;
 use crate::demand::demand_in;
 use crate::telling::tell;
-use rbc_model::LineFault;
 use rbc_model::limits::LONGEST_LINE;
+use rbc_model::{LineFault, TrainId};
 use rbc_replies::{SessionRefusal, SessionReply, print};
 use rbc_session_laws::Demand;
 use rbc_streams::{Answers, Sink, WriteFailed};
@@ -62,7 +62,7 @@ impl Answers<Centre> for Record {
                 let reply = tell(alloc, self, &told);
                 print(self.track(), &reply, writer)
             }
-            Ok(Demand::Authority(train)) => ask(rt, alloc, self, train, writer),
+            Ok(Demand::Authority(number)) => ask(rt, alloc, self, TrainId::new(number), writer),
             Err(refusal) => print(self.track(), &SessionReply::Refused(refusal), writer),
         }
     }

@@ -11,7 +11,7 @@ ghost use Rattle.rbc_replies.specs.Replies.{reply_text, ReplyIsWhole};
 ghost use Rattle.rbc_session_laws.specs.declared.demand.Demand.TheVariants.{Event, Authority};
 ghost use Rattle.rbc_session_laws.specs.Demands.{looked_up};
 ghost use Rattle.rbc_model.specs.HistoryText.{IsToldOfTrack};
-ghost use Rattle.rbc_words.specs.SessionLines.{request_view};
+ghost use Rattle.rbc_replies.specs.SessionLines.{request_view};
 ghost use Rattle.rbc_server.specs.Keeping.{AddsEntry};
 ghost use Rattle.rbc_server.specs.SeatTurns.{AnswersAsked};
 ghost use Rattle.rbc_server.specs.Shown.{entry_granted_in};
@@ -22,13 +22,13 @@ use crate::demand::looked_up;
 use crate::telling::refusal_of;
 use crate::{Keeper, NotKept, Sitting};
 use rbc_model::limits::LONGEST_LINE;
-use rbc_model::{LineFault, OrMemory, Refusal, Told};
+use rbc_model::{LineFault, OrMemory, Refusal, Told, TrainId};
+use rbc_replies::words::{Request, parse};
 use rbc_replies::{SessionRefusal, SessionReply, print};
 use rbc_session_laws::Demand;
 use rbc_streams::{Answers, Sink, WriteFailed};
 use rbc_sweep::{AskFault, Desk, DeskName, Gate, Granted, Receipt};
 use rbc_track::Track;
-use rbc_words::{Request, parse};
 use std::alloc::Global;
 use std::sync::Wait;
 use std::thread::Threads;
@@ -188,7 +188,7 @@ impl<'a, L: DeskName, K: Keeper<L>, G: Gate, R: Wait> Counter<'a, L, K, G, R> {
         alloc: Global,
         sitting: &mut Sitting<L, K::Pen>,
         request: &Request,
-        train: u32,
+        train: TrainId,
         writer: &mut W,
     ) -> Result<(), WriteFailed>
         requires going { W.failed writer.old ≡ false }
@@ -240,7 +240,10 @@ impl<'a, L: DeskName, K: Keeper<L>, G: Gate, R: Wait> Counter<'a, L, K, G, R> {
         match looked_up(self.track, *request) {
             Ok(Demand::Nothing) => print(self.track, &SessionReply::Nothing, writer),
             Ok(Demand::Event(told)) => self.tell(alloc, sitting, request, told, writer),
-            Ok(Demand::Authority(train)) => self.ask(rt, alloc, sitting, request, train, writer),
+            Ok(Demand::Authority(number)) => {
+                let train = TrainId::new(number);
+                self.ask(rt, alloc, sitting, request, train, writer)
+            }
             Err(refusal) => print(self.track, &SessionReply::Refused(refusal), writer),
         }
     }
@@ -249,7 +252,7 @@ impl<'a, L: DeskName, K: Keeper<L>, G: Gate, R: Wait> Counter<'a, L, K, G, R> {
 /// The reply to a train that asked at a desk.
 pub(crate) fn reply_to<'a>(
     track: &Track,
-    train: u32,
+    train: TrainId,
     answer: &'a Result<Granted, OrMemory<AskFault>>,
 ) -> SessionReply<'a>
     requires { IfOk answer.now (λ granted. granted.receipt.place < MOST_ENTRIES) }

@@ -4,13 +4,13 @@ ghost use Rattle.std.specs.Prelude.{◌≡◌, IfOk};
 ghost use Rattle.std.specs.Result.{result_map_both};
 ghost use Rattle.rbc_replies.specs.Replies.{refusal_view};
 ghost use Rattle.rbc_session_laws.specs.Demands.{looked_up, demand_in, IsDemandOfTrack};
-ghost use Rattle.rbc_words.specs.SessionLines.{request_view};
+ghost use Rattle.rbc_replies.specs.SessionLines.{request_view};
 
 use rbc_model::Told;
 use rbc_replies::SessionRefusal;
+use rbc_replies::words::{Request, parse};
 use rbc_session_laws::Demand;
 use rbc_track::Track;
-use rbc_words::{Request, parse};
 
 /// What the bytes of a line ask for. It takes no memory.
 ///
@@ -51,6 +51,6 @@ pub fn looked_up(track: &Track, request: Request) -> Result<Demand, SessionRefus
         },
         Request::Leave(train) => Ok(Demand::Event(Told::Leave(train))),
         Request::GiveBack(train, end) => Ok(Demand::Event(Told::GiveBack(train, end))),
-        Request::Ask(train) => Ok(Demand::Authority(train)),
+        Request::Ask(train) => Ok(Demand::Authority(train.number())),
     }
 }

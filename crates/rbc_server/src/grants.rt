@@ -9,9 +9,10 @@ ghost use Rattle.rbc_server.specs.Sittings.{AreKeptOf, HasRank, IsKeptAt, StaysK
 
 use crate::asking::told_of;
 use crate::{Counter, KeepFault, Keeper};
+use rbc_model::TrainId;
 use rbc_model::limits::LAST_TRAIN;
+use rbc_replies::words::Request;
 use rbc_sweep::{Answer, DeskName, Gate, Granted, Outcome, Seat};
-use rbc_words::Request;
 use std::alloc::{AllocError, Global};
 use std::sync::Wait;
 
@@ -62,15 +63,15 @@ impl<'a, L: DeskName, K: Keeper<L>, G: Gate, R: Wait> Counter<'a, L, K, G, R> {
     /// # Errors
     ///
     /// `Memory`: there is none for it. `Journal`: no line says it.
-    fn text_of(&self, alloc: Global, train: u32) -> Result<K::Text, KeepFault>
+    fn text_of(&self, alloc: Global, train: TrainId) -> Result<K::Text, KeepFault>
         ensures sayable { OnOk result (IsSayable (Ask train)) }
         ensures says { IfOk result (λ text. K.says text (Ask train)) }
     {
         // Every train has a number from 1 to the last. No line says another.
-        if train < 1 {
+        if train.number() < 1 {
             return Err(KeepFault::Journal);
         }
-        if train > LAST_TRAIN {
+        if train.number() > LAST_TRAIN {
             return Err(KeepFault::Journal);
         }
         match self.keeper.prepare(alloc, &Request::Ask(train)) {
@@ -89,7 +90,7 @@ impl<'a, L: DeskName, K: Keeper<L>, G: Gate, R: Wait> Counter<'a, L, K, G, R> {
         alloc: Global,
         pen: &mut K::Pen,
         seat: &Seat<L>,
-        train: u32,
+        train: TrainId,
         granted: &Granted,
     ) -> Result<(), KeepFault>
         requires told { HasGrant seat.now.told train granted.now }

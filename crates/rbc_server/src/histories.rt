@@ -8,10 +8,10 @@ ghost use Rattle.rbc_model.specs.Words.{line_of};
 ghost use Rattle.rbc_sweep.specs.Entries.{entry_of};
 ghost use Rattle.rbc_session_laws.specs.Retelling.{IsEntryOfTrack, IsItsSession, IsRetold};
 
+use rbc_replies::words::{Request, print_request, told_request};
 use rbc_streams::{Sink, WriteFailed};
 use rbc_sweep::{Entry, Record};
 use rbc_track::Track;
-use rbc_words::{Request, print_request, told_request};
 
 /// Writes the history of a record as lines: what was told as it is told, and for what was granted the request for it.
 /// [`run`](crate::run) over these lines, on a new record of the track, leads to the same history. It takes no memory.

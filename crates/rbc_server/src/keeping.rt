@@ -3,11 +3,11 @@
 ghost use Rattle.std.specs.Prelude.{ℕ, IfOk, OnOk};
 ghost use Rattle.rbc_model.specs.SessionText.{SessionLine, IsSayable};
 ghost use Rattle.rbc_server.specs.Keeping.{AddsEntry};
-ghost use Rattle.rbc_words.specs.SessionLines.{request_view};
+ghost use Rattle.rbc_replies.specs.SessionLines.{request_view};
 
 use rbc_model::Memory;
+use rbc_replies::words::Request;
 use rbc_sweep::{DeskName, Receipt, Seat};
-use rbc_words::Request;
 use std::alloc::Global;
 use std::sync::Wait;
 use thiserror::Error;

@@ -23,6 +23,8 @@ pub use demand::{demand_in, looked_up};
 pub use histories::print_history;
 pub use keeping::{KeepFault, Keeper, NoJournal, NotKept};
 pub use rbc_port::{Client, Clients, Ends, Port, PortFailed, Terms};
+pub use rbc_replies as replies;
+pub use rbc_replies::words;
 pub use rbc_streams::SessionFault;
 pub use rbc_sweep::{
     Blank, Candidate, Desk, DeskName, Receipt, Record, Seat, Sight, View, candidate,

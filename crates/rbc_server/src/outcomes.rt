@@ -8,11 +8,12 @@ ghost use Rattle.rbc_replies.specs.Replies.{ObstacleIsOfTrack};
 ghost use Rattle.rbc_server.specs.Serving.{TellsAll, TellsAnswer, TellsGrant, AnswerIsTellable, IsTellable, closed_line};
 
 use crate::asking::told_of;
+use rbc_model::TrainId;
+use rbc_replies::words::print_number;
 use rbc_replies::{SessionRefusal, SessionReply, print};
 use rbc_streams::{Sink, WriteFailed, put};
 use rbc_sweep::{Answer, Granted, Outcome};
 use rbc_track::Track;
-use rbc_words::print_number;
 
 /// Prints what the trains of a sweep were answered, in order, and hands it on.
 ///
@@ -41,7 +42,7 @@ pub(crate) fn print_outcomes<W: Sink>(
 /// Prints what a train was answered.
 fn print_answer<W: Sink>(
     track: &Track,
-    train: u32,
+    train: TrainId,
     answer: &Answer,
     writer: &mut W,
 ) -> Result<(), WriteFailed>
@@ -56,7 +57,7 @@ fn print_answer<W: Sink>(
             let blocked = SessionReply::Blocked(train, *obstacle, *at, *version);
             print(track, &blocked, writer)
         }
-        Answer::Gone => print_count(b"gone ", u64::from(train), writer),
+        Answer::Gone => print_count(b"gone ", u64::from(train.number()), writer),
         Answer::Full => print(track, &SessionReply::Refused(SessionRefusal::Full), writer),
         Answer::Memory => print(
             track,

@@ -21,7 +21,8 @@ use Rattle.rbc_grant_laws.specs.Candidates.{IsCandidateOf}
 use Rattle.rbc_grant_laws.proofs.CandidateLemmas.{candidate-IsBest, the_ok}
 use Rattle.rbc_session_laws.specs.Answers.{metres_shown, grant_of, speed_prices_of, grade_prices_of}
 use Rattle.rbc_session_laws.specs.Laws.{GrantsAreOne}
-use Rattle.rbc_session_laws.proofs.ViewLemmas.{some_unit, whole_in_units, shown_well}
+use Rattle.rbc_session_laws.proofs.ViewLemmas.{shown_well}
+use Rattle.rbc_model.proofs.ScaleLemmas.{expressible_whole, some_unit}
 
 -- ---- profiles and tables, for a number of metres that is known by an equation
 
@@ -84,7 +85,7 @@ module _ (track : Track) (scene : Scene) (number : ℕ) (shown : View) (grant : 
       let w = shown_well track scene number shown form seen in
       let n = metres_shown shown in
       let end = end_shown c in
-      let whole = whole_in_units track.format n w.expressible in
+      let whole = expressible_whole track.format n w.expressible in
       same_grant grant (grant_of shown) c.train c.from
       (same_authority grant.authority (grant_of shown).authority c.time c.group c.direction end
       (the_steps speed_levels speed_lawful shown.speed_steps n shown.speeds grant.authority.end grant.authority.speeds end whole w.speed_steps w.speeds speeds)

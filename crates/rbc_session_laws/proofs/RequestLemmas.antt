@@ -18,24 +18,13 @@ use Rattle.rbc_model.specs.RequestText.{request_words, number_at, line_in}
 use Rattle.rbc_model.specs.StepsText.{StepsRequest, StepsLine, Blank, Speed, Grade, run_in_word, runs_in, request_in, words_line, parse_steps, track_in}
 use Rattle.rbc_model.proofs.CountingLemmas.{both_of}
 use Rattle.rbc_steps.proofs.JoinedLemmas.{and, IsTrackFunction-joined}
+use Rattle.rbc_model.proofs.SaidLineLemmas.{bound, allowed}
 
 -- ---- answers in a row
-
-bound : {A B E : Type 0} (r : Result A E) (f : A → Result B E) (y : B) → r >>= f ≡ Ok y → (x : A) × (r ≡ Ok x) × (f x ≡ Ok y)
-bound (Ok x) f y h = (x, refl, h)
-bound (Err e) f y h = cc
 
 demanded : {E : Type 0} (b : Bool) (e : E) (x : Unit {0}) → demand b e ≡ Ok x → b ≡ true
 demanded true e x h = refl
 demanded false e x h = cc
-
-chosen : {A E : Type 0} (b : Bool) (e : E) (x y : A) → cond b (Ok x) (Err e) ≡ Ok y → (b ≡ true) × (x ≡ y)
-chosen true e x y h = (refl, cc)
-chosen false e x y h = cc
-
-allowed : {A E : Type 0} (test : A → Bool) (e : E) (o : Option A) (y : A) → allowed_value test e o ≡ Ok y → test y ≡ true
-allowed test e None y h = cc
-allowed test e (Some x) y h = let c = chosen (test x) e x y h in subst (λ z. test z ≡ true) c.1 c.0
 
 -- ---- requests
 

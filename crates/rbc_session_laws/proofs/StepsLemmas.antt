@@ -20,10 +20,10 @@ use Rattle.rbc_model.specs.StepsReply.{certificate, packet_lines, profile_reply,
 use Rattle.rbc_model.proofs.LevelLemmas.{speed_lawful, grade_lawful}
 use Rattle.rbc_table_laws.specs.LeastTables.{chosen_steps}
 use Rattle.rbc_session_laws.specs.StepsAnswers.{certified_reply, request_reply, read_reply, steps_reply, StepsLinesAreAnswered, StepsWrittenIsAnswered}
-use Rattle.rbc_session_laws.proofs.ViewLemmas.{whole_in_units}
 use Rattle.rbc_session_laws.proofs.GrantLemmas.{the_steps, the_prices}
 use Rattle.rbc_session_laws.proofs.RequestLemmas.{IsAsked, IsMade, made_of, speed_asked, grade_asked}
 use Rattle.rbc_session_laws.proofs.TextLemmas.{EndsLine, IsWhole, ends_behind, line_ends, lines_of-whole, IsNotMemory, all_of_both, no_memory_line}
+use Rattle.rbc_model.proofs.ScaleLemmas.{expressible_whole}
 
 -- ---- a line
 
@@ -31,7 +31,7 @@ module _ {V : Type 0} (kind : Kind V) (lawful : IsLawful kind.levels) (format : 
   certified : (track : StepsRequest V) → IsMade kind format track → IsCertified kind track reply → reply ≡ certified_reply kind track
   unfolding certified_reply
   certified track made (steps, rows, chosen, greatest, said) =
-      let whole = whole_in_units format track.end made.expressible in
+      let whole = expressible_whole format track.end made.expressible in
       said
       ∙ ap (λ s. profile_reply kind track s rows) (the_steps kind.levels lawful track.limit track.end track.runs track.end steps refl whole made.some_steps made.runs chosen)
       ∙ ap (profile_reply kind track (chosen_steps kind.levels (unit_of track.end) track.limit track.end track.runs)) (the_prices kind.levels lawful track.limit track.end track.runs track.end rows refl greatest)

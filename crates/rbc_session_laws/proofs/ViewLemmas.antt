@@ -1,12 +1,7 @@
 -- What each view on a track in form shows: an end that a message can give, and one speed and one gradient for each metre up to there.
-use Rattle.std.proofs.Common.{◌≡◌, ℕ, ◌-◌, ◌<◌, ◌≤◌, Bool, true, false, ◌&&◌, Ok, subst, arith, inl, inr, nat_lt, nat_le}
-use Rattle.std.specs.Prelude.{◌==◌, ◌%◌, if◌then◌else◌}
-use Rattle.std.proofs.lemmas.Bool.{leb-true, le-leb, eqb-true, ltb-true, or_cases}
-use Rattle.std.proofs.lemmas.Bool.Decides.{leb_tells}
-use Rattle.rbc_model.specs.declared.places.Format.{Format}
-use Rattle.rbc_model.specs.declared.places.Format.TheVariants.{Near, Far}
-use Rattle.rbc_model.specs.Results.{is_from_to}
-use Rattle.rbc_model.specs.Scales.{is_expressible, unit_of}
+use Rattle.std.proofs.Common.{◌≡◌, ℕ, ◌-◌, ◌<◌, ◌≤◌, true, Ok, subst, arith, nat_lt}
+use Rattle.std.proofs.lemmas.Bool.{ltb-true}
+use Rattle.rbc_model.specs.Scales.{is_expressible}
 use Rattle.rbc_model.specs.Levels.{speed_levels, grade_levels}
 use Rattle.rbc_model.specs.Profiles.{IsTrackFunction}
 use Rattle.rbc_model.specs.Tracks.{Track}
@@ -18,37 +13,11 @@ use Rattle.rbc_model.specs.Obstacles.{way}
 use Rattle.rbc_model.specs.Views.{View, view}
 use Rattle.rbc_model.proofs.EndLemmas.{IsGreatestEnd-greatest_end, le_reach-IsSafe, reach-le}
 use Rattle.rbc_model.proofs.LevelLemmas.{speed_lawful, grade_lawful}
-use Rattle.rbc_grant_laws.proofs.BasicLemmas.{and_left, and_right}
 use Rattle.rbc_grant_laws.proofs.CoveredLemmas.{speeds_are_covered, grades_are_covered}
 use Rattle.rbc_grant_laws.proofs.CandidateLemmas.{placed_well, view_to, is_seen, is_there}
 use Rattle.rbc_session_laws.specs.Answers.{metres_shown}
 use Rattle.rbc_steps.proofs.TrackRunLemmas.{IsTrackFunction-runs_over}
-
--- ---- the scale of an end
-
-pub some_unit : (n : ℕ) → 0 < unit_of n
-some_unit n = by_test (nat_le n 32000)
-  where
-    by_test : (b : Bool) → 0 < (if b then 1 else 10)
-    by_test true = omega arith
-    by_test false = omega arith
-
-near_whole : (n : ℕ) → n ≤ 32000 → n % unit_of n ≡ 0
-near_whole n h = rw (le-leb n 32000 h) (omega arith)
-
-far_whole : (n : ℕ) → 32000 < n → n % 10 ≡ 0 → n % unit_of n ≡ 0
-far_whole n h e = let test : nat_le n 32000 ≡ false = grind (arith, leb_tells) in rw test e
-
--- an end that a message can give is whole in its scale
-pub whole_in_units : (format : Format) (n : ℕ) → is_expressible format n ≡ true → n % unit_of n ≡ 0
-whole_in_units Near n h = near_whole n (leb-true n 32000 (and_right (nat_le 1 n) (nat_le n 32000) h))
-whole_in_units Far n h =
-    elim (or_cases (is_from_to 1 32000 n) (is_from_to 32010 80000 n && n % 10 == 0) h) [
-      | inl e ↦ near_whole n (leb-true n 32000 (and_right (nat_le 1 n) (nat_le n 32000) e))
-      | inr e ↦
-          let low = leb-true 32010 n (and_left (nat_le 32010 n) (nat_le n 80000) (and_left (is_from_to 32010 80000 n) (n % 10 == 0) e)) in
-          far_whole n (omega arith) (eqb-true (n % 10) 0 (and_right (is_from_to 32010 80000 n) (n % 10 == 0) e))
-    ]
+use Rattle.std.specs.Cmp.{first_so, second_so}
 
 -- ---- views
 
@@ -84,6 +53,6 @@ shown_well track scene number shown form h =
     let g = IsGreatestEnd-greatest_end track scene train s.end placed.begins placed.stopped s.greatest in
     let near = le_reach-IsSafe track scene train s.end placed.begins placed.stopped g.safe in
     let far = reach-le track scene train in
-    let ahead = ltb-true train.origin s.end (and_left (nat_lt train.origin s.end) (is_expressible track.format (s.end - train.origin)) g.expressible) in
-    let expressible = and_right (nat_lt train.origin s.end) (is_expressible track.format (s.end - train.origin)) g.expressible in
+    let ahead = ltb-true train.origin s.end (first_so (nat_lt train.origin s.end) (is_expressible track.format (s.end - train.origin)) g.expressible) in
+    let expressible = second_so (nat_lt train.origin s.end) (is_expressible track.format (s.end - train.origin)) g.expressible in
     subst (IsShownWell track) s.is (shown_to track scene train s.end form ahead expressible (omega arith))

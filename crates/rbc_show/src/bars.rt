@@ -117,7 +117,7 @@ fn push_on(bars: &mut Vec<Bar>, other: &Train, begin: u32, leg: &Leg) -> Result<
     requires { begin + metres_of other.now.track leg.now.section < 2 ^ 32 }
     ensures { OnOk result (bars.new.items ≡ bars.old.items ++ bars_on other.now.track other.now.train begin leg.now) }
 {
-    let number = other.number();
+    let number = other.id().number();
     push_bar(bars, number, false, begin, extent_span(other, leg))?;
     push_bar(bars, number, true, begin, authority_span(other, leg))?;
     Ok(())
@@ -156,10 +156,10 @@ pub(crate) fn bars_of(
         ≡ flat_map (λ other. bars_along way.now.track other 0 way.now.legs)
         (others (scene_of [] book.now.trains) train.now.train)) }
 {
-    let number = train.number();
+    let id = train.id();
     let mut bars = Vec::new(alloc);
     for other in book.trains() {
-        if other.number() != number {
+        if other.id() != id {
             push_along(&mut bars, other, way)?;
         }
     }

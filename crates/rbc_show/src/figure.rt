@@ -11,9 +11,8 @@ use crate::phrases::Phrase;
 use crate::pieces::Piece;
 use crate::strip::Strip;
 use crate::words::{Ground, Scale, Word};
-use rbc_draw::{Chart, Measure, Place, Point, Printed, Shape, print_each};
+use rbc_draw::{Chart, Measure, Place, Point, Printed, Shape, Sink, WriteFailed, print_each, put};
 use rbc_model::GroupName;
-use rbc_streams::{Sink, WriteFailed, put};
 
 /// What a figure is named.
 fn stair_name(measure: Measure) -> &'static [u8]

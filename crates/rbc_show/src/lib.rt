@@ -16,4 +16,3 @@ mod words;
 pub use page::{ShowFault, print_foot, print_head, show_scene};
 pub use rbc_draw::{check, draw};
 pub use rbc_scene::Scene;
-pub use rbc_streams::{Answers, converse};

@@ -15,8 +15,7 @@ use crate::phrases::Phrase;
 use crate::pieces::Piece;
 use crate::strip::Strip;
 use crate::words::Ground;
-use rbc_draw::{Chart, Measure, Point, Printed, Shape, print_each};
-use rbc_streams::{Sink, WriteFailed, put};
+use rbc_draw::{Chart, Measure, Point, Printed, Shape, Sink, WriteFailed, print_each, put};
 
 /// A shape of a figure. Its look is the name under which the page's style has it.
 #[derive(Clone, Copy)]

@@ -15,10 +15,9 @@ use crate::marks::{
 use crate::pieces::Piece;
 use crate::strip::{Strip, strips_of};
 use crate::words::Ground;
-use rbc_draw::{Printed, print_each};
+use rbc_draw::{Printed, Sink, WriteFailed, print_each, put};
 use rbc_model::Memory;
 use rbc_scene::Scene;
-use rbc_streams::{Sink, WriteFailed, put};
 use rbc_track::Track;
 use std::alloc::Global;
 

@@ -6,9 +6,8 @@ ghost use Rattle.rbc_show.specs.Words.{end_at_text, end_text, group_text, held_t
 ghost use Rattle.rbc_show.specs.Pieces.{phrase_text};
 
 use crate::words::{Ground, Word};
-use rbc_draw::{Printed, print_each, print_number};
-use rbc_model::{Direction, GroupName, Obstacle, SectionId};
-use rbc_streams::{Sink, WriteFailed, put};
+use rbc_draw::{Printed, Sink, WriteFailed, print_each, print_number, put};
+use rbc_model::{Direction, GroupName, Obstacle, SectionId, TrainId};
 
 /// A phrase of a page.
 #[derive(Clone, Copy)]
@@ -137,7 +136,7 @@ fn print_obstacle<W: Sink>(
 /// Writes what another train does.
 fn print_train_that<W: Sink>(
     basis: &Ground,
-    train: u32,
+    train: TrainId,
     does: &[u8],
     writer: &mut W,
 ) -> Result<(), WriteFailed>
@@ -147,7 +146,7 @@ fn print_train_that<W: Sink>(
 {
     let words = [
         Word::Text(b"train "),
-        Word::Number(u64::from(train)),
+        Word::Number(u64::from(train.number())),
         Word::Text(does),
     ];
     print_each(basis, &words, writer)

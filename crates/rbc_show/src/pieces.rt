@@ -12,8 +12,7 @@ use crate::parts::Part;
 use crate::phrases::Phrase;
 use crate::strip::Strip;
 use crate::words::{Ground, Scale};
-use rbc_draw::{Measure, Place, Printed, print_each, print_number};
-use rbc_streams::{Sink, WriteFailed, put};
+use rbc_draw::{Measure, Place, Printed, Sink, WriteFailed, print_each, print_number, put};
 
 /// A piece of a figure.
 #[derive(Clone, Copy)]

@@ -1,15 +1,14 @@
 //! The stairs of a way: its speeds and its gradients, leg by leg.
 
-ghost use Rattle.std.specs.Prelude.{◌≡◌, ◌+◌, ◌<◌, ◌^◌, ◌++◌, [], ℤ, pos, length, All, IfOk, OnOk};
+ghost use Rattle.std.specs.Prelude.{◌≡◌, ◌+◌, ◌<◌, ◌^◌, ◌++◌, [], length, All, IfOk, OnOk};
 ghost use Rattle.std.specs.Arc.{arc_value};
 ghost use Rattle.rbc_draw.specs.declared.chart.Measure.TheVariants.{Speed as OfSpeed, Grade as OfGrade};
 ghost use Rattle.rbc_model.specs.Tracks.{metres_of};
 ghost use Rattle.rbc_show.specs.Stairs.{stair_on, speeds_on, grades_on, speeds_along, grades_along};
 
-use rbc_draw::{Measure, Place};
+use rbc_draw::{Measure, Place, Valued};
 use rbc_model::{Leg, Memory};
 use rbc_scene::Line;
-use rbc_steps::{Grade, Speed};
 use rbc_track::Track;
 use std::alloc::Global;
 use std::sync::Arc;
@@ -21,34 +20,6 @@ pub(crate) struct Stairs {
     pub(crate) speeds: Vec<Place>,
     /// The gradients, positive where the train runs uphill.
     pub(crate) grades: Vec<Place>,
-}
-
-/// What is drawn as a whole number.
-trait Valued {
-    /// The number.
-    ghost value: { Self → ℤ };
-
-    /// The number.
-    fn value(&self) -> i64
-        ensures { result ≡ value self.now };
-}
-
-/// A speed, in km/h.
-impl Valued for Speed {
-    ghost value = { λ speed. pos speed };
-
-    fn value(&self) -> i64 {
-        i64::from(self.kmh())
-    }
-}
-
-/// A gradient, in per mille.
-impl Valued for Grade {
-    ghost value = { λ grade. grade };
-
-    fn value(&self) -> i64 {
-        i64::from(self.per_mille())
-    }
 }
 
 /// Puts the runs of a leg that begins at a place behind the others.

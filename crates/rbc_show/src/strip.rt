@@ -58,7 +58,7 @@ fn strip_of(alloc: Global, locks: &Locks, book: &Book, train: &Train) -> Result<
     let found = reach(alloc, locks, book, train)?;
     let way = way_of(alloc, locks, train)?;
     Ok(Strip {
-        train: train.number(),
+        train: train.id().number(),
         group: report.group(),
         origin: train.origin(),
         rear: train.rear(),

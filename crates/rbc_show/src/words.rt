@@ -9,9 +9,8 @@ ghost use Rattle.rbc_show.specs.Pieces.{word_text};
 
 use crate::bars::Bar;
 use crate::parts::Part;
-use rbc_draw::{Measure, Printed, print_each, print_number, print_signed};
+use rbc_draw::{Measure, Printed, Sink, WriteFailed, print_each, print_number, print_signed, put};
 use rbc_model::SectionId;
-use rbc_streams::{Sink, WriteFailed, put};
 use rbc_track::{Name, Track};
 
 /// What words are told on: the track, and the place of the train's group.

@@ -12,7 +12,7 @@ use crate::rule::{Known, OneHistory, Sees};
 use crate::{EyeFault, HistoryName, Published, Sight};
 use core::mem::replace_with;
 use left_right::reader::{Reader, Reading};
-use rbc_model::OrMemory;
+use rbc_model::{OrMemory, TrainId};
 use rbc_record::{View, view};
 use std::alloc::Global;
 use std::marker::{Model, PhantomData};
@@ -49,7 +49,7 @@ struct Answered {
 }
 
 /// The view of a train in what is published, if that is not behind what was told.
-fn look(shown: &Published, told: &Sight, alloc: Global, train: u32) -> Answered
+fn look(shown: &Published, told: &Sight, alloc: Global, train: TrainId) -> Answered
     requires { shown.now.sight.book ≡ told.now.book }
     ensures book { result.told.book ≡ told.now.book }
     ensures later { IsLater told.now.history result.told.history }
@@ -105,17 +105,17 @@ fn enter_and_look<J: HistoryName, R: Wait>(
     reader: End,
     told: &Sight,
     alloc: Global,
-    train: u32,
+    number: u32,
 ) -> (End, Answered)
     requires place { known_to reader.place ≡ knower J.book }
     requires told { told.now.book ≡ J.book }
     ensures place { known_to result.0.place ≡ knower J.book }
     ensures book { result.1.told.book ≡ J.book }
     ensures later { IsLater told.now.history result.1.told.history }
-    ensures seen { IsSeenIn told.now.history result.1.told.history train result.1.answer }
+    ensures seen { IsSeenIn told.now.history result.1.told.history number result.1.answer }
 {
     let reading = enter::<J, R>(rt, reader);
-    let seen = look(reading.get(), told, alloc, train);
+    let seen = look(reading.get(), told, alloc, TrainId::new(number));
     (reading.leave(), seen)
 }
 
@@ -147,14 +147,14 @@ impl<J: HistoryName> Eye<J> {
         &mut self,
         rt: &R,
         alloc: Global,
-        train: u32,
+        train: TrainId,
     ) -> Result<(View, u64), OrMemory<EyeFault>>
         ensures later { IsLater self.old self.new }
         ensures seen { IsSeenIn self.old self.new train result }
     {
         let Eye { reader, told, .. } = self;
         let now: &Sight = told;
-        let look = replace_with(reader, (rt, now, alloc, train), |reader, x| {
+        let look = replace_with(reader, (rt, now, alloc, train.number()), |reader, x| {
             enter_and_look::<J, R>(x.0, reader, x.1, x.2, x.3)
         });
         let Answered { answer, told: then } = look;

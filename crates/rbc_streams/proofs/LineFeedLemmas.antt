@@ -6,8 +6,8 @@ use Rattle.std.specs.Bool.{MatchBool}
 use Rattle.std.specs.Prelude.{◌≢◌, IfSome, IfNone}
 use Rattle.std.proofs.lemmas.List.{get_or-take, get_or-drop, length-append, length-take, length-take-le, take_all, take-take}
 use Rattle.std.proofs.lemmas.List.Elements.{All-append, All-take, All-from_get_or}
-use Rattle.memchr.specs.Find.{Nowhere, NoneBefore, Passes, is_byte}
-use Rattle.rbc_streams.specs.LineReading.{LineReading, HasNoLineFeed, HasLine, IsOverlong, Steps}
+use Rattle.memchr.specs.Find.{Nowhere, Passes, is_byte}
+use Rattle.rbc_streams.specs.LineReading.{LineReading, HasNoLineFeed, HasLine, IsOverlong, Steps, IsAhead}
 use Rattle.rbc_streams.specs.declared.line_reader.Advance.{Advance}
 use Rattle.rbc_streams.specs.declared.line_reader.Advance.TheVariants.{Line, Overlong, End}
 use Rattle.rbc_streams.proofs.PieceLemmas.{rest_from}
@@ -42,18 +42,23 @@ none_in_all bytes searched within so_far nowhere =
 pub found_within : (bytes : List ℕ) (searched further : ℕ) → further < length (take (length bytes - searched) (drop searched bytes)) → searched + further < length bytes
 found_within bytes searched further inside = omega (arith, length-drop searched bytes, ap length (rest_from searched bytes))
 
--- what stands before it and behind it
-pub found_at : (bytes : List ℕ) (searched further : ℕ) → further < length (take (length bytes - searched) (drop searched bytes))
-    → Passes (is_byte 10) (take (length bytes - searched) (drop searched bytes)) further
-    → bytes ≡ take (searched + further) bytes ++ 10 ∷ drop (searched + further + 1) bytes
-found_at bytes searched further inside passes =
-    let n = searched + further in
+-- and it is one
+pub feed_found : (bytes : List ℕ) (searched further : ℕ) → further < length (take (length bytes - searched) (drop searched bytes))
+    → Passes (is_byte 10) (take (length bytes - searched) (drop searched bytes)) further → get_or bytes (searched + further) 0 ≡ 10
+feed_found bytes searched further inside passes =
     let same = rest_from searched bytes in
-    let within = found_within bytes searched further inside in
-    let byte : get_or bytes n 0 ≡ 10 = sym (get_or-drop searched bytes further 0) ∙ ap (λ l. get_or l further 0) (sym same) ∙ eqb-true _ _ passes in
-    let next : drop n bytes ≡ 10 ∷ drop (n + 1) bytes =
-    drop-cons bytes n 0 within ∙ ap (λ b. b ∷ drop (suc n) bytes) byte ∙ ap (λ i. 10 ∷ drop i bytes) (sym (add-one n)) in
-    sym (take-append-drop n bytes) ∙ ap (λ l. take n bytes ++ l) next
+    sym (get_or-drop searched bytes further 0) ∙ ap (λ l. get_or l further 0) (sym same) ∙ eqb-true _ _ passes
+
+-- what stands before the first line feed and behind it
+pub at_feed : (bytes : List ℕ) (ahead : ℕ) → IsAhead bytes ahead → ahead < length bytes → bytes ≡ take ahead bytes ++ 10 ∷ drop (ahead + 1) bytes
+at_feed bytes ahead is within =
+    let next : drop ahead bytes ≡ 10 ∷ drop (ahead + 1) bytes =
+    drop-cons bytes ahead 0 within ∙ ap (λ b. b ∷ drop (suc ahead) bytes) (is.feed within) ∙ ap (λ i. 10 ∷ drop i bytes) (sym (add-one ahead)) in
+    sym (take-append-drop ahead bytes) ∙ ap (λ l. take ahead bytes ++ l) next
+
+-- none at all
+pub none_ahead : (bytes : List ℕ) (ahead : ℕ) → IsAhead bytes ahead → length bytes ≤ ahead → HasNoLineFeed bytes
+none_ahead bytes ahead is all = subst HasNoLineFeed (take_all ahead bytes all) is.none_yet
 
 -- none among the first of them
 pub none_in_front : (bytes : List ℕ) (count : ℕ) → HasNoLineFeed bytes → HasNoLineFeed (take count bytes)
@@ -65,41 +70,24 @@ none_in_fewer bytes fewer count below none = subst HasNoLineFeed (take-take fewe
 
 -- ---- whether a line is there
 
--- none at all, and none among the first of them
-pub none_anywhere : (bytes : List ℕ) (count : ℕ) → Nowhere (Passes (is_byte 10) bytes) 0 (length bytes) → HasNoLineFeed (take count bytes)
-none_anywhere bytes count nowhere =
-    none_in_front bytes count (subst HasNoLineFeed (take_all (length bytes) bytes (omega arith)) (none_before bytes (length bytes) (omega arith) nowhere))
+module _ (bytes : List ℕ) (longest ahead : ℕ) (is : IsAhead bytes ahead) where
+  short : ahead < length bytes → ahead ≤ longest → HasLine bytes longest
+  short inside within =
+      (take ahead bytes, drop (ahead + 1) bytes, at_feed bytes ahead is inside, is.none_yet, omega (arith, length-take-le ahead bytes is.within, within))
 
-module _ (bytes : List ℕ) (longest at : ℕ) (found : NoneBefore (Passes (is_byte 10) bytes) 0 (length bytes) at) (passes : Passes (is_byte 10) bytes at) where
-  short : at ≤ longest → HasLine bytes longest
-  short within =
-      let high = found.high in
-      let byte : get_or bytes at 0 ≡ 10 = eqb-true _ _ passes in
-      let next : drop at bytes ≡ 10 ∷ drop (at + 1) bytes =
-      drop-cons bytes at 0 high ∙ ap (λ b. b ∷ drop (suc at) bytes) byte ∙ ap (λ i. 10 ∷ drop i bytes) (sym (add-one at)) in
-      let long = length-take-le at bytes (omega (arith, high)) in (
-        take at bytes,
-        drop (at + 1) bytes,
-        sym (take-append-drop at bytes) ∙ ap (λ l. take at bytes ++ l) next,
-        none_before bytes at (omega (arith, high)) found.before,
-        omega (arith, long, within),
-      )
+  long : longest < ahead → HasNoLineFeed (take (longest + 1) bytes)
+  long beyond = none_in_fewer bytes (longest + 1) ahead (omega (arith, beyond)) is.none_yet
 
-  long : longest < at → HasNoLineFeed (take (longest + 1) bytes)
-  long beyond =
-      let high = found.high in
-      none_in_fewer bytes (longest + 1) at (omega (arith, beyond)) (none_before bytes at (omega (arith, high)) found.before)
-
-  by_length : (is_short : Bool) → nat_le at longest ≡ is_short → MatchBool is_short (HasLine bytes longest) (HasNoLineFeed (take (longest + 1) bytes))
-  by_length true is = short (leb-true at longest is)
-  by_length false is = long (leb-false at longest is)
+  by_length : (is_short : Bool) → nat_le ahead longest ≡ is_short → ahead < length bytes → MatchBool is_short (HasLine bytes longest) (HasNoLineFeed (take (longest + 1) bytes))
+  by_length true e inside = short inside (leb-true ahead longest e)
+  by_length false e inside = long (leb-false ahead longest e)
 
 -- the first line feed ends a line, or the line is too long
-pub line_found : (bytes : List ℕ) (longest limit at : ℕ) → limit ≡ longest → NoneBefore (Passes (is_byte 10) bytes) 0 (length bytes) at → Passes (is_byte 10) bytes at
-    → MatchBool (nat_le at limit) (HasLine bytes longest) (HasNoLineFeed (take (longest + 1) bytes))
-line_found bytes longest limit at same found passes =
-    subst (λ n. MatchBool (nat_le at n) (HasLine bytes longest) (HasNoLineFeed (take (longest + 1) bytes))) (sym same)
-    (by_length bytes longest at found passes (nat_le at longest) refl)
+pub line_there : (bytes : List ℕ) (longest limit ahead : ℕ) → limit ≡ longest → IsAhead bytes ahead → ahead < length bytes
+    → MatchBool (nat_le ahead limit) (HasLine bytes longest) (HasNoLineFeed (take (longest + 1) bytes))
+line_there bytes longest limit ahead same is inside =
+    subst (λ n. MatchBool (nat_le ahead n) (HasLine bytes longest) (HasNoLineFeed (take (longest + 1) bytes))) (sym same)
+    (by_length bytes longest ahead is (nat_le ahead longest) refl inside)
 
 -- a line that is there ends with a line feed among the first bytes
 feed_at : (line rest : List ℕ) → get_or (line ++ 10 ∷ rest) (length line) 0 ≡ 10

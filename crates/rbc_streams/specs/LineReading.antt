@@ -1,5 +1,5 @@
 -- Reading line by line: what a reader of lines holds, and what comes of a step to the next line.
-use Rattle.std.specs.Prelude.{◌≡◌, ◌≢◌, ℕ, Bool, true, false, ◌+◌, ◌<◌, ◌≤◌, List, [], ◌∷◌, ◌++◌, length, take, Option, Result, Ok, Err, MatchResult, ◌⊎◌}
+use Rattle.std.specs.Prelude.{◌≡◌, ◌≢◌, ℕ, Bool, true, false, ◌+◌, ◌<◌, ◌≤◌, List, [], ◌∷◌, ◌++◌, length, take, get_or, Option, Result, Ok, Err, MatchResult, ◌⊎◌}
 use Rattle.std.specs.List.{All}
 use Rattle.std.specs.Io.KnownBytes.{IsAtEnd}
 use Rattle.rbc_model.specs.declared.sessions.SessionFault.{SessionFault}
@@ -79,3 +79,9 @@ pub record IsInOrder (size line_start line_end start end longest : ℕ) : Type 0
   pub ordered : start ≤ end
   pub within : end ≤ size
   pub room : longest < size
+
+-- so many of the bytes stand before their first line feed: all, if they have none
+pub record IsAhead (bytes : List ℕ) (count : ℕ) : Type 0 where
+  pub within : count ≤ length bytes
+  pub none_yet : HasNoLineFeed (take count bytes)
+  pub feed : count < length bytes → get_or bytes count 0 ≡ 10

@@ -3,7 +3,7 @@
 ghost use Rattle.std.specs.Prelude.{◌≡◌, ◌≢◌, ◌+◌, ◌<◌, ◌≤◌, ℕ, List, Option, [], ◌++◌, true, false, ◌-◌, length, take, drop, slice_range, vec_len, is_err, Ok, Some, IfOk, OnErr, IfNone, IfSome, MatchBool};
 ghost use Rattle.std.specs.Io.KnownBytes.{Consumes, Keeps, IsAtEnd};
 ghost use Rattle.rbc_model.specs.declared.limits.TheConstants.{LONGEST_CHECK_LINE};
-ghost use Rattle.rbc_streams.specs.LineReading.{LineReading, at_start, HasNoLineFeed, HasLine, Steps, Advances, KnowsEnd, IsInOrder};
+ghost use Rattle.rbc_streams.specs.LineReading.{LineReading, at_start, HasNoLineFeed, HasLine, Steps, Advances, KnowsEnd, IsInOrder, IsAhead};
 
 use crate::streams::{ReadFailed, Source};
 use memchr::memchr;
@@ -36,6 +36,8 @@ pub struct LineReader {
     line_end: usize,
     start: usize,
     end: usize,
+    // How many of the pending bytes stand before their first line feed: all, if they have none.
+    ahead: usize,
     longest: usize,
     ended: bool,
 }
@@ -50,7 +52,8 @@ impl Model for LineReader {
       ended = r.ended;
     } };
 
-    ghost invariant = { λ r. IsInOrder (vec_len r.buffer) r.line_start r.line_end r.start r.end r.longest };
+    ghost invariant = { λ r. IsInOrder (vec_len r.buffer) r.line_start r.line_end r.start r.end r.longest
+        × IsAhead (slice_range r.buffer.items r.start r.end) r.ahead };
 }
 
 impl LineReader {
@@ -68,6 +71,7 @@ impl LineReader {
             line_end: 0,
             start: 0,
             end: 0,
+            ahead: 0,
             longest,
             ended: false,
         })
@@ -110,10 +114,8 @@ impl LineReader {
         ensures { MatchBool result (HasLine self.now.pending self.now.longest)
             (HasNoLineFeed (take (self.now.longest + 1) self.now.pending)) }
     {
-        match memchr(b'\n', self.pending()) {
-            Some(length) => length <= self.longest,
-            None => false,
-        }
+        let count = self.pending().len();
+        self.ahead < count && self.ahead <= self.longest
     }
 
     /// Goes on to the next line, if the bytes that came tell it, and tells what came of that. Reads nothing.
@@ -125,7 +127,7 @@ impl LineReader {
         ensures longest { self.new.longest ≡ self.old.longest }
         ensures ended { self.new.ended ≡ self.old.ended }
     {
-        self.first_line(0)
+        self.first_line()
     }
 
     /// Goes on to the next line, and tells what came of that. Reads only if no whole line is pending. An input that was
@@ -142,12 +144,10 @@ impl LineReader {
         ensures ended { self.old.ended ≡ true → self.new.ended ≡ true }
         ensures longest { self.new.longest ≡ self.old.longest }
     {
-        let mut searched = 0;
         loop {
-            if let Some(step) = self.first_line(searched) {
+            if let Some(step) = self.first_line() {
                 return Ok(step);
             }
-            searched = self.pending().len();
             if self.fill(reader)? == 0 {
                 return Ok(self.last_line());
             }
@@ -173,12 +173,11 @@ impl LineReader {
         self.line_start = self.start;
         self.line_end = self.start + count;
         self.start += taken;
+        self.ahead = bytes_ahead(&self.buffer[self.start..self.end], 0);
     }
 
-    // The step over the first line, if the bytes that came tell it. No line feed is among those that were searched.
-    fn first_line(&mut self, searched: usize) -> Option<Advance>
-        requires within { searched ≤ length self.old.pending }
-        requires none_yet { HasNoLineFeed (take searched self.old.pending) }
+    // The step over the first line, if the bytes that came tell it.
+    fn first_line(&mut self) -> Option<Advance>
         ensures some { IfSome result (Steps self.old.pending self.new) }
         ensures not_the_end { IfSome result (λ step. step ≢ Advance.End) }
         ensures none { IfNone result ((self.new ≡ self.old) × HasNoLineFeed self.old.pending
@@ -186,20 +185,16 @@ impl LineReader {
         ensures longest { self.new.longest ≡ self.old.longest }
         ensures ended { self.new.ended ≡ self.old.ended }
     {
-        let pending = self.pending();
-        let count = pending.len();
-        match memchr(b'\n', &pending[searched..]) {
-            None if count <= self.longest => None,
-            Some(further) if searched + further <= self.longest => {
-                let length = searched + further;
-                self.give(length, length + 1);
-                Some(Advance::Line)
-            }
-            _ => {
-                self.give(0, 0);
-                Some(Advance::Overlong)
-            }
+        let length = self.ahead;
+        if length > self.longest {
+            self.give(0, 0);
+            return Some(Advance::Overlong);
         }
+        if length == self.pending().len() {
+            return None;
+        }
+        self.give(length, length + 1);
+        Some(Advance::Line)
     }
 
     // The step at the end of the input.
@@ -248,7 +243,20 @@ impl LineReader {
         let more = reader.read(&mut self.buffer[count..])?;
         self.end = count + more;
         self.ended = more == 0;
+        self.ahead = bytes_ahead(&self.buffer[..self.end], self.ahead);
         Ok(more)
+    }
+}
+
+// How many of these bytes stand before their first line feed: all, if they have none. The first so many were searched.
+fn bytes_ahead(bytes: &[u8], searched: usize) -> usize
+    requires within { searched ≤ length bytes.now }
+    requires none_yet { HasNoLineFeed (take searched bytes.now) }
+    ensures { IsAhead bytes.now result }
+{
+    match memchr(b'\n', &bytes[searched..]) {
+        Some(further) => searched + further,
+        None => bytes.len(),
     }
 }
 

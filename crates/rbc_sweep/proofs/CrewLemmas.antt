@@ -198,10 +198,6 @@ receipts_in-append xs ys = flat_map-append (λ (d : Done). receipts_of d.outcome
 pub jobs-append : (xs ys : List Done) → jobs (xs ++ ys) ≡ jobs xs ++ jobs ys
 jobs-append xs ys = map-append job_of xs ys
 
-pub flat_map-map : {X Y A : Type 0} (f : Y → List A) (g : X → Y) (xs : List X) → flat_map f (map g xs) ≡ flat_map (λ x. f (g x)) xs
-flat_map-map f g [] = refl
-flat_map-map f g (x ∷ xs) = ap (λ l. f (g x) ++ l) (flat_map-map f g xs)
-
 module _ {W : Type 0} (seat : W → Seated) (known : W → Tally) (done : W → List Done) where
   abbrev pub HasWorked : W → W → Type 0
   HasWorked w v = HasServed (tally 1 [] []) (seat w) (known v) (seat v) (done v)

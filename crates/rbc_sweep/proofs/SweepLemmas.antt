@@ -2,8 +2,7 @@
 use Rattle.std.proofs.Common.{Result, Ok, Err, IfOk, OnErr, [], ◌∷◌, ◌≡◌, ℕ, ◌+◌, ◌-◌, ◌<◌, List, ◌++◌, length, map, fold, sym, ap, ◌∙◌, subst, arith}
 use Rattle.std.specs.List.{All, AllZip, flat_map, sum_by}
 use Rattle.std.specs.List.Sorted.{IsPermutation}
-use Rattle.std.proofs.lemmas.List.{append-nil, length-map}
-use Rattle.rbc_desk.specs.Closing.{all_receipts}
+use Rattle.std.proofs.lemmas.List.{length-map}
 use Rattle.std.proofs.lemmas.List.Elements.{All-append, All-map, All-same, All-weaker}
 use Rattle.std.proofs.lemmas.List.Sorted.{All-permutation, IsPermutation-append_comm, IsPermutation-sym, IsPermutation-trans}
 use Rattle.std.proofs.lemmas.List.Sums.{sum_by-append}
@@ -16,10 +15,11 @@ use Rattle.rbc_sweep.specs.Jobs.{all_parts, numbered, tally, AreSameJobs}
 use Rattle.rbc_desk.specs.Seats.{Seated}
 use Rattle.rbc_sweep.specs.Outcomes.{AreFirst, AreTrainsOfFirst, IsToldToOne, granted, receipts_each, receipts_of, train_of}
 use Rattle.rbc_sweep.specs.Serving.{HaveGained, HaveWorked, job_of, joined, jobs, outcome_of, receipts_in}
-use Rattle.rbc_sweep.proofs.CrewLemmas.{HasWorked, HaveGained-moved, HaveGained-trans, crew_gained, crew_known, crew_long, crew_told, kept-trans, kept_either, told_before, told_behind, flat_map-map, jobs-append, receipts_in-append}
+use Rattle.rbc_sweep.proofs.CrewLemmas.{HasWorked, HaveGained-moved, HaveGained-trans, crew_gained, crew_known, crew_long, crew_told, kept-trans, kept_either, told_before, told_behind, jobs-append, receipts_in-append}
 use Rattle.rbc_sweep.proofs.WorkLemmas.{begins_still}
 use Rattle.rbc_sweep.proofs.JobLemmas.{count, length-numbered}
 use Rattle.rbc_sweep.proofs.Permutations.{IsPermutation-flat_map}
+use Rattle.std.proofs.lemmas.List.Folds.{flat_map-map}
 
 module _ {W : Type 0} (seat : W → Seated) (known : W → Tally) (done : W → List Done) where
   pub gathered : (had back : List Seated) (ws vs : List W) (others : List Done) (u v all : Tally) (n : ℕ)

@@ -1,5 +1,5 @@
 -- What a worker has done, train by train.
-use Rattle.std.proofs.Common.{All, length, take, ◌≤◌, refl, arith, ◌≡◌, ℕ, List, [], ◌∷◌, ◌++◌, Result, Ok, Err, IfOk, OnErr, OnOk, false, sym, ap, ◌∙◌, subst, append_assoc}
+use Rattle.std.proofs.Common.{length, take, ◌≤◌, refl, arith, ◌≡◌, ℕ, List, [], ◌∷◌, ◌++◌, Result, Ok, Err, IfOk, OnErr, OnOk, false, sym, ap, ◌∙◌, subst, append_assoc}
 use Rattle.std.specs.Result.{is_err}
 use Rattle.std.proofs.lemmas.List.{append-nil, length-take, map_push, take_all, take-take}
 use Rattle.rbc_desk.specs.Later.{IsLater}
@@ -7,7 +7,7 @@ use Rattle.rbc_desk.specs.Seats.{Seated}
 use Rattle.rbc_desk.specs.Asking.{IsAnswered, IsAnsweredThen, after_answer}
 use Rattle.rbc_sweep.specs.declared.outcome.Outcome.{Outcome}
 use Rattle.std.proofs.lemmas.List.Concat.{flat_map-append}
-use Rattle.std.proofs.lemmas.List.Elements.{All-nil, All-push, All-weaker}
+use Rattle.std.proofs.lemmas.List.Elements.{All-push, All-weaker}
 use Rattle.rbc_model.specs.declared.memory.OrMemory.{OrMemory}
 use Rattle.rbc_model.specs.Histories.{Receipt}
 use Rattle.rbc_desk.specs.Records.{HistoryOnTrack}
@@ -77,14 +77,6 @@ told_wider first had has last outcome less more t = record {
 }
 
 -- ---- one train more
-
-pub served_none : (v : Tally) (had : Seated) (done : List Done) → done ≡ [] → HasServed v had v had done
-served_none v had done none = subst (HasServed v had v had) (sym none) (record {
-  taken = λ i. record { parts = v.parts; put = v.put; taken = sym (append-nil v.taken) i };
-  gained = sym (append-nil had.receipts);
-  begins = begins_itself had.told;
-  told = All-nil (λ (d : Done). IsTold had had d.outcome);
-})
 
 pub served_more : (old : Tally) (had : Seated) (new next : Tally) (has gains : Seated) (done : List Done) (one : Done) (job : Job)
     → HasServed old had new has done → next ≡ tally new.parts new.put (new.taken ++ job ∷ []) → job_of one ≡ job

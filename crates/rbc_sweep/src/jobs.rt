@@ -6,7 +6,7 @@ ghost use Rattle.rbc_sweep.specs.Jobs.{all_parts, tally, numbered, IsSettled};
 
 use crossbeam_queue::protocol::{Join, Lesson, Outcome, Protocol, Split};
 use crossbeam_queue::{Pass, RuledArrayQueue};
-use rbc_model::Memory;
+use rbc_model::{Memory, TrainId};
 use std::alloc::Global;
 use std::collections::LinkedList;
 use std::sync::Wait;
@@ -15,7 +15,7 @@ use std::sync::Wait;
 #[derive(Clone, Copy)]
 pub(crate) struct Job {
     pub(crate) place: usize,
-    pub(crate) train: u32,
+    pub(crate) train: TrainId,
 }
 
 /// What was put and taken with a pass, and its parts of the right to know the whole. No value of it is made.
@@ -156,7 +156,7 @@ fn put<R: Wait>(rt: &R, queue: &Queue, pass: &mut JobPass, job: Job)
 }
 
 /// Puts all trains, in their order.
-pub(crate) fn put_all<R: Wait>(rt: &R, queue: &Queue, pass: &mut JobPass, trains: &[u32])
+pub(crate) fn put_all<R: Wait>(rt: &R, queue: &Queue, pass: &mut JobPass, trains: &[TrainId])
     requires pass { IsPassOf queue.now pass.old }
     requires none { view pass.old ≡ tally all_parts [] [] }
     requires room { length trains.now ≤ ruled_capacity queue.now }

@@ -4,7 +4,7 @@ ghost use Rattle.std.specs.Prelude.{◌≡◌};
 ghost use Rattle.rbc_sweep.specs.Outcomes.{asked};
 
 use rbc_desk::{AskFault, Granted, OrMemory};
-use rbc_model::Obstacle;
+use rbc_model::{Obstacle, TrainId};
 
 /// What a train is answered.
 #[derive(Drop)]
@@ -43,7 +43,7 @@ impl Answer {
 #[derive(Drop)]
 pub struct Outcome {
     /// The train's number.
-    pub train: u32,
+    pub train: TrainId,
     /// What it was answered.
     pub answer: Answer,
 }

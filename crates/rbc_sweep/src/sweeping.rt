@@ -12,7 +12,7 @@ use crate::order::{in_order, put_together};
 use crate::post::Post;
 use crate::room::{Room, room_for};
 use rbc_desk::{Desk, DeskName, Gate, Seat};
-use rbc_model::Memory;
+use rbc_model::{Memory, TrainId};
 use std::alloc::Global;
 use std::sync::Wait;
 use std::thread::Threads;
@@ -22,7 +22,7 @@ impl<'a, L: DeskName + Send + Sync, R: Threads + Wait + Sync, G: Gate + Sync> Po
     fn serve_list(
         &self,
         seats: Vec<Seat<L>>,
-        trains: &[u32],
+        trains: &[TrainId],
         room: Room<L>,
     ) -> (Vec<Seat<L>>, Vec<Outcome>)
         requires some { 0 < vec_len seats }
@@ -51,7 +51,7 @@ impl<'a, L: DeskName + Send + Sync, R: Threads + Wait + Sync, G: Gate + Sync> Po
     fn sweep_list(
         &self,
         seats: Vec<Seat<L>>,
-        trains: &[u32],
+        trains: &[TrainId],
     ) -> (Vec<Seat<L>>, Result<Vec<Outcome>, Memory>)
         requires some { 0 < vec_len seats }
         ensures gained { IfOk result.1 (λ outcomes. HaveGained seats.items result.0.items (granted outcomes.items)) }
@@ -78,7 +78,7 @@ fn list_trains<L: DeskName, R: Wait>(
     alloc: Global,
     desk: &Desk<L>,
     mut seats: Vec<Seat<L>>,
-) -> (Vec<Seat<L>>, Result<Vec<u32>, Memory>)
+) -> (Vec<Seat<L>>, Result<Vec<TrainId>, Memory>)
     requires { 0 < vec_len seats }
     ensures gained { HaveGained seats.items result.0.items [] }
     ensures count { vec_len result.0 ≡ vec_len seats }

@@ -12,6 +12,7 @@ use crate::order::Done;
 use crate::post::Post;
 use crate::{Answer, Outcome};
 use rbc_desk::{DeskName, Gate, Seat};
+use rbc_model::TrainId;
 use std::sync::Wait;
 use std::thread::Threads;
 
@@ -25,7 +26,7 @@ pub(crate) struct Worker<L: DeskName> {
 
 impl<'a, L: DeskName, R: Threads + Wait + Sync, G: Gate> Post<'a, L, R, G> {
     /// Asks for the train at the desk.
-    fn outcome(&self, seat: &mut Seat<L>, train: u32) -> Outcome
+    fn outcome(&self, seat: &mut Seat<L>, train: TrainId) -> Outcome
         ensures train { result.train ≡ train }
         ensures receipts { seat.new.receipts ≡ seat.old.receipts ++ receipts_of result.answer }
         ensures later { IsLater seat.old.told seat.new.told }

@@ -11,6 +11,7 @@ use Rattle.rbc_table_laws.proofs.TraceLemmas.{some_stretches, breaks, at_most_en
 use Rattle.rbc_table_laws.proofs.PathLemmas.{breaks_below}
 use Rattle.rbc_table_laws.proofs.BreakLemmas.{covered_of}
 use Rattle.rbc_table_laws.proofs.SearchLemmas.{is_found}
+use Rattle.std.proofs.lemmas.Bool.{cases_eq}
 
 -- ---- the first of the numbers below i at which f is the target
 
@@ -20,23 +21,12 @@ record IsFirst (f : ℕ → ℕ) (target i : ℕ) : Type 0 where
   is : f at ≡ target
   first : (k : ℕ) → k < at → f k ≢ target
 
-same_or_not : (a b : ℕ) → (a ≡ b) ⊎ (a ≡ b → ⊥)
-same_or_not a b = by_order (below_same_above a b)
-  where
-    below_same_above : (a b : ℕ) → (a < b) ⊎ (a ≡ b) ⊎ (b < a)
-    below_same_above a b = grind arith
-
-    by_order : (a < b) ⊎ (a ≡ b) ⊎ (b < a) → (a ≡ b) ⊎ (a ≡ b → ⊥)
-    by_order (inl h) = inr (λ e. omega arith)
-    by_order (inr (inl e)) = inl e
-    by_order (inr (inr h)) = inr (λ e. omega arith)
-
 last_or_before : (k i : ℕ) → k < suc i → (k ≡ i) ⊎ (k < i)
 last_or_before k i h = grind arith
 
 first_or_none : (f : ℕ → ℕ) (target i : ℕ) → IsFirst f target i ⊎ ((k : ℕ) → k < i → f k ≢ target)
 first_or_none f target zero = inr (λ k h. absurd (omega arith))
-first_or_none f target (suc i) = on (first_or_none f target i) (same_or_not (f i) target)
+first_or_none f target (suc i) = on (first_or_none f target i) (cases_eq (f i) target)
   where
     on : IsFirst f target i ⊎ ((k : ℕ) → k < i → f k ≢ target) → (f i ≡ target) ⊎ (f i ≡ target → ⊥) → IsFirst f target (suc i) ⊎ ((k : ℕ) → k < suc i → f k ≢ target)
     on (inl found) here = let inside = found.inside in inl (record { at = found.at; inside = omega arith; is = found.is; first = found.first })

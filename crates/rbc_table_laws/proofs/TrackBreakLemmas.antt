@@ -1,5 +1,5 @@
 -- The breaks of a track at a unit of 1 are the starts of its runs and its end, and between two of them it has one value.
-use Rattle.std.proofs.Common.{◌≡◌, refl, ap, sym, ◌∙◌, arith, subst, ℕ, zero, suc, ◌+◌, ◌-◌, ◌<◌, ◌≤◌, true, false, List, [], ◌∷◌, ◌++◌, length, get_or, Some, nat_lt, ◌==◌}
+use Rattle.std.proofs.Common.{◌≡◌, refl, ap, sym, ◌∙◌, arith, subst, ℕ, zero, suc, ◌+◌, ◌-◌, ◌<◌, ◌≤◌, true, false, List, [], ◌∷◌, ◌++◌, length, get_or, Some, nat_lt}
 use Rattle.std.specs.List.{list_all, slice_get}
 use Rattle.std.proofs.lemmas.Bool.Decides.{nat_tests}
 use Rattle.std.proofs.lemmas.Bool.{ltb-true, lt-ltb}
@@ -11,17 +11,15 @@ use Rattle.rbc_table_laws.specs.Breaks.{AreBreaks}
 use Rattle.rbc_table_laws.proofs.RisingNumberLemmas.{Rises, rises_at}
 use Rattle.rbc_table_laws.proofs.BreakLemmas.{breaks_rise}
 use Rattle.rbc_table_laws.proofs.ChainLemmas.{rises_split, zero_split, all_split, value_last, value_here}
+use Rattle.rbc_model.proofs.BasicLemmas.{same_number}
 
 -- ---- the list
 
 not_lower : (a : ℕ) → nat_lt a a ≡ false
 not_lower a = grind (arith, nat_tests)
 
-equal : (a : ℕ) → (a == a) ≡ true
-equal a = grind (arith, nat_tests)
-
 put_before : (s y : ℕ) (ys : List ℕ) → s < y → with_number s (with_number s (y ∷ ys)) ≡ s ∷ y ∷ ys
-put_before s y ys h = rw (lt-ltb s y h) (rw (not_lower s, equal s) refl)
+put_before s y ys h = rw (lt-ltb s y h) (rw (not_lower s, same_number s) refl)
 
 down : (s : ℕ) → rounded_down 1 s ≡ s
 down s = omega arith
@@ -141,7 +139,3 @@ module _ {V : Type 0} (track : StepFunction V) (breaks : List ℕ) (are : AreBre
 
   pub up_to_end : (i : ℕ) → i ≤ length track.steps → get_or breaks i 0 ≤ track.end
   up_to_end i h = let up = rises_to i (length track.steps) h (omega arith) in let last = are.last in omega arith
-
--- a table has as many columns as there are runs
-pub columns_are : {V : Type 0} (levels : Levels V) (n : ℕ) (runs : List (ℕ × V)) → IsTrackFunction levels n runs → (limit : ℕ) → stretch_count levels 1 limit n runs ≡ length runs
-columns_are levels n runs track = stretches_are (record { steps = runs; end = n }) (breaks_of 1 n (starts_of runs)) (in_track levels n runs track) levels

@@ -12,6 +12,7 @@ use Rattle.rbc_table_laws.proofs.RisingNumberLemmas.{Rises, Has, rises_at, not_b
 use Rattle.rbc_table_laws.proofs.BreakLemmas.{down_below, up_above, above_down, below_up, breaks_rise, has_end, has_down, has_up, breaks_whole, some_breaks, first_is, last_is, at_most_end, track_some}
 use Rattle.rbc_table_laws.proofs.ChainLemmas.{all_split}
 use Rattle.rbc_table_laws.proofs.TrackBreakLemmas.{breaks_are}
+use Rattle.rbc_model.proofs.ScanLemmas.{le_or_lt}
 
 -- ---- numbers of a list
 
@@ -61,9 +62,6 @@ start_inside n s (start ∷ starts) all (inl e) = let first = ltb-true start n (
 start_inside n s (start ∷ starts) all (inr h) = start_inside n s starts (all_split (λ k. nat_lt k n) start starts all).1 h
 
 -- ---- rounding
-
-le_or_lt : (a b : ℕ) → (a ≤ b) ⊎ (b < a)
-le_or_lt a b = grind arith
 
 module _ (unit : ℕ) (some : 0 < unit) where
   -- a multiple is no higher than a number just where it is no higher than that rounded down

@@ -106,11 +106,6 @@ module _ {X : Type 0} (judge : List X → X → Option TrackRefusal) (total : Op
   passed_next new grown here =
       ap (λ l. first_refusal judge l later) grown ∙ here_passed (judge done x) (first_refusal judge (done ++ x ∷ []) later) here next_first
 
--- none is left
-pub none_next : {X : Type 0} (judge : List X → X → Option TrackRefusal) (total : Option TrackRefusal) (done rest : List X) → rest ≡ [] → first_refusal judge done rest ≡ total
-    → unless {A = Unit {0}} total (Ok tt) ≡ Ok tt
-none_next judge total done rest empty so_far = ap (λ o. unless {A = Unit {0}} o (Ok tt)) (sym so_far ∙ ap (first_refusal judge done) empty)
-
 -- one more part is made
 pub made_joined : {P X : Type 0} (made : P → X) (parts : List P) (i : ℕ) (part : P) → i < length parts → part ≡ get_or parts i part → map made (take (i + 1) parts) ≡ map made (take i parts) ++ made part ∷ []
 made_joined made parts i part below is = ap (map made) (joined_at parts i part below is) ∙ map-append made (take i parts) (part ∷ [])

@@ -11,6 +11,7 @@ use Rattle.rbc_model.specs.Tracks.{direction_eq, leg_eq, opposite, reverse_leg, 
 use Rattle.rbc_track.specs.declared.links.LegKey.{LegKey}
 use Rattle.rbc_track.specs.declared.links.LinkKey.{LinkKey}
 use Rattle.rbc_track.specs.LinkKeys.{is_rising, leg_key, link_key, reverse_key, back_key, leg_key_eq, link_key_eq, names, AreKeysOf}
+use Rattle.std.proofs.lemmas.Bool.{or_left}
 
 rising_same : (a b : Direction) → beq (is_rising a) (is_rising b) ≡ direction_eq a b
 rising_same Rising Rising = refl
@@ -72,9 +73,6 @@ looked_up keys links from to are =
     ap₂ (λ x y. x || y) (are from to) (ap (λ key. list_any (link_key_eq key) keys) (back_same from to) ∙ are (reverse_leg to) (reverse_leg from))
     ∙ sym (both_ways from to links)
 
-or_first : (a b : Bool) → a ≡ true → (a || b) ≡ true
-or_first a b h = rw h refl
-
 or_second : (a b : Bool) → a ≡ false → (a || b) ≡ b
 or_second a b h = rw h refl
 
@@ -83,7 +81,7 @@ module _ (keys : List LinkKey) (links : List Link) (from to : Leg) (are : AreKey
   pub found_there : (there : Bool) → there ≡ list_any (link_key_eq key) keys → there ≡ true → there ≡ list_any (joins from to) links
   found_there there e h =
       let same : there ≡ list_any (link_key_eq (link_key from to)) keys = e ∙ ap (λ p. list_any (link_key_eq p) keys) is in
-      h ∙ sym (or_first (list_any (link_key_eq (link_key from to)) keys) (list_any (link_key_eq (back_key (link_key from to))) keys) (sym same ∙ h)) ∙ looked_up keys links from to are
+      h ∙ sym (or_left (list_any (link_key_eq (link_key from to)) keys) (list_any (link_key_eq (back_key (link_key from to))) keys) (sym same ∙ h)) ∙ looked_up keys links from to are
 
   -- it is not there: the key that leads back tells
   pub found_back : back ≡ back_key key → (there again : Bool) → there ≡ list_any (link_key_eq key) keys → there ≡ false → again ≡ list_any (link_key_eq back) keys

@@ -24,7 +24,7 @@ use Rattle.rbc_track.specs.Written.{written_eq, written_reverse, writes, written
 
 -- ---- texts
 
-bytes_turned : (a b : List ℕ) → bytes_eq a b ≡ bytes_eq b a
+pub bytes_turned : (a b : List ℕ) → bytes_eq a b ≡ bytes_eq b a
 bytes_turned a b = same_from_decides (bytes_eq a b) (bytes_eq b a) (bytes_eq-Decides a b) (turned (bytes_eq b a) (bytes_eq-Decides b a))
   where
     turned : (t : Bool) → Decides t (b ≡ a) → Decides t (a ≡ b)

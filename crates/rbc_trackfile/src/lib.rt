@@ -13,3 +13,4 @@ mod values;
 pub use file::{parse, read, read_parts};
 pub use loading::{LoadFault, load};
 pub use rbc_model::{FileFault, OrMemory, key_text};
+pub use rbc_track::Track;

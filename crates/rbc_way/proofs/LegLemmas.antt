@@ -1,8 +1,8 @@
 -- The search on one leg: what the trains of a table have of its section is what the reach of the leg looks at.
-use Rattle.std.proofs.Common.{◌≡◌, ℕ, ◌+◌, ◌-◌, max, Bool, true, false, ◌||◌, not, List, [], ◌∷◌, ◌++◌, Option, Some, None, refl, ap, sym, subst, ◌∙◌, arith, ◌⊎◌, inl, inr, nat_lt}
+use Rattle.std.proofs.Common.{◌≡◌, ℕ, ◌+◌, ◌-◌, max, Bool, true, false, not, List, [], ◌∷◌, ◌++◌, Option, Some, None, refl, ap, sym, subst, ◌∙◌, arith, ◌⊎◌, inl, inr, nat_lt}
 use Rattle.std.specs.Prelude.{fold, find, ◌==◌, if◌then◌else◌, option_map}
 use Rattle.std.specs.List.{AllByRecursion}
-use Rattle.std.proofs.lemmas.Bool.{eqb-true}
+use Rattle.std.proofs.lemmas.Bool.{eqb-true, false_from_ne_true, or_parts, not-true}
 use Rattle.rbc_model.specs.declared.places.Leg.{Leg}
 use Rattle.rbc_model.specs.Tracks.{Track, metres_of, direction_eq}
 use Rattle.rbc_model.specs.Lines.{Line, has_section}
@@ -10,18 +10,21 @@ use Rattle.rbc_model.specs.SoundTracks.{sections_differ}
 use Rattle.rbc_model.specs.Trains.{Train}
 use Rattle.rbc_reach_laws.specs.Spans.{lies_in, span_met, leg_span, first_in, extent_span, authority_span}
 use Rattle.rbc_reach_laws.specs.Nearest.{nearer, nearest_on, first_having}
-use Rattle.rbc_reach_laws.proofs.BasicLemmas.{and_left, and_right, same_test, if_past, below, not_passed}
+use Rattle.rbc_reach_laws.proofs.BasicLemmas.{and_left, and_right, below}
 use Rattle.std.proofs.lemmas.Bool.{lt-ltb, ltb-true}
 use Rattle.rbc_way.specs.declared.stretches.Span.{Span}
 use Rattle.rbc_way.specs.declared.stretches.Stretch.{Stretch}
 use Rattle.rbc_way.specs.Stretches.{span_on, span_met_on, span_has, stretch_of, stretches_along, stretches_of}
 use Rattle.rbc_way.specs.OnLegs.{first_from, extent_met, authority_met, nearest_in, first_train}
+use Rattle.std.specs.Cmp.Derive.{one_truth}
+use Rattle.rbc_model.proofs.BasicLemmas.{if_past}
+use Rattle.std.proofs.lemmas.List.Sums.{fold-append}
 
 -- ---- places and metres of the leg
 
 lt_moved : (p a b : ℕ) → nat_lt (p + a) (p + b) ≡ nat_lt a b
 lt_moved p a b =
-    same_test (nat_lt (p + a) (p + b)) (nat_lt a b)
+    one_truth (nat_lt (p + a) (p + b)) (nat_lt a b)
     (λ h. let l = ltb-true (p + a) (p + b) h in lt-ltb a b (omega arith))
     (λ h. let l = ltb-true a b h in lt-ltb (p + a) (p + b) (omega arith))
 
@@ -51,24 +54,12 @@ span_is : (b : Bool) (metres q from to : ℕ) → span_met b metres q from to �
 span_is true metres q from to = refl
 span_is false metres q from to = refl
 
-or_false_left : (a b : Bool) → (a || b) ≡ false → a ≡ false
-or_false_left true b h = cc
-or_false_left false b h = refl
-
-or_false_right : (a b : Bool) → (a || b) ≡ false → b ≡ false
-or_false_right true b h = cc
-or_false_right false b h = h
-
-not_false : (b : Bool) → not b ≡ true → b ≡ false
-not_false true h = cc
-not_false false h = refl
-
 none_along : (track : Track) (train : Train) (section q : ℕ) (line : Line) → has_section line section ≡ false → stretches_along track train section q line ≡ []
 none_along track train section q [] h = refl
 none_along track train section q (leg ∷ line) h =
     ap (λ (b : Bool). if b then stretch_of track train q leg ∷ stretches_along track train section (q + metres_of track leg.section) line else stretches_along track train section (q + metres_of track leg.section) line)
-    (or_false_left (leg.section == section) (has_section line section) h)
-    ∙ none_along track train section (q + metres_of track leg.section) line (or_false_right (leg.section == section) (has_section line section) h)
+    ((or_parts (leg.section == section) (has_section line section) h).0)
+    ∙ none_along track train section (q + metres_of track leg.section) line ((or_parts (leg.section == section) (has_section line section) h).1)
 
 -- a train has one stretch of the leg's section, with these spans, or none
 record HasOne (track : Track) (leg : Leg) (other : Train) (list : List Stretch) (extent authority : ℕ × ℕ) : Type 0 where
@@ -114,7 +105,7 @@ module _ (track : Track) (leg : Leg) (other : Train) where
       let n = q + metres_of track own.section in
       by_section (own.section == leg.section) q own (stretches_along track other leg.section n line) (leg_span track leg n other.rear other.front line) (leg_span track leg n other.from other.to line) refl
       (λ e. none_along track other leg.section n line
-      (subst (λ (s : ℕ). has_section line s ≡ false) (eqb-true own.section leg.section e) (not_false (has_section line own.section) (and_left (not (has_section line own.section)) (sections_differ line) d))))
+      (subst (λ (s : ℕ). has_section line s ≡ false) (eqb-true own.section leg.section e) (not-true (has_section line own.section) (and_left (not (has_section line own.section)) (sections_differ line) d))))
       (has_along n line (and_right (not (has_section line own.section)) (sections_differ line) d))
 
   -- the nearest that it has
@@ -139,7 +130,7 @@ module _ (track : Track) (leg : Leg) (other : Train) where
 
   -- whether it is the first that has a metre
   lies_nowhere : (k : ℕ) (x y : Option ℕ) → (if lies_in (0, 0) k then x else y) ≡ y
-  lies_nowhere k x y = ap (λ (b : Bool). if b then x else y) (not_passed (lies_in (0, 0) k) (λ h. let b = below 0 0 k h in let low = b.1 in omega arith))
+  lies_nowhere k x y = ap (λ (b : Bool). if b then x else y) (false_from_ne_true (lies_in (0, 0) k) (λ h. let b = below 0 0 k h in let low = b.1 in omega arith))
 
   first_if : (b : Bool) (s : Stretch) (o : Option Stretch) → option_map (λ (t : Stretch). t.train) (if b then Some s else o) ≡ (if b then Some s.train else option_map (λ (t : Stretch). t.train) o)
   first_if true s o = refl
@@ -181,10 +172,6 @@ module _ (track : Track) (leg : Leg) (other : Train) where
 
 -- ---- all other trains
 
-fold_append : {X Y : Type 0} (f : Y → X → Y) (y : Y) (a b : List X) → fold f y (a ++ b) ≡ fold f (fold f y a) b
-fold_append f y [] b = refl
-fold_append f y (x ∷ a) b = fold_append f (f y x) a b
-
 having_if : (b : Bool) (x : Train) (o : Option Train) → option_map (λ (t : Train). t.report.train) (if b then Some x else o) ≡ (if b then Some x.report.train else option_map (λ (t : Train). t.report.train) o)
 having_if true x o = refl
 having_if false x o = refl
@@ -199,7 +186,7 @@ module _ (track : Track) (leg : Leg) where
   near_all start p n (other ∷ trains) d =
       let f = nearest_in leg.direction (metres_of track leg.section) (start - p) in
       let own = stretches_along track other leg.section 0 other.line in
-      ap (λ (z : ℕ). p + z) (fold_append f n own (stretches_of track trains leg.section))
+      ap (λ (z : ℕ). p + z) (fold-append f n own (stretches_of track trains leg.section))
       ∙ near_all start p (fold f n own) trains d.1
       ∙ ap (λ (z : ℕ). fold (nearest_on track start p leg) z trains)
       (near_one track leg other start p n own (extent_span track other leg) (authority_span track other leg) (has_along track leg other 0 other.line d.0))

@@ -15,7 +15,7 @@ ghost use Rattle.rbc_way.specs.Stretches.{IsTableOf, stretches_at};
 use crate::bounds::limit_of;
 use crate::stretches::{Span, Stretch, Stretches};
 use rbc_book::{Locks, Train};
-use rbc_model::{Leg, Obstacle, SectionId};
+use rbc_model::{Leg, Obstacle, SectionId, TrainId};
 
 /// A place with an obstacle, and the obstacle.
 #[derive(Clone, Copy)]
@@ -95,7 +95,7 @@ impl<'a> LegMet<'a> {
     }
 
     /// The first of the trains whose extent has the metre.
-    fn occupant(&self, metre: u32) -> Option<u32>
+    fn occupant(&self, metre: u32) -> Option<TrainId>
         ensures { result
             ≡ first_train (extent_met self.now.leg.direction self.now.metres) metre self.now.stretches.now }
     {
@@ -107,7 +107,7 @@ impl<'a> LegMet<'a> {
     }
 
     /// The first of the trains whose authority has the metre.
-    fn holder(&self, metre: u32) -> Option<u32>
+    fn holder(&self, metre: u32) -> Option<TrainId>
         ensures { result
             ≡ first_train (authority_met self.now.leg.direction self.now.metres) metre self.now.stretches.now }
     {

@@ -1,13 +1,14 @@
 //! The walk along a train's way, leg by leg, up to the first obstacle.
 
-ghost use Rattle.std.specs.Prelude.{◌≡◌, ℕ, ◌≤◌, None, Some, length, IfOk, IfSome, OnOk};
+ghost use Rattle.std.specs.Prelude.{◌≡◌, ℕ, ◌≤◌, None, Some, length, IfOk, IfSome};
+ghost use Rattle.std.specs.Option.{option_map_or};
 ghost use Rattle.rbc_model.specs.Lines.{last_leg, line_length};
 ghost use Rattle.rbc_model.specs.Locks.{lengthened_fully, longer_ahead};
 ghost use Rattle.rbc_model.specs.Scenes.{others as other_trains};
 ghost use Rattle.rbc_model.specs.SoundTracks.{IsSound};
 ghost use Rattle.rbc_model.specs.Views.{reach, stop};
-ghost use Rattle.rbc_model.specs.declared.places.Leg.{Leg};
 ghost use Rattle.rbc_model.specs.declared.refusals.Obstacle.{Obstacle};
+ghost use Rattle.rbc_model.specs.declared.refusals.Obstacle.TheVariants.{Own};
 ghost use Rattle.rbc_reach_laws.specs.Nearest.{end_obstacle, walk_on, walk_then};
 ghost use Rattle.rbc_scene_laws.specs.Good.{IsGoodLocks};
 ghost use Rattle.rbc_way.specs.OnLegs.{told};
@@ -17,7 +18,7 @@ ghost use Rattle.rbc_way.specs.Stretches.{IsTableOf};
 use crate::found::Reach;
 use crate::leg_search::{Stop, WayLeg, stop_on};
 use crate::stretches::{Stretches, stretches_of};
-use rbc_book::{Book, Line, Locks, SectionSet, Train};
+use rbc_book::{Book, Course, Line, Locks, Train};
 use rbc_model::{Leg, Memory, Obstacle};
 use std::alloc::Global;
 
@@ -62,64 +63,56 @@ fn end_obstacle(locks: &Locks, last: &Leg) -> Obstacle
 }
 
 /// The end of the line, where the locks lead no further or back onto it.
-fn end_stop(locks: &Locks, line: &Line) -> Stop
-    ensures place { result.place ≡ line_length line.now.track line.now.legs }
-    ensures obstacle { (trains : Trains) (last : Leg) → last_leg line.now.legs ≡ Some last
-        → result.obstacle ≡ end_obstacle (scene_of locks.now trains) last }
+fn end_reach(locks: &Locks, line: Line) -> Reach
+    ensures track { result.track ≡ line.track }
+    ensures line { result.line ≡ line.legs }
+    ensures place { result.place ≡ line_length line.track line.legs }
+    ensures obstacle { (trains : Trains) → result.obstacle
+        ≡ option_map_or (end_obstacle (scene_of locks.now trains)) (last_leg line.legs) Own }
 {
-    Stop {
-        place: line.length(),
-        obstacle: end_obstacle(locks, &line.last()),
-    }
+    let obstacle = end_obstacle(locks, &line.last());
+    Reach::new(line.length(), obstacle, line)
 }
 
-/// The first obstacle ahead of the line, on which there is none. The line gains the legs up to there.
-fn stop_ahead(
+/// The first obstacle ahead of the line, on which there is none, and the line with the legs up to there.
+fn reach_ahead(
     alloc: Global,
     locks: &Locks,
     others: &Stretches,
     train: &Train,
-    line: &mut Line,
-) -> Result<Stop, Memory>
-    requires track { line.old.track ≡ train.now.track }
+    line: Line,
+) -> Result<Reach, Memory>
+    requires track { line.track ≡ train.now.track }
     requires locks { IsGoodLocks train.now.track locks.now }
     requires table { length others.now.items ≡ length train.now.track.sections }
-    ensures track { line.new.track ≡ line.old.track }
+    ensures track { IfOk result (λ found. found.track ≡ line.track) }
     ensures stop { IfOk result (λ found. (trains : Trains)
         → IsTableOf train.now.track (other_trains (scene_of locks.now trains) train.now.train) others.now.items
         → walk_on train.now.track (scene_of locks.now trains) train.now.train (length train.now.track.sections)
-        line.old.legs (line_length train.now.track line.old.legs) ≡ (found.place, found.obstacle)) }
-    ensures on_line { IfOk result (λ found. found.place ≤ line_length line.new.track line.new.legs) }
-    ensures begins { OnOk result ((n : ℕ) × (lengthened_fully n (longer_ahead locks.now) line.new.legs
-        ≡ lengthened_fully (length train.now.track.sections) (longer_ahead locks.now) line.old.legs)) }
+        line.legs (line_length train.now.track line.legs) ≡ (found.place, found.obstacle)) }
+    ensures begins { IfOk result (λ found. (n : ℕ) × (lengthened_fully n (longer_ahead locks.now) found.line
+        ≡ lengthened_fully (length train.now.track.sections) (longer_ahead locks.now) line.legs)) }
 {
-    let mut sections = SectionSet::of(alloc, line)?;
-    line.known();
-    let count = line.section_count();
+    let mut course = Course::new(alloc, line)?;
+    let count = course.line().section_count();
     for _added in 0..count {
-        let last = &line.last();
-        let leg = match locks.next(*last) {
-            Some(leg) => leg,
-            None => return Ok(end_stop(locks, line)),
-        };
-        let leg = &leg;
-        if sections.has(leg.section) {
-            return Ok(end_stop(locks, line));
+        let before = course.line().last();
+        let begin = course.line().length();
+        if !course.lengthen_ahead(locks)? {
+            return Ok(end_reach(locks, course.into_line()));
         }
+        let longer = course.line();
+        longer.known();
         let way_leg = WayLeg {
-            before: Some(*last),
-            begin: line.length(),
-            leg: *leg,
+            before: Some(before),
+            begin,
+            leg: longer.last(),
         };
-        line.extend(*leg)?;
-        line.known();
-        sections.insert(leg.section);
         if let Some(found) = stop_on(locks, others, train, &way_leg) {
-            return Ok(found);
+            return Ok(Reach::new(found.place, found.obstacle, course.into_line()));
         }
     }
-    let _last = line.last();
-    Ok(end_stop(locks, line))
+    Ok(end_reach(locks, course.into_line()))
 }
 
 /// How far the way of a train is clear: the first place with an obstacle on its line, continued as far as the locks
@@ -144,10 +137,9 @@ pub fn reach(alloc: Global, locks: &Locks, book: &Book, train: &Train) -> Result
         BeginsWay book.now.track (scene_of locks.now book.now.trains) train.now.train found.line) }
 {
     let others = stretches_of(alloc, book, train)?;
-    let mut line = train.line().copy(alloc)?;
+    let line = train.line().copy(alloc)?;
     if let Some(found) = stop_on_line(locks, &others, train) {
         return Ok(Reach::new(found.place, found.obstacle, line));
     }
-    let found = stop_ahead(alloc, locks, &others, train, &mut line)?;
-    Ok(Reach::new(found.place, found.obstacle, line))
+    reach_ahead(alloc, locks, &others, train, line)
 }

@@ -9,7 +9,7 @@ ghost use Rattle.rbc_way.specs.Reaches.{scene_of};
 ghost use Rattle.rbc_way.specs.Stretches.{IsTableOf, span_has, span_met_on, span_on, stretch_of, stretches_along, stretches_at};
 
 use rbc_book::{Book, Train};
-use rbc_model::{Direction, Leg, Memory, SectionId};
+use rbc_model::{Direction, Leg, Memory, SectionId, TrainId};
 use rbc_track::Track;
 use std::alloc::Global;
 
@@ -24,7 +24,7 @@ pub(crate) struct Span {
 /// that the train's line has of it.
 #[derive(Clone, Copy)]
 pub(crate) struct Stretch {
-    pub(crate) train: u32,
+    pub(crate) train: TrainId,
     pub(crate) direction: Direction,
     pub(crate) extent: Span,
     pub(crate) authority: Span,
@@ -71,7 +71,7 @@ fn stretch_of(train: &Train, begin: u32, leg: Leg, metres: u32) -> Stretch
     ensures { result ≡ stretch_of train.now.track train.now.train begin leg }
 {
     Stretch {
-        train: train.number(),
+        train: train.id(),
         direction: leg.direction,
         extent: span_on(metres, begin, train.rear(), train.front()),
         authority: span_on(metres, begin, train.from(), train.to()),
@@ -130,10 +130,10 @@ pub(crate) fn stretches_of(alloc: Global, book: &Book, train: &Train) -> Result<
 {
     book.known();
     let sections = book.track().section_count();
-    let number = train.number();
+    let id = train.id();
     let mut table = no_stretches(alloc, sections)?;
     for other in book.trains() {
-        if other.number() != number {
+        if other.id() != id {
             add_train(&mut table, other)?;
         }
     }

@@ -15,7 +15,6 @@ use Rattle.rbc_model.specs.Words.{line_of, hex_of}
 use Rattle.rbc_words.specs.PriceText.{prices_text}
 use Rattle.rbc_words.specs.Replies.{runs_text, track_text, certified_text}
 use Rattle.rbc_words.proofs.SpacedLemmas.{join_spaced}
-use Rattle.rbc_words.specs.declared.steps_reply.Certified.{Certified}
 
 -- a word behind a space
 abbrev spaced : List ℕ → List ℕ
@@ -58,19 +57,14 @@ profile_line-is kind steps runs loss same =
     ∙ ap (λ rs. codes "steps" ++ (runs_text kind rs ++ (codes " loss " ++ (decimal loss ++ 10 ∷ [])))) (sym same)
 
 -- the lines of a certificate, and of its packet
-pub certified_text-is : {V : Type 0} (kind : Kind V) (certified : Certified V) (rows : List (Vec ℕ)) (packet : List ℕ)
-    → rows ≡ certified.prices.items → packet ≡ certified.packet.items
-    → certified_text kind certified
-    ≡ track_text kind certified.limit certified.track
-    ++ (profile_line kind certified.profile.steps certified.loss ++ (prices_text rows ++ packet_lines packet))
-certified_text-is kind certified rows packet same_rows same_packet =
-    let track = track_text kind certified.limit certified.track in
-    let profile = profile_line kind certified.profile.steps certified.loss in
-    let prices = prices_text certified.prices.items in
-    append_assoc (track ++ profile) prices (packet_lines certified.packet.items)
-    ∙ append_assoc track profile (prices ++ packet_lines certified.packet.items)
-    ∙ ap (λ (table : List (Vec ℕ)). track ++ (profile ++ (prices_text table ++ packet_lines certified.packet.items))) (sym same_rows)
-    ∙ ap (λ bytes. track ++ (profile ++ (prices_text rows ++ packet_lines bytes))) (sym same_packet)
+pub certified_text-is : {V : Type 0} (kind : Kind V) (limit : ℕ) (track profile : StepFunction V) (loss : ℕ) (rows : List (Vec ℕ)) (packet : List ℕ)
+    → certified_text kind limit track profile loss rows packet
+    ≡ track_text kind limit track ++ (profile_line kind profile.steps loss ++ (prices_text rows ++ packet_lines packet))
+certified_text-is kind limit track profile loss rows packet =
+    let whole = track_text kind limit track in
+    let steps = profile_line kind profile.steps loss in
+    let prices = prices_text rows in
+    append_assoc (whole ++ steps) prices (packet_lines packet) ∙ append_assoc whole steps (prices ++ packet_lines packet)
 
 -- the pieces of a run
 pub run_text-is : {V : Type 0} (kind : Kind V) (start number : ℕ) (value : V) → number ≡ start

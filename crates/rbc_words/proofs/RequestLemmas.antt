@@ -1,5 +1,5 @@
 -- The words of a request, one after the other.
-use Rattle.std.proofs.Common.{◌≡◌, ℕ, ◌+◌, Bool, true, false, not, cond, List, [], ◌∷◌, ◌++◌, Result, Ok, Err, refl, sym, ap, ◌∙◌, append_assoc, nat_le, length}
+use Rattle.std.proofs.Common.{◌≡◌, ℕ, ◌+◌, Bool, true, false, not, cond, List, [], ◌∷◌, ◌++◌, Result, Ok, Err, refl, sym, ap, ◌∙◌, append_assoc}
 use Rattle.std.specs.Result.{result_err}
 use Rattle.rbc_model.specs.declared.limits.TheConstants.{MOST_STEPS}
 use Rattle.rbc_model.specs.declared.places.Format.TheVariants.{Far}

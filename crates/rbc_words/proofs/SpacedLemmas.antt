@@ -62,12 +62,18 @@ pub spaced-end : {X : Type 0} (text : X → List ℕ) (words : List X) (index : 
 spaced-end text words index past = at_drop_all (λ ws. spaced (map text ws)) words index past
 
 -- the line of a row of prices, behind how it begins
+pub line_of-short : (number : ℕ) (row : List ℕ)
+    → line_of (codes "prices" ∷ decimal number ∷ map decimal row) ≡ codes "prices " ++ (decimal number ++ (spaced (map decimal row) ++ 10 ∷ []))
+line_of-short number row =
+    line_of-spaced (codes "prices") (decimal number ∷ map decimal row)
+    ∙ ap (λ l. codes "prices " ++ l) (append_assoc (decimal number) (spaced (map decimal row)) (10 ∷ []))
+
+-- the same where its head is written first
 pub line_of-row : (number : ℕ) (row head : List ℕ) → head ≡ codes "prices " ++ decimal number
     → line_of (codes "prices" ∷ decimal number ∷ map decimal row) ≡ head ++ (spaced (map decimal row) ++ 10 ∷ [])
 line_of-row number row head begins =
     let rest = spaced (map decimal row) ++ 10 ∷ [] in
-    line_of-spaced (codes "prices") (decimal number ∷ map decimal row)
-    ∙ ap (λ l. codes "prices " ++ l) (append_assoc (decimal number) (spaced (map decimal row)) (10 ∷ []))
+    line_of-short number row
     ∙ sym (append_assoc (codes "prices ") (decimal number) rest)
     ∙ ap (λ l. l ++ rest) (sym begins)
 

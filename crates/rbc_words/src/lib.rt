@@ -21,9 +21,7 @@ pub use rbc_streams::{Advance, LineReader, SessionFault, Sink, Source, Stream, W
 pub use session_line::{print_request, told_request};
 pub use session_request::{Request, parse};
 pub use spelled::Spelled;
-pub use steps_reply::{
-    Certified, print_certified, print_last, print_profile, print_refusal, print_track,
-};
+pub use steps_reply::{print_certified, print_last, print_profile, print_refusal, print_track};
 pub use steps_request::{StepsLine, StepsRequest, parse_steps, request_in};
 pub use words::{
     around, integer, is_blank, is_text, next_word, number, number_at, number_from_to, only_word,

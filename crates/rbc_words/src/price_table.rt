@@ -1,6 +1,6 @@
 //! Tables of prices, printed.
 
-ghost use Rattle.std.specs.Prelude.{◌≡◌, ◌≤◌, false, ◌∷◌, ◌++◌, map, codes, decimal, length};
+ghost use Rattle.std.specs.Prelude.{◌≡◌, ◌+◌, ◌*◌, ◌≤◌, false, ◌∷◌, ◌++◌, map, codes, decimal, length};
 ghost use Rattle.rbc_model.specs.Sessions.{Prints};
 ghost use Rattle.rbc_model.specs.Words.{line_of};
 ghost use Rattle.rbc_words.specs.PriceText.{spaced, prices_text};
@@ -32,9 +32,28 @@ fn print_row<W: Sink>(number: u64, row: &[u64], writer: &mut W) -> Result<(), Wr
     ensures { Prints (W.written writer.old) (W.written writer.new) (W.failed writer.new)
         (line_of (codes "prices" ∷ decimal number ∷ map decimal row.now)) result }
 {
+    if row.len() <= SHORT {
+        return put(writer, short_row(number, row).bytes());
+    }
     put(writer, head(number).bytes())?;
     print_prices(row, writer)?;
     put(writer, b"\n")
+}
+
+/// How many prices a row has at most whose line is written at once.
+const SHORT: usize = 4;
+
+/// The line of a row of a few prices.
+fn short_row(number: u64, prices: &[u64]) -> Gathered
+    requires { length prices.now ≤ 4 }
+    ensures { result ≡ line_of (codes "prices" ∷ decimal number ∷ map decimal prices.now) }
+{
+    let mut text = Gathered::new();
+    text.byte(b'\n');
+    gather_prices(prices, &mut text);
+    text.number(number);
+    text.text(b"prices ");
+    text
 }
 
 /// How the line of the row of this number begins.
@@ -71,9 +90,19 @@ fn gathered(prices: &[u64]) -> Gathered
     ensures { result ≡ spaced (map decimal prices.now) }
 {
     let mut text = Gathered::new();
+    gather_prices(prices, &mut text);
+    text
+}
+
+/// Puts prices, each behind a space, before a text.
+#[inline(always)]
+fn gather_prices(prices: &[u64], text: &mut Gathered)
+    requires { length text.old + 21 * length prices.now ≤ 128 }
+    ensures text { text.new ≡ spaced (map decimal prices.now) ++ text.old }
+    ensures length { length text.new ≤ length text.old + 21 * length prices.now }
+{
     for i in (0..prices.len()).rev() {
         text.number(prices[i]);
         text.byte(b' ');
     }
-    text
 }

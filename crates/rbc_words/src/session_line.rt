@@ -45,15 +45,15 @@ pub fn print_request<W: Sink>(request: &Request, writer: &mut W) -> Result<(), W
         Request::Report(report) => print_report(report, writer),
         Request::Lock(name) => print_line(b"lock", &[Word::Name(*name)], writer),
         Request::Free(name) => print_line(b"free", &[Word::Name(*name)], writer),
-        Request::Leave(train) => print_line(b"leave", &[Word::Number(*train)], writer),
+        Request::Leave(train) => print_line(b"leave", &[Word::Number(train.number())], writer),
         Request::GiveBack(train, end) => {
             print_line(
                 b"yield",
-                &[Word::Number(*train), Word::Number(*end)],
+                &[Word::Number(train.number()), Word::Number(end.metres())],
                 writer,
             )
         }
-        Request::Ask(train) => print_line(b"ask", &[Word::Number(*train)], writer),
+        Request::Ask(train) => print_line(b"ask", &[Word::Number(train.number())], writer),
     }
 }
 
@@ -64,10 +64,10 @@ fn print_report<W: Sink>(report: &Report, writer: &mut W) -> Result<(), WriteFai
         (line_of (said_words (SaidReport report.now))) result }
 {
     let words = [
-        Word::Number(report.train()),
+        Word::Number(report.train().number()),
         Word::Group(report.group()),
         Word::Text(nominal_word(report.nominal())),
-        Word::Number(report.distance()),
+        Word::Number(report.distance().metres()),
         Word::Number(u32::from(report.over())),
         Word::Number(u32::from(report.under())),
         Word::Number(u32::from(report.length())),

@@ -14,7 +14,7 @@ use rbc_model::limits::{
     FARTHEST_KEPT, FARTHEST_REPORT, LAST_COUNTRY, LAST_GROUP, LAST_TIME, LAST_TRAIN, LONGEST_TRAIN,
     MOST_DOUBT,
 };
-use rbc_model::{GroupName, LineFault, Report, ReportFields};
+use rbc_model::{Distance, GroupName, LineFault, Report, ReportFields, TrainId};
 use rbc_track::Name;
 
 /// What a line of a session says that is not refused. Whether the track has a route, a section or a group of that
@@ -30,11 +30,12 @@ pub enum Request {
     /// The section of this name is to be freed.
     Free(Name),
     /// The train of this number, 1 to 9,999,999, leaves.
-    Leave(u32),
-    /// The train of this number, 1 to 9,999,999, gives back what lies beyond so many metres from its group, 0 to 100,000.
-    GiveBack(u32, u32),
+    Leave(TrainId),
+    /// The train of this number, 1 to 9,999,999, gives back what lies beyond this distance from its group, 0 to 100,000
+    /// metres.
+    GiveBack(TrainId, Distance),
     /// The train of this number, 1 to 9,999,999, asks for an authority.
-    Ask(u32),
+    Ask(TrainId),
 }
 
 /// What the bytes of a line, without its line feed, say. A comment may hold any bytes. It takes no memory.
@@ -84,10 +85,11 @@ fn name_in(words: &[u8]) -> Result<Name, LineFault>
 }
 
 /// The number of a train in the words behind a command: the only one.
-fn train_in(words: &[u8]) -> Result<u32, LineFault>
+fn train_in(words: &[u8]) -> Result<TrainId, LineFault>
     ensures { result ≡ train_in (words_of words.now) }
 {
-    number_at(2, only_word(words)?, 1, LAST_TRAIN)
+    let number = number_at(2, only_word(words)?, 1, LAST_TRAIN)?;
+    Ok(TrainId::new(number))
 }
 
 /// The request in the two words behind the command `yield`: a train, and how many metres from its group the authority
@@ -99,7 +101,7 @@ fn give_back_in(words: &[u8]) -> Result<Request, LineFault>
     let end = only_word(rest)?;
     let train = number_at(2, train, 1, LAST_TRAIN)?;
     let end = number_at(3, end, 0, FARTHEST_KEPT)?;
-    Ok(Request::GiveBack(train, end))
+    Ok(Request::GiveBack(TrainId::new(train), Distance::new(end)))
 }
 
 /// The words behind the command `report`, in their order.
@@ -156,10 +158,10 @@ fn report_in(words: &[u8]) -> Result<Report, LineFault>
     let length = number_at(8, words.length, 1, u32::from(LONGEST_TRAIN))?;
     let time = number_at(9, words.time, 0, LAST_TIME)?;
     let report = Report::new(ReportFields {
-        train,
+        train: TrainId::new(train),
         group,
         nominal,
-        distance,
+        distance: Distance::new(distance),
         over: over as u16,
         under: under as u16,
         length: length as u16,

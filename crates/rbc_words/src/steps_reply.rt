@@ -13,24 +13,6 @@ use rbc_model::{LineFault, StepsRefusal};
 use rbc_steps::{Profile, Runs};
 use rbc_streams::{Sink, WriteFailed, put};
 
-/// A track with a profile of it, what the profile loses, the prices that show that none loses less, and the packet
-/// that holds it.
-#[derive(Drop)]
-pub struct Certified<V: Spelled> {
-    /// How many steps the packet may have, 1 to 31.
-    pub limit: usize,
-    /// The track.
-    pub track: Runs<V>,
-    /// The profile.
-    pub profile: Profile<V>,
-    /// What the profile loses, summed over all metres: km/h, or per mille.
-    pub loss: u64,
-    /// The table of prices: a row for each number of steps from 1.
-    pub prices: Vec<Vec<u64>>,
-    /// The packet.
-    pub packet: Vec<u8>,
-}
-
 /// Writes the reply to a line that is refused.
 ///
 /// # Errors
@@ -73,6 +55,9 @@ fn print_fault<W: Sink>(fault: LineFault, writer: &mut W) -> Result<(), WriteFai
     }
 }
 
+/// How many bytes may stand before a number that is written at once with them.
+const LONGEST_NAME: usize = 64;
+
 /// Writes the number at the end of a line, behind what it is.
 ///
 /// # Errors
@@ -83,30 +68,40 @@ pub fn print_last<W: Sink>(name: &[u8], number: u64, writer: &mut W) -> Result<(
     ensures { Prints (W.written writer.old) (W.written writer.new) (W.failed writer.new)
         (name.now ++ (decimal number ++ 10 ∷ [])) result }
 {
-    put(writer, name)?;
     let mut text = Gathered::new();
     text.byte(b'\n');
     text.number(number);
+    if name.len() > LONGEST_NAME {
+        put(writer, name)?;
+        return put(writer, text.bytes());
+    }
+    text.text(name);
     put(writer, text.bytes())
 }
 
-/// Writes a certificate and its packet.
+/// Writes a certificate and its packet: a track with the limit of steps, a profile of it, what that loses, the prices that
+/// show that none loses less, a row for each number of steps from 1, and the packet that holds the profile.
 ///
 /// # Errors
 ///
 /// `WriteFailed`, where the writer fails. Then a part of the text stands, from its start.
 pub fn print_certified<V: Spelled, W: Sink>(
-    certified: &Certified<V>,
+    limit: usize,
+    track: &Runs<V>,
+    profile: &Profile<V>,
+    loss: u64,
+    prices: &[Vec<u64>],
+    packet: &[u8],
     writer: &mut W,
 ) -> Result<(), WriteFailed>
     requires { W.failed writer.old ≡ false }
     ensures { Prints (W.written writer.old) (W.written writer.new) (W.failed writer.new)
-        (certified_text V.kind certified.now) result }
+        (certified_text V.kind limit track.now profile.now loss prices.now packet.now) result }
 {
-    print_track(certified.limit, &certified.track, writer)?;
-    print_profile(&certified.profile, certified.loss, writer)?;
-    print_table(certified.prices.as_slice(), writer)?;
-    print_packet(certified.packet.as_slice(), writer)
+    print_track(limit, track, writer)?;
+    print_profile(profile, loss, writer)?;
+    print_table(prices, writer)?;
+    print_packet(packet, writer)
 }
 
 /// Writes the line of a track, with the limit of steps.

@@ -62,13 +62,21 @@ const LINES: [[&str; 8]; 4] = [
     ],
 ];
 
+/// The number of the train that asks in a line, if one does.
+fn asker(line: &str) -> Option<u32> {
+    match parse(line.as_bytes()).ok()? {
+        Request::Ask(train) => Some(train.number()),
+        _ => None,
+    }
+}
+
 /// Treats a line at the desk. It may be refused, but never for want of memory.
 fn treat<L: DeskName, R>(rt: &R, desk: &Desk<L>, track: &Track, seat: &mut Seat<L>, line: &str)
 where
     R: Threads + Wait + Abort + AllocGlobal + Sync,
     requires { track.now ≡ L.opened.track }
 {
-    if let Ok(Request::Ask(train)) = parse(line.as_bytes()) {
+    if let Some(train) = asker(line) {
         let asked = ask(rt, desk, seat, train, &OpenGate);
         assert!(rt; !matches!(&asked, Err(OrMemory::Memory)));
     } else {

@@ -105,7 +105,7 @@ impl<'a, A: Abort> Gate for Meets<'a, A> {
         view: View,
         version: u64,
     ) -> Result<Candidate, Memory> {
-        let (own, other) = match view.train() {
+        let (own, other) = match view.train().number() {
             1 => (self.first, self.second),
             _ => (self.second, self.first),
         };

@@ -2,7 +2,7 @@
 
 use super::telling::{offered, record_of, told_by};
 use super::{BRANCH, ONE_TRAIN, PLAIN};
-use rbc_model::{OrMemory, Told};
+use rbc_model::{Distance, OrMemory, Told, TrainId};
 use rbc_sweep::{Candidate, CommitFault, Record};
 use std::process::Abort;
 
@@ -32,7 +32,10 @@ fn is_refused(
 
 /// The train gives back what lies beyond so many metres from its group.
 fn give_back(rt: &(impl Abort + AllocGlobal), history: &mut Record, train: u32, end: u32) {
-    let told = history.apply(rt.alloc(), &Told::GiveBack(train, end));
+    let told = history.apply(
+        rt.alloc(),
+        &Told::GiveBack(TrainId::new(train), Distance::new(end)),
+    );
     assert!(rt; told.is_ok());
 }
 

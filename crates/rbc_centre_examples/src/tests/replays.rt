@@ -33,7 +33,7 @@ fn enter<R: Threads + Abort + AllocGlobal + Sync>(
             history.apply(rt.alloc(), &told).expect(rt, "an entry")
         }
         Entry::Granted(filed) => {
-            let candidate = offered(rt, history, filed.grant().train());
+            let candidate = offered(rt, history, filed.grant().train().number());
             history
                 .commit(rt.alloc(), &candidate)
                 .expect(rt, "an entry")

@@ -60,8 +60,8 @@ where
 fn are_granted(rt: &impl Abort, outcomes: &[Outcome]) {
     assert!(rt;
         matches!(outcomes, [one, other]
-        if one.train == 1 && end(one) == Some(495)
-            && other.train == 2 && end(other) == Some(1_500))
+        if one.train.number() == 1 && end(one) == Some(495)
+            && other.train.number() == 2 && end(other) == Some(1_500))
     );
 }
 
@@ -101,8 +101,8 @@ fn each_train_is_told_of_refused_memory(rt: HostRuntime) {
 fn is_alone(rt: &impl Abort, outcomes: &[Outcome]) {
     assert!(rt;
         matches!(outcomes, [one, other]
-        if one.train == 1 && end(one) == Some(1_500)
-            && other.train == 2 && matches!(&other.answer, Answer::Gone))
+        if one.train.number() == 1 && end(one) == Some(1_500)
+            && other.train.number() == 2 && matches!(&other.answer, Answer::Gone))
     );
 }
 
@@ -144,7 +144,7 @@ fn train_that_left_is_gone(rt: HostRuntime) {
 fn is_granted_at(rt: &impl Abort, outcomes: &[Outcome], place: u64) {
     assert!(rt;
         matches!(outcomes, [one]
-        if one.train == 1
+        if one.train.number() == 1
             && matches!(&one.answer, Answer::Granted(granted) if granted.receipt.place() == place))
     );
 }

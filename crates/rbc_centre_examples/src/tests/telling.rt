@@ -4,7 +4,7 @@ ghost use Rattle.std.specs.Prelude.{◌≡◌};
 ghost use Rattle.std.specs.Arc.{arc_value};
 ghost use Rattle.rbc_sweep.specs.Steps.{IsOfTrack};
 
-use rbc_model::{OrMemory, Told};
+use rbc_model::{OrMemory, Told, TrainId};
 use rbc_sweep::{
     ApplyFault, AskFault, Candidate, Desk, DeskName, Gate, Granted, Receipt, Record, Seat,
     candidate,
@@ -69,7 +69,9 @@ pub(super) fn offered<R: Threads + Abort + AllocGlobal + Sync>(
     history: &Record,
     train: u32,
 ) -> Candidate {
-    let view = history.view(rt.alloc(), train).expect(rt, "a view");
+    let view = history
+        .view(rt.alloc(), TrainId::new(train))
+        .expect(rt, "a view");
     candidate(rt, rt.alloc(), view, history.version()).expect(rt, "room")
 }
 
@@ -96,7 +98,7 @@ pub(super) fn ask<L: DeskName, R: Threads + Wait + AllocGlobal + Sync, G: Gate>(
     train: u32,
     gate: &G,
 ) -> Result<Granted, OrMemory<AskFault>> {
-    desk.ask(rt, rt.alloc(), seat, train, gate)
+    desk.ask(rt, rt.alloc(), seat, TrainId::new(train), gate)
 }
 
 /// The record of a desk to which all seats are handed back.

@@ -1,9 +1,7 @@
-use Rattle.std.proofs.Common.{arith, ◌≡◌, ◌<◌, ◌+◌, ◌⊎◌, inl, inr, ap, sym, ◌∙◌, ℕ, length-set, get_or, map, set}
+use Rattle.std.proofs.Common.{arith, inl, inr, ap, sym, ◌∙◌, length-set, get_or, map, set}
 use Rattle.rbc_costs.proofs.TotalLemmas.{map_set_at, map_set_other}
 use Rattle.rbc_costs.proofs.total.write_totals.Goals as goal
-
-last_or_before : (i to : ℕ) → i < to + 1 → (i ≡ to) ⊎ (i < to)
-last_or_before i to h = grind arith
+use Rattle.rbc_costs.proofs.TotalLemmas.{last_or_before}
 
 pub loop-i-preserved : goal.loop-i-preserved
 loop-i-preserved g c = λ k h.

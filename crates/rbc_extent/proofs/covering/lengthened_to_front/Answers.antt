@@ -8,8 +8,9 @@ use Rattle.rbc_model.specs.Placing.{leg_told, front_on, has_front}
 use Rattle.rbc_line.specs.OnTracks.{LineOnTrack}
 use Rattle.rbc_extent.specs.PlacingSteps.{front_step}
 use Rattle.rbc_extent.proofs.LengthenedLemmas.{found_at_once}
-use Rattle.rbc_extent.proofs.CoveringLemmas.{le_test, gt_test, flag-none, flag-some, lengthening-more, lengthening-found, lengthening-stuck, lengthening-out, one_ahead, front-longer, told-longer}
+use Rattle.rbc_extent.proofs.CoveringLemmas.{le_test, flag-none, flag-some, lengthening-more, lengthening-found, lengthening-stuck, lengthening-out, one_ahead, front-longer, told-longer}
 use Rattle.rbc_extent.proofs.covering.lengthened_to_front.Goals as goal
+use Rattle.std.proofs.lemmas.Bool.{lt-leb}
 
 pub returns-then-front-length-clause-line : goal.returns-then-front-length-clause-line
 unfolding front_step
@@ -62,7 +63,7 @@ loop-added-preserved c =
     let front = c.loop-added.invariant.front_is in
     record {
       lengthening = lengthening-more (longer_ahead c.args.locks.now) (has_front c.args.line.track c.args.group.now c.args.report.now) c.args.line c.section_count-sections.result c.loop-added._added c.loop-added.course c.lengthen_ahead.new.self c.loop-added.invariant.lengthening c.loop-added-test.true more
-          (gt_test (front_on c.args.line.track c.args.group.now c.args.report.now c.lengthen_ahead.new.self.legs) (line_length c.args.line.track c.lengthen_ahead.new.self.legs) (omega arith)) c.in_ok-lengthen_ahead.ensures.track;
+          (lt-leb (front_on c.args.line.track c.args.group.now c.args.report.now c.lengthen_ahead.new.self.legs) (line_length c.args.line.track c.lengthen_ahead.new.self.legs) (omega arith)) c.in_ok-lengthen_ahead.ensures.track;
       told = told-longer c.loop-added.course.legs c.lengthen_ahead.new.self.legs (leg_told c.args.group.now c.args.report.now) one c.loop-added.invariant.told;
       front_is = front ∙ sym same;
     }

@@ -1,47 +1,45 @@
 use Rattle.std.proofs.Common.{◌∙◌, refl, lit≤, arith, rules, take, length-set}
+use Rattle.std.proofs.lemmas.List.{take-set}
 use Rattle.rbc_fields.specs.DecodeText.{reading_kind}
 use Rattle.rbc_fields.proofs.RestLemmas.{rest_next, rest_over}
 use Rattle.rbc_fields.proofs.ListLemmas.{IsRest, start_rest, room_next, put_next, all_listed}
 use Rattle.rbc_fields.proofs.listing.list_fields.Goals as goal
 
-pub loop-item-init : goal.loop-item-init
-loop-item-init c = record {
+pub loop-count-init : goal.loop-count-init
+loop-count-init c = record {
   counted = c.new-fields.ensures.counted;
   within = lit≤ tt;
   long = search rules;
   rest = start_rest c.args.is_packet c.args.bytes.now c.start_of.result c.new-fields.result _ c.start_of.ensures c.new-fields.ensures.bits c.new-fields.ensures.fields refl;
 }
 
-pub bounds-items-count : goal.bounds-items-count
-bounds-items-count c =
-    let loop = c.loop-item in
+pub loop-count-preserved : goal.loop-count-preserved
+loop-count-preserved c =
+    let loop = c.loop-count in
+    let read = c.loop-count-test.ensures in
+    let item = c.next.new.item in
     let rest = rest_next loop.fields c.next.new.self (IsRest (take loop.count loop.items) (reading_kind c.args.is_packet c.args.bytes.now))
-    c.in-Some.item loop.invariant.rest c.in-Some.ensures.next c.in-Some.ensures.shorter in
-    room_next c.args.is_packet c.args.bytes.now loop.items loop.count c.in-Some.item c.next.new.self loop.invariant.long loop.invariant.within rest
-
-pub loop-item-preserved : goal.loop-item-preserved
-loop-item-preserved c =
-    let loop = c.loop-item in
-    let rest = rest_next loop.fields c.next.new.self (IsRest (take loop.count loop.items) (reading_kind c.args.is_packet c.args.bytes.now))
-    c.in-Some.item loop.invariant.rest c.in-Some.ensures.next c.in-Some.ensures.shorter in
-    let room = room_next c.args.is_packet c.args.bytes.now loop.items loop.count c.in-Some.item c.next.new.self loop.invariant.long loop.invariant.within rest in
+    item loop.invariant.rest read.next (read.shorter refl) in
+    let room = room_next c.args.is_packet c.args.bytes.now loop.items loop.count item c.next.new.self loop.invariant.long loop.invariant.within rest in
     record {
-      counted = c.in-Some.ensures.counted;
+      counted = read.counted;
       within = omega arith;
-      long = length-set loop.items loop.count c.in-Some.item ∙ loop.invariant.long;
-      rest = put_next loop.items loop.count c.in-Some.item (reading_kind c.args.is_packet c.args.bytes.now) c.next.new.self (let long = loop.invariant.long in omega arith) rest;
+      long = length-set loop.items loop.count item ∙ loop.invariant.long;
+      rest = put_next loop.items loop.count item (reading_kind c.args.is_packet c.args.bytes.now) c.next.new.self (let long = loop.invariant.long in omega arith) rest;
     }
 
 pub returns-clause-items : goal.returns-clause-items
 returns-clause-items c =
-    let loop = c.loop-item in
+    let loop = c.loop-count in
+    let read = c.loop-count-test.ensures in
     let over = rest_over loop.fields c.next.new.self (IsRest (take loop.count loop.items) (reading_kind c.args.is_packet c.args.bytes.now))
-    loop.invariant.rest c.in_default.ensures.next c.in_default.ensures.over in
-    all_listed (take loop.count loop.items) (reading_kind c.args.is_packet c.args.bytes.now) c.next.new.self.found over
+    loop.invariant.rest read.next (read.over refl) in
+    take-set loop.items loop.count c.next.new.item ∙ all_listed (take loop.count loop.items) (reading_kind c.args.is_packet c.args.bytes.now) c.next.new.self.found over
 
 pub returns-clause-found : goal.returns-clause-found
 returns-clause-found c =
-    let loop = c.loop-item in
+    let loop = c.loop-count in
+    let read = c.loop-count-test.ensures in
     let over = rest_over loop.fields c.next.new.self (IsRest (take loop.count loop.items) (reading_kind c.args.is_packet c.args.bytes.now))
-    loop.invariant.rest c.in_default.ensures.next c.in_default.ensures.over in
+    loop.invariant.rest read.next (read.over refl) in
     c.found.ensures ∙ over.found

@@ -6,13 +6,13 @@ use Rattle.rbc_fields.proofs.RestLemmas.{Rest}
 use Rattle.rbc_fields.proofs.listing.list_fields.Given as goal
 
 -- those in the list in front of those that are left are all
-abbrev pub invariant-loop-item : goal.invariant-loop-item
-invariant-loop-item l = record {
+abbrev pub invariant-loop-count : goal.invariant-loop-count
+invariant-loop-count l = record {
   counted : IsCounted l.fields;
   within : l.count ≤ 252;
-  long : length l.items ≡ 252;
+  long : length l.items ≡ 253;
   rest : Rest l.fields (IsRest (take l.count l.items) (reading_kind l.is_packet l.bytes));
 }
 
-abbrev pub decreases-loop-item : goal.decreases-loop-item
-decreases-loop-item l = length l.fields.bits
+abbrev pub decreases-loop-count : goal.decreases-loop-count
+decreases-loop-count l = length l.fields.bits

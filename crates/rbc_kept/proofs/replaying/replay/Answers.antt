@@ -1,7 +1,7 @@
-use Rattle.std.proofs.Common.{refl, ap, ◌∙◌}
+use Rattle.std.proofs.Common.{refl, ap, ◌∙◌, subst}
 use Rattle.rbc_server.specs.Records.{HistoryOnTrack}
-use Rattle.rbc_kept.specs.Adds.{Adds}
-use Rattle.rbc_kept.proofs.AddingLemmas.{gained, replays_on}
+use Rattle.rbc_kept.specs.Adds.{Adds, Follows}
+use Rattle.rbc_kept.proofs.AddingLemmas.{replays_on}
 use Rattle.rbc_kept.proofs.TellingLemmas.{begins, ends}
 use Rattle.rbc_kept.proofs.replaying.replay.Goals as goal
 
@@ -11,10 +11,10 @@ loop-line-init g c = record { track = refl; goes = begins (Adds c.args.history.n
 pub loop-line-preserved : goal.loop-line-preserved
 loop-line-preserved g c =
     let i = c.loop-line.invariant in
-    let gains = gained c.loop-line.history c.take.new.history c.in-Some.line.now c.in_ok-take.field-0 c.if-not-branch.false c.in_ok-take.ensures.added in
+    let gains = subst (λ b. Follows b c.loop-line.history c.in-Some.line.now c.follow.new.history) c.if-not-branch.false c.in_ok-follow.ensures.followed in
     record {
       track = ap (λ (h : HistoryOnTrack). h.track) gains.2 ∙ i.track;
-      goes = replays_on c.args.history.now.track c.loop-line.history c.take.new.history c.args.bytes.now c.loop-line.rest.now c.in-Some.after.now c.in-Some.line.now i.track c.in-Some.ensures.line gains i.goes;
+      goes = replays_on c.args.history.now.track c.loop-line.history c.follow.new.history c.args.bytes.now c.loop-line.rest.now c.in-Some.after.now c.in-Some.line.now i.track c.in-Some.ensures.line gains i.goes;
     }
 
 pub returns-clause-told : goal.returns-clause-told

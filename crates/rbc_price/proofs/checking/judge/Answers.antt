@@ -1,9 +1,8 @@
 use Rattle.std.proofs.Common.{arith, ◌≡◌, ap, sym, ◌∙◌, length, nat_le, ◌==◌}
-use Rattle.std.proofs.lemmas.Bool.{le-leb, eq-eqb}
+use Rattle.std.proofs.lemmas.Bool.{le-leb, eq-eqb, lt-leb}
 use Rattle.rbc_model.specs.Profiles.{loss, value_at}
 use Rattle.rbc_model.specs.PriceChecks.{has_shape, first_above, first_too_high, lost, last_price}
 use Rattle.rbc_table_laws.specs.PriceRows.{prices_of}
-use Rattle.rbc_price.proofs.SearchLemmas.{not_le}
 use Rattle.rbc_price.specs.Columns.{stretches_of}
 use Rattle.rbc_price.proofs.ShapeLemmas.{shaped}
 use Rattle.rbc_price.proofs.TableLemmas.{not_same, wide_of_shape, count_of_shape, last_is}
@@ -61,7 +60,7 @@ returns-then-steps-limit-clause-verdict g c =
     (sym c.has_shape.ensures ∙ c.if-not-has_shape.false) c.in_ok-stays_below.ensures.above
     (c.in_ok-has_no_high_price.ensures c.args.limit (count_of_shape g.V.Level.levels c.args.limit c.args.track.now c.args.profile.now c.args.rows.now (shaped g.V.Level.levels c.args.limit c.args.track.now c.args.profile.now (prices_of c.args.rows.now) (sym c.has_shape.ensures ∙ c.if-not-has_shape.false))))
     (eq-eqb _ _ (sym (loss_here g there) ∙ c.if-loss-price_at.false ∙ price_here g there))
-    (not_le (length c.args.profile.now.steps) c.args.limit (omega (arith, ap length c.steps.ensures.steps)))
+    (lt-leb (length c.args.profile.now.steps) c.args.limit (omega (arith, ap length c.steps.ensures.steps)))
 
 pub returns-clause-verdict : goal.returns-clause-verdict
 returns-clause-verdict g c =

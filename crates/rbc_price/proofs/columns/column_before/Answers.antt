@@ -1,12 +1,10 @@
-use Rattle.std.proofs.Common.{arith, refl, ap, sym, ◌∙◌, ◌≡◌, ◌+◌, ◌-◌, Some, subst}
+use Rattle.std.proofs.Common.{arith, refl, ap, sym, ◌∙◌, ◌≡◌, ◌+◌, ◌-◌, subst}
 use Rattle.rbc_model.specs.Scales.{unit_of}
 use Rattle.rbc_stretches.specs.OnTracks.{IsStretch}
 use Rattle.rbc_price.specs.Columns.{IsColumn}
 use Rattle.rbc_price.specs.declared.columns.Column.{Column}
 use Rattle.rbc_price.proofs.columns.column_before.Goals as goal
-
-the_same : (a b : Column) → Some a ≡ Some b → a ≡ b
-the_same a b e = cc
+use Rattle.std.proofs.lemmas.Option.{same_Some}
 
 pub returns-clause-before : goal.returns-clause-before
 returns-clause-before g c = λ next e.
@@ -15,7 +13,7 @@ returns-clause-before g c = λ next e.
     let here = subst (λ i. IsStretch c.unit_of.result c.args.track.now i c.args.column.stretch) last
     (subst (λ u. IsStretch u c.args.track.now c.args.column.index c.args.column.stretch) (sym unit) c.requires.column) in
     let made = c.in_ok-stretch.ensures.before (c.args.column.index - 1) c.in_ok-stretch.stretch here refl in
-    subst (λ n. IsColumn c.args.track.now n) (the_same _ next e) (subst (λ u. IsStretch u c.args.track.now (c.args.column.index - 1) c.in_ok-stretch.stretch) unit made)
+    subst (λ n. IsColumn c.args.track.now n) (same_Some _ next e) (subst (λ u. IsStretch u c.args.track.now (c.args.column.index - 1) c.in_ok-stretch.stretch) unit made)
 
 pub returns-clause-index : goal.returns-clause-index
-returns-clause-index g c = λ next e. let same = ap (λ (n : Column). n.index) (the_same _ next e) in omega arith
+returns-clause-index g c = λ next e. let same = ap (λ (n : Column). n.index) (same_Some _ next e) in omega arith

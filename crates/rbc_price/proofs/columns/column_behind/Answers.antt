@@ -1,13 +1,10 @@
-use Rattle.std.proofs.Common.{arith, refl, ap, sym, ◌∙◌, ◌≡◌, ◌+◌, Some, subst}
+use Rattle.std.proofs.Common.{arith, refl, ap, sym, ◌∙◌, ◌≡◌, ◌+◌, subst}
 use Rattle.rbc_model.specs.Scales.{unit_of}
 use Rattle.rbc_stretches.specs.OnTracks.{IsStretch}
 use Rattle.rbc_price.specs.Columns.{IsColumn}
-use Rattle.rbc_price.specs.declared.columns.Column.{Column}
 use Rattle.rbc_price.proofs.ColumnLemmas.{index_small}
 use Rattle.rbc_price.proofs.columns.column_behind.Goals as goal
-
-the_same : (a b : Column) → Some a ≡ Some b → a ≡ b
-the_same a b e = cc
+use Rattle.std.proofs.lemmas.Option.{same_Some}
 
 pub overflow_add-result : goal.overflow_add-result
 overflow_add-result g c =
@@ -21,4 +18,4 @@ returns-clause-behind g c = λ next e.
     let unit : c.unit_of.result ≡ unit_of c.args.track.now.end = c.unit_of.ensures.unit ∙ ap unit_of c.end.ensures.end in
     let here = subst (λ u. IsStretch u c.args.track.now c.args.column.index c.args.column.stretch) (sym unit) c.requires.column in
     let made = c.in_ok-stretch.ensures.behind c.args.column.index c.in_ok-stretch.stretch here refl in
-    subst (λ n. IsColumn c.args.track.now n) (the_same _ next e) (subst (λ u. IsStretch u c.args.track.now (c.args.column.index + 1) c.in_ok-stretch.stretch) unit made)
+    subst (λ n. IsColumn c.args.track.now n) (same_Some _ next e) (subst (λ u. IsStretch u c.args.track.now (c.args.column.index + 1) c.in_ok-stretch.stretch) unit made)

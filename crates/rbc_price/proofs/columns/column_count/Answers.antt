@@ -1,5 +1,6 @@
-use Rattle.std.proofs.Common.{arith, refl}
-use Rattle.rbc_price.proofs.ColumnLemmas.{index_small, inside}
+use Rattle.std.proofs.Common.{◌≡◌, length, ap, sym, ◌∙◌, arith, refl}
+use Rattle.rbc_price.proofs.ColumnLemmas.{columns_are_runs, index_small, inside}
+use Rattle.rbc_model.specs.Scales.{unit_of}
 use Rattle.rbc_price.proofs.columns.column_count.Goals as goal
 
 pub loop-next-preserved : goal.loop-next-preserved
@@ -22,3 +23,10 @@ overflow_add-result g c =
 
 pub returns-clause-count : goal.returns-clause-count
 returns-clause-count g c = c.column_behind.ensures.last c.in_default.is
+
+pub returns-then-unit_of-eq1-clause-count : goal.returns-then-unit_of-eq1-clause-count
+returns-then-unit_of-eq1-clause-count g c =
+    let level = g.met.V.Level g.world.𝓛 g.world.𝓜 g.world.𝓡 ((λ s x. x), (λ x. x), (λ x. x), λ x. x) in
+    let track = c.args.track.now in
+    let one : unit_of track.end ≡ 1 = sym (c.unit_of.ensures.unit ∙ ap unit_of c.end-end.ensures.end) ∙ c.if-unit_of-eq1.true in
+    ap length c.runs.ensures.runs ∙ columns_are_runs g.V.Level.levels level.lawful track c.end-end.ensures.track c.requires one

@@ -1,4 +1,4 @@
-use Rattle.std.proofs.Common.{arith, ◌≡◌, ℕ, ◌+◌, ◌≤◌, ◌<◌, ◌⊎◌, inl, inr, true, refl, subst, sym, ◌∙◌}
+use Rattle.std.proofs.Common.{arith, ◌≡◌, ◌+◌, ◌≤◌, inl, inr, true, refl, subst, sym, ◌∙◌}
 use Rattle.rbc_table_laws.specs.PriceRows.{prices_of}
 use Rattle.rbc_price.specs.Columns.{stretches_of}
 use Rattle.rbc_price.specs.Costs.{IsCostAt, IsLowestStretch, is_stretch_at_most}
@@ -8,9 +8,7 @@ use Rattle.rbc_price.proofs.PlaceLemmas.{Pair, first_of_fewer, first_of_both, fi
 use Rattle.rbc_price.proofs.inequalities.first_from_break.Given.{Over}
 use Rattle.rbc_price.proofs.inequalities.first_from_break.Goals as goal
 use Rattle.rbc_price.proofs.inequalities.first_from_break.Goals.{After-price_on-cost}
-
-up_to_or_past : (a b : ℕ) → (a ≤ b) ⊎ (b < a)
-up_to_or_past a b = grind arith
+use Rattle.rbc_model.proofs.ScanLemmas.{le_or_lt}
 
 pub first_row-first-requires-clause-wide : goal.first_row-first-requires-clause-wide
 first_row-first-requires-clause-wide g c =
@@ -45,7 +43,7 @@ returns-then-is_at_most g c =
     (λ f to. (f ≡ c.args.from.index) × IsLowestStretch g.V.Level.levels c.args.track.now f to c.args.lowest.index) c.loop-next.first
     (λ f to on column j. (
       j.0,
-      elim (up_to_or_past to (c.loop-next.last.index + 1)) [
+      elim (le_or_lt to (c.loop-next.last.index + 1)) [
         | inl h ↦ h
         | inr past ↦ let not = j.1.behind c.in-Some.next.index (let order = c.loop-next.invariant.behind in omega (arith, index)) (omega (arith, past, index)) in absurd (cc (lower, not))
       ],
@@ -120,7 +118,7 @@ loop-next-preserved g c =
           (Pair g.V.Level.levels c.args.track.now (prices_of c.args.rows.now) c.args.from.index (c.in-Some.next.index + 1))
           (λ f to. (f ≡ c.args.from.index) × (to ≤ c.in-Some.next.index + 1) × IsLowestStretch g.V.Level.levels c.args.track.now f to c.args.lowest.index)
           c.loop-next.first c.first_row.result
-          (λ f to on column j. elim (up_to_or_past to (c.loop-next.last.index + 1)) [
+          (λ f to on column j. elim (le_or_lt to (c.loop-next.last.index + 1)) [
             | inl h ↦ inl (j.0, h, j.2)
             | inr past ↦ inr (j.0, let last = j.1 in omega (arith, index))
           ])

@@ -1,4 +1,4 @@
-use Rattle.std.proofs.Common.{arith, ◌≡◌, ℕ, ◌+◌, ◌≤◌, ◌<◌, ◌⊎◌, inl, inr, false, refl, subst, sym, ◌∙◌}
+use Rattle.std.proofs.Common.{arith, ◌≡◌, ◌+◌, ◌≤◌, inl, inr, false, refl, subst, sym, ◌∙◌}
 use Rattle.rbc_table_laws.specs.PriceRows.{prices_of}
 use Rattle.rbc_table_laws.proofs.StretchLemmas.{floor_range, floor_under}
 use Rattle.rbc_price.specs.Costs.{IsCostAt, IsLowestStretch, is_stretch_at_most}
@@ -8,9 +8,7 @@ use Rattle.rbc_price.proofs.PlaceLemmas.{first_of_fewer, first_of_both}
 use Rattle.rbc_price.proofs.inequalities.first_over.Given.{Over}
 use Rattle.rbc_price.proofs.inequalities.first_over.Goals as goal
 use Rattle.rbc_price.proofs.inequalities.first_over.Goals.{After-price_on-cost, After-price_on-cost-in-Some}
-
-below_or_from : (a b : ℕ) → (a < b) ⊎ (b ≤ a)
-below_or_from a b = grind arith
+use Rattle.std.proofs.lemmas.Bool.{cases_lt}
 
 pub price_on-cost-requires-clause-given_in_range : goal.price_on-cost-requires-clause-given_in_range
 price_on-cost-requires-clause-given_in_range g c κs within =
@@ -55,7 +53,7 @@ returns-then-not-is_at_most g c =
     first_of_fewer g.V.Level.levels c.args.track.now (prices_of c.args.rows.now) (λ f to. (c.loop-before.from.index ≤ f) × IsLowestStretch g.V.Level.levels c.args.track.now f to c.args.lowest.index)
     (λ f to. IsLowestStretch g.V.Level.levels c.args.track.now f to c.args.lowest.index) c.loop-before.first
     (λ f to on column j. (
-      elim (below_or_from f c.loop-before.from.index) [
+      elim (cases_lt f c.loop-before.from.index) [
         | inl earlier ↦ let not = j.before c.in-Some.before.index (omega (arith, index)) (omega (arith, index)) in absurd (cc (lower, not))
         | inr h ↦ h
       ],
@@ -118,7 +116,7 @@ loop-before-preserved g c =
           (λ f to. (f ≡ c.in-Some.before.index) × IsLowestStretch g.V.Level.levels c.args.track.now f to c.args.lowest.index)
           (λ f to. (c.in-Some.before.index ≤ f) × IsLowestStretch g.V.Level.levels c.args.track.now f to c.args.lowest.index)
           c.loop-before.first c.first_from_break.result
-          (λ f to on column j. elim (below_or_from f c.loop-before.from.index) [
+          (λ f to on column j. elim (cases_lt f c.loop-before.from.index) [
             | inl here ↦ inr (let from = j.0 in omega (arith, index), j.1)
             | inr h ↦ inl (h, j.1)
           ])

@@ -4,7 +4,7 @@ use Rattle.rbc_model.specs.Scales.{unit_of}
 use Rattle.rbc_table_laws.specs.Stretches.{cost_of_step}
 use Rattle.rbc_reduce.specs.Rows.{AreFilled, IsColumnMore, row_in}
 use Rattle.rbc_costs.proofs.TotalLemmas.{take_at, none_behind, small_totals}
-use Rattle.rbc_reduce.proofs.RowLemmas.{filled_none, filled_more, small_prices}
+use Rattle.rbc_reduce.proofs.RowLemmas.{alike_filled, filled_none, filled_more, small_prices}
 use Rattle.rbc_reduce.proofs.fill.filled.Given.{Over}
 use Rattle.rbc_reduce.proofs.fill.filled.Goals as goal
 use Rattle.rbc_reduce.proofs.fill.filled.Goals.{After-deref}
@@ -61,6 +61,12 @@ add_column-requires-clause-small_costs g c κs within =
     let is = total_at g at.After-deref i (omega arith) in
     let small = c.requires.small i (c.loop-last.last + 1) (omega arith) (omega arith) in
     omega arith)
+
+pub add_column-requires-clause-alike : goal.add_column-requires-clause-alike
+add_column-requires-clause-alike g c κs within = λ j far few.
+    let width = totals_width g (goal.at.add_column-requires-clause-alike g c).After-deref in
+    alike_filled (cost_of_step g.V.Level.levels (unit_of c.args.track.now.end) c.args.track.now) c.args.count (row_in g.N.Total.number c.loop-last.rows.items) c.loop-last.last c.loop-last.invariant.filled
+    j (omega (arith, width, far)) (omega (arith, c.loop-last.invariant.count, few))
 
 pub loop-last-init : goal.loop-last-init
 loop-last-init g c = record {

@@ -3,11 +3,11 @@ use Rattle.rbc_model.specs.Profiles.{IsChosenProfile, loss, value_at, is_within,
 use Rattle.rbc_table_laws.proofs.TableLawLemmas.{read_off_are_chosen}
 use Rattle.rbc_table_laws.specs.PriceRows.{prices_of}
 use Rattle.rbc_model.specs.Scales.{unit_of}
-use Rattle.rbc_reduce.proofs.ReadBackLemmas.{some_unit}
 use Rattle.rbc_reduce.proofs.ProfileLemmas.{made_of, made_is, made_ok}
 use Rattle.rbc_reduce.proofs.reduction.reduce.Given.{Over}
 use Rattle.rbc_reduce.proofs.reduction.reduce.Goals as goal
 use Rattle.rbc_reduce.proofs.reduction.reduce.Goals.{After-new}
+use Rattle.rbc_model.proofs.ScaleLemmas.{some_unit}
 
 pub fill-requires-clause-stretches : goal.fill-requires-clause-stretches
 fill-requires-clause-stretches g c κs within = rw c.deref.ensures.value c.in_ok-stretches.ensures

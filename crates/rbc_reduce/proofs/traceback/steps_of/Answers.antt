@@ -8,10 +8,11 @@ use Rattle.rbc_table_laws.specs.Stretches.{breaks_for, cost_of_step}
 use Rattle.rbc_table_laws.specs.PriceRows.{prices_of}
 use Rattle.rbc_reduce.specs.Rows.{price_in}
 use Rattle.rbc_costs.proofs.NextBreakLemmas.{near}
-use Rattle.rbc_reduce.proofs.ReadBackLemmas.{some_unit, some_row, begun, read_off, some_column, some_break, one_back}
+use Rattle.rbc_reduce.proofs.ReadBackLemmas.{some_row, begun, read_off, some_column, some_break, one_back}
 use Rattle.rbc_reduce.proofs.traceback.steps_of.Given.{Over}
 use Rattle.rbc_reduce.proofs.traceback.steps_of.Goals as goal
 use Rattle.rbc_reduce.proofs.traceback.steps_of.Goals.{After-as_mut_slice, After-deref}
+use Rattle.rbc_model.proofs.ScaleLemmas.{some_unit}
 
 pub fewest-count-requires-clause-some : goal.fewest-count-requires-clause-some
 fewest-count-requires-clause-some g c =

@@ -37,13 +37,13 @@ returns-in-NotLocked g c =
 pub returns-in-Busy : goal.returns-in-Busy
 returns-in-Busy g c =
     let words = ap (λ w. line_of (codes "refused" ∷ codes "Busy" ∷ w ∷ decimal c.in-Busy.train ∷ [])) c.section_word-in-Busy.ensures in
-    rw c.in-Busy.is (prints_as _ _ _ _ _ _ c.print_line-in-Busy.ensures words)
+    rw c.in-Busy.is (prints_as _ _ _ _ _ _ (rw c.number.ensures at c.print_line-in-Busy.ensures) words)
 
 pub returns-in-UnknownTrain : goal.returns-in-UnknownTrain
-returns-in-UnknownTrain g c = rw c.in-UnknownTrain.is c.print_line-in-UnknownTrain.ensures
+returns-in-UnknownTrain g c = rw c.in-UnknownTrain.is (rw c.number-in-UnknownTrain.ensures at c.print_line-in-UnknownTrain.ensures)
 
 pub returns-in-YieldRange : goal.returns-in-YieldRange
-returns-in-YieldRange g c = rw c.in-YieldRange.is c.print_line-in-YieldRange.ensures
+returns-in-YieldRange g c = rw c.in-YieldRange.is (rw c.number-in-YieldRange.ensures at c.print_line-in-YieldRange.ensures)
 
 pub returns-in-NotSafe : goal.returns-in-NotSafe
 returns-in-NotSafe g c = rw c.in-NotSafe.is c.print_line-in-NotSafe.ensures

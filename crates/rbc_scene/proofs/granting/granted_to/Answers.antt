@@ -22,13 +22,14 @@ returns-clause-granted c =
     let train = c.args.train.now.train in
     let of_track = c.requires.track in
     let origin = c.origin-2.ensures.origin in
-    safe c.args.book.now.track scene train c.args.distance c.may_end_at.result c.in_ok-line.line.legs c.start-from.result (c.origin-2.result + c.args.distance)
+    let metres = c.metres-2.ensures in
+    safe c.args.book.now.track scene train c.args.distance c.may_end_at.result c.in_ok-line.line.legs c.start-from.result (c.origin-2.result + c.metres-2.result)
     (c.may_end_at.ensures.granted scene (c.in_ok-found.ensures.place ∙ ap (λ (t : Track). reach t scene train) (sym of_track))
-    ∙ (λ j. is_safe (of_track j) scene train (origin j + c.args.distance) && is_expressible_end (of_track j) train (origin j + c.args.distance)))
+    ∙ (λ j. is_safe (of_track j) scene train (origin j + metres j) && is_expressible_end (of_track j) train (origin j + metres j)))
     c.if-not-may_end_at.false
     (c.in_ok-line.ensures.legs scene (subst (λ (t : Track). IsGoodLocks t c.args.locks.now) (sym of_track) c.requires.locks)
     (subst (λ (legs : Line). BeginsWay c.args.train.now.track scene train legs) (sym (c.legs.ensures.legs ∙ c.line-way.ensures.legs))
     (subst (λ (t : Track). BeginsWay t scene train c.in_ok-found.found.line) (sym of_track) c.in_ok-found.ensures.line))
-    ∙ (λ j. line_to (of_track j) scene train (origin j + c.args.distance)))
+    ∙ (λ j. line_to (of_track j) scene train (origin j + metres j)))
     c.start-from.ensures
-    (ap (λ n. n + c.args.distance) origin)
+    (λ j. origin j + metres j)

@@ -1,6 +1,6 @@
 use Rattle.std.proofs.Common.{Ok}
 use Rattle.rbc_sweep.specs.Entries.{entry_of}
-use Rattle.rbc_words.proofs.PrintingLemmas.{prints_nothing, prints_then, prints_stopped}
+use Rattle.rbc_replies.proofs.PrintingLemmas.{prints_nothing, prints_then, prints_stopped}
 use Rattle.rbc_server.proofs.HistoryLemmas.{lines-next, lines-end, entry-of_track}
 use Rattle.rbc_server.proofs.histories.print_entries.Goals as goal
 

@@ -1,5 +1,5 @@
 use Rattle.std.proofs.Common.{◌+◌, ◌∙◌, ap}
-use Rattle.rbc_words.specs.PriceText.{prices_of}
+use Rattle.rbc_replies.specs.PriceText.{prices_of}
 use Rattle.rbc_model.specs.SessionReply.{grant_reply}
 use Rattle.rbc_replies.specs.Replies.{grant_text}
 use Rattle.rbc_server.proofs.AskingLemmas.{told_text, told_whole}

@@ -15,5 +15,5 @@ returns c =
     ∙ ap (λ l. l ++ held) c.in_ok-push_bar.ensures
     ∙ append_assoc old stood held
     ∙ ap (λ l. old ++ l)
-    (sym (bars_cut c.args.other.now.track c.args.other.now.train c.args.leg.now c.args.begin c.number-number.result e a c.number-number.ensures
+    (sym (bars_cut c.args.other.now.track c.args.other.now.train c.args.leg.now c.args.begin c.number-number.result e a (c.number-number.ensures ∙ c.id.ensures)
     c.extent_span.ensures.on_leg c.authority_span.ensures.on_leg c.extent_span.ensures.span c.authority_span.ensures.span))

@@ -30,7 +30,7 @@ returns c =
     let speeds = c.in_ok-stairs_of.ensures.speeds ∙ (λ j. speeds_along (track j) 0 (legs j)) in
     let grades = c.in_ok-stairs_of.ensures.grades ∙ (λ j. grades_along (track j) 0 (legs j)) in
     λ j. record {
-      train = c.number.ensures j;
+      train = (c.number.ensures ∙ c.id.ensures) j;
       group = group j;
       origin = c.origin.ensures.origin j;
       rear = c.rear.ensures.rear j;

@@ -11,7 +11,7 @@ use Rattle.rbc_way.specs.declared.leg_search.Stop.{Stop}
 use Rattle.rbc_way.specs.OnLegs.{told}
 use Rattle.rbc_way.specs.Reaches.{BeginsWay, ReachOnTrack, scene_of}
 use Rattle.rbc_way.specs.Stretches.{IsTableOf}
-use Rattle.rbc_way.proofs.WayLemmas.{begins, walked_reach, walked_stop}
+use Rattle.rbc_way.proofs.WayLemmas.{begins, if_ok, walked_reach, walked_stop}
 use Rattle.rbc_way.proofs.search.reach.Goals as goal
 
 pub stop_on_line-requires : goal.stop_on_line-requires
@@ -19,8 +19,8 @@ stop_on_line-requires c =
     let table = c.in_ok-others.ensures c.args.locks.now in
     record { table = table.as_many ∙ ap (λ (x : Track). length x.sections) (sym c.requires.track) }
 
-pub stop_ahead-requires-clause-table : goal.stop_ahead-requires-clause-table
-stop_ahead-requires-clause-table c =
+pub reach_ahead-requires-clause-table : goal.reach_ahead-requires-clause-table
+reach_ahead-requires-clause-table c =
     let table = c.in_ok-others.ensures c.args.locks.now in
     table.as_many ∙ ap (λ (x : Track). length x.sections) (sym c.requires.track)
 
@@ -63,34 +63,34 @@ returns-clause-place c =
     let t = c.args.train.now.track in
     let scene = scene_of c.args.locks.now c.args.book.now.trains in
     let train = c.args.train.now.train in
-    let found = c.in_ok-found.found in
     let table : IsTableOf t (others scene train) c.in_ok-others.others.items = subst (λ (x : Track). IsTableOf x (others scene train) c.in_ok-others.others.items) (sym c.requires.track) (c.in_ok-others.ensures c.args.locks.now) in
     let legs : train.line ≡ c.in_ok-line.line.legs = sym (ap (λ (l : LineOnTrack). l.legs) c.in_ok-line.ensures ∙ c.line.ensures.legs) in
-    let walk =
-    c.stop_on_line.ensures.found c.args.book.now.trains table (walk_on t scene train (length t.sections) train.line)
+    if_ok _ (λ found. found.place ≡ reach c.args.book.now.track scene train) c.reach_ahead.result
+    (λ found walked.
+    subst (λ (x : Track). found.place ≡ reach x scene train) c.requires.track
+    (walked_reach t scene train found.place found.obstacle
+    (c.stop_on_line.ensures.found c.args.book.now.trains table (walk_on t scene train (length t.sections) train.line)
     ∙ ap (λ (o : Option Stop). told o (walk_on t scene train (length t.sections) train.line (line_length t train.line))) c.in_default.is
     ∙ ap (λ (l : Line). walk_on t scene train (length t.sections) l (line_length t l)) legs
-    ∙ c.in_ok-found.ensures.stop c.args.book.now.trains table
-    in
-    ap (λ (r : ReachOnTrack). r.place) c.new-2.ensures
-    ∙ subst (λ (x : Track). found.place ≡ reach x scene train) c.requires.track (walked_reach t scene train found.place found.obstacle walk)
+    ∙ walked c.args.book.now.trains table)))
+    c.reach_ahead.ensures.stop
 
 pub returns-clause-obstacle : goal.returns-clause-obstacle
 returns-clause-obstacle c =
     let t = c.args.train.now.track in
     let scene = scene_of c.args.locks.now c.args.book.now.trains in
     let train = c.args.train.now.train in
-    let found = c.in_ok-found.found in
     let table : IsTableOf t (others scene train) c.in_ok-others.others.items = subst (λ (x : Track). IsTableOf x (others scene train) c.in_ok-others.others.items) (sym c.requires.track) (c.in_ok-others.ensures c.args.locks.now) in
     let legs : train.line ≡ c.in_ok-line.line.legs = sym (ap (λ (l : LineOnTrack). l.legs) c.in_ok-line.ensures ∙ c.line.ensures.legs) in
-    let walk =
-    c.stop_on_line.ensures.found c.args.book.now.trains table (walk_on t scene train (length t.sections) train.line)
+    if_ok _ (λ found. found.obstacle ≡ stop c.args.book.now.track scene train) c.reach_ahead.result
+    (λ found walked.
+    subst (λ (x : Track). found.obstacle ≡ stop x scene train) c.requires.track
+    (walked_stop t scene train found.place found.obstacle
+    (c.stop_on_line.ensures.found c.args.book.now.trains table (walk_on t scene train (length t.sections) train.line)
     ∙ ap (λ (o : Option Stop). told o (walk_on t scene train (length t.sections) train.line (line_length t train.line))) c.in_default.is
     ∙ ap (λ (l : Line). walk_on t scene train (length t.sections) l (line_length t l)) legs
-    ∙ c.in_ok-found.ensures.stop c.args.book.now.trains table
-    in
-    ap (λ (r : ReachOnTrack). r.obstacle) c.new-2.ensures
-    ∙ subst (λ (x : Track). found.obstacle ≡ stop x scene train) c.requires.track (walked_stop t scene train found.place found.obstacle walk)
+    ∙ walked c.args.book.now.trains table)))
+    c.reach_ahead.ensures.stop
 
 pub returns-clause-line : goal.returns-clause-line
 returns-clause-line c =
@@ -99,12 +99,10 @@ returns-clause-line c =
     let scene = scene_of locks c.args.book.now.trains in
     let train = c.args.train.now.train in
     let legs : train.line ≡ c.in_ok-line.line.legs = sym (ap (λ (l : LineOnTrack). l.legs) c.in_ok-line.ensures ∙ c.line.ensures.legs) in
-    let grown = c.in_ok-found.ensures.begins in
-    let longer = c.stop_ahead.new.line.legs in
-    subst
-    (λ (l : Line). BeginsWay b scene train l)
-    (sym (ap (λ (r : ReachOnTrack). r.line) c.new-2.ensures))
-    (begins locks grown.0 longer (way b scene train)
+    if_ok _ (λ found. BeginsWay b scene train found.line) c.reach_ahead.result
+    (λ found grown.
+    begins locks grown.0 found.line (way b scene train)
     (grown.1
     ∙ ap (λ (l : Line). lengthened_fully (length c.args.train.now.track.sections) (longer_ahead locks) l) (sym legs)
     ∙ ap (λ (x : Track). lengthened_fully (length x.sections) (longer_ahead locks) train.line) c.requires.track))
+    c.reach_ahead.ensures.begins

@@ -1,5 +1,4 @@
-use Rattle.std.proofs.Common.{◌≤◌, ◌&&◌, ◌-◌, ◌*◌, ◌/◌, length, take, drop, nat_le, ap, ◌∙◌, arith}
-use Rattle.std.specs.List.{list_all}
+use Rattle.std.proofs.Common.{◌≤◌, ◌&&◌, ◌-◌, ◌*◌, ◌/◌, length, take, nat_le, ap, ◌∙◌, arith}
 use Rattle.rbc_model.specs.Words.{is_text}
 use Rattle.rbc_words.proofs.EndsLemmas.{all_by_ends}
 use Rattle.rbc_words.proofs.FirstWordLemmas.{from_is_drop}

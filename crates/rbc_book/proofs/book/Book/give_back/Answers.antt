@@ -17,14 +17,14 @@ copied_some (Some x) = refl
 
 pub unwrap-train-requires : goal.unwrap-train-requires
 unwrap-train-requires c =
-    copied_some c.get_mut.result ∙ ap is_some c.get_mut.ensures.value
-    ∙ got-some (arc_value c.self.inside.track) c.args.self.now c.self.inside.trains.entries c.self.view_is c.self.invariant c.args.number
+    copied_some c.get_mut.result ∙ ap is_some (rw c.number.ensures at c.get_mut.ensures.value)
+    ∙ got-some (arc_value c.self.inside.track) c.args.self.now c.self.inside.trains.entries c.self.view_is c.self.invariant c.args.id
     ∙ c.requires.known
 
-before : (c : After-cut_at-arg-1) → IsFound c.args.self.now c.args.number c.unwrap-train.result.now
+before : (c : After-cut_at-arg-1) → IsFound c.args.self.now c.args.id c.unwrap-train.result.now
 before c =
-    found (arc_value c.self.inside.track) c.args.self.now c.self.inside.trains.entries c.self.view_is c.self.invariant c.args.number c.unwrap-train.result.now
-    (sym (ap option_copied_mut c.unwrap-train.ensures) ∙ c.get_mut.ensures.value)
+    found (arc_value c.self.inside.track) c.args.self.now c.self.inside.trains.entries c.self.view_is c.self.invariant c.args.id c.unwrap-train.result.now
+    (sym (ap option_copied_mut c.unwrap-train.ensures) ∙ (rw c.number.ensures at c.get_mut.ensures.value))
 
 pub cut_at-requires-clause-front : goal.cut_at-requires-clause-front
 cut_at-requires-clause-front c = let f = before c in c.requires.front c.unwrap-train.result.now.train f.there
@@ -35,10 +35,10 @@ cut_at-requires-clause-from c = let f = before c in c.requires.from c.unwrap-tra
 pub cut_at-requires-clause-to : goal.cut_at-requires-clause-to
 cut_at-requires-clause-to c = let f = before c in c.requires.to c.unwrap-train.result.now.train f.there
 
-was : (c : After-self-1) → IsFound c.args.self.now c.args.number c.unwrap-train.result.now
+was : (c : After-self-1) → IsFound c.args.self.now c.args.id c.unwrap-train.result.now
 was c =
-    found (arc_value c.self.inside.track) c.args.self.now c.self.inside.trains.entries c.self.view_is c.self.invariant c.args.number c.unwrap-train.result.now
-    (sym (ap option_copied_mut c.unwrap-train.ensures) ∙ c.get_mut.ensures.value)
+    found (arc_value c.self.inside.track) c.args.self.now c.self.inside.trains.entries c.self.view_is c.self.invariant c.args.id c.unwrap-train.result.now
+    (sym (ap option_copied_mut c.unwrap-train.ensures) ∙ (rw c.number.ensures at c.get_mut.ensures.value))
 
 shortens : (c : After-self-1) → IsCut c.unwrap-train.result.now.train c.args.to
 shortens c =
@@ -49,8 +49,8 @@ shortens c =
 put : (c : After-self-1)
     → AreThoseOf (arc_value c.self.inside.track) (book_with c.args.self.now (cut_at c.args.self.now.track c.unwrap-train.result.now.train c.args.to)) (c.get_mut.follows.lender c.cut_at.new.self).entries
 put c =
-    cut (arc_value c.self.inside.track) c.args.self.now c.self.inside.trains.entries c.self.view_is c.self.invariant (c.get_mut.follows.lender c.cut_at.new.self).entries c.args.number
-    c.unwrap-train.result.now c.cut_at.new.self c.args.to (was c) (shortens c) c.cut_at.ensures.train c.known.ensures c.cut_at.ensures.track (c.get_mut.follows.holds c.cut_at.new.self).0
+    cut (arc_value c.self.inside.track) c.args.self.now c.self.inside.trains.entries c.self.view_is c.self.invariant (c.get_mut.follows.lender c.cut_at.new.self).entries c.args.id
+    c.unwrap-train.result.now c.cut_at.new.self c.args.to (was c) (shortens c) c.cut_at.ensures.train c.known.ensures c.cut_at.ensures.track (rw c.number.ensures at (c.get_mut.follows.holds c.cut_at.new.self).0)
 
 pub invariant_of-self : goal.invariant_of-self
 invariant_of-self c = let p = put c in p.are

@@ -4,8 +4,9 @@ use Rattle.rbc_model.specs.CheckText.{check_line, ended}
 use Rattle.rbc_checks.proofs.PrintingLemmas.{prints_stopped}
 use Rattle.rbc_draw.specs.Pages.{shown_text, heading_text}
 use Rattle.rbc_draw.proofs.PageLemmas.{short_answered}
-use Rattle.rbc_draw.proofs.ShowLemmas.{whole_yet, going_yet, printed_behind}
+use Rattle.rbc_draw.proofs.ShowLemmas.{printed_behind}
 use Rattle.rbc_draw.proofs.page.DrawerAnswersUnit.answer.Goals as goal
+use Rattle.std.proofs.lemmas.Bool.{or_parts}
 
 pub returns-in_err-take-clause-reply : goal.returns-in_err-take-clause-reply
 returns-in_err-take-clause-reply g c =
@@ -18,7 +19,7 @@ returns-in_err-take-clause-reply g c =
     )
 
 pub print_heading-requires : goal.print_heading-requires
-print_heading-requires g c = going_yet c.take.new.self.lost _ c.in_ok-take.ensures.text.failed
+print_heading-requires g c = (or_parts c.take.new.self.lost _ c.in_ok-take.ensures.text.failed).1
 
 pub returns-clause-reply : goal.returns-clause-reply
 returns-clause-reply g c =
@@ -27,5 +28,5 @@ returns-clause-reply g c =
     let taken = c.in_ok-take.ensures in (
       reply,
       short_answered c.args.self.now c.take.new.self c.args.line.now reply c.if-line-gt-LONGEST_CHECK_LINE.false c.requires.ready (refl, taken.kept),
-      printed_behind _ _ _ c.take.new.self.lost _ _ _ _ taken.text.text (whole_yet c.take.new.self.lost _ taken.text.failed) c.print_heading.ensures,
+      printed_behind _ _ _ c.take.new.self.lost _ _ _ _ taken.text.text ((or_parts c.take.new.self.lost _ taken.text.failed).0) c.print_heading.ensures,
     )

@@ -1,7 +1,7 @@
 use Rattle.std.proofs.Common.{Ok}
-use Rattle.rbc_replies.specs.Replies.{reply_text}
+use Rattle.rbc_server.specs.Replies.{reply_text}
 use Rattle.rbc_session_laws.specs.declared.demand.Demand.TheVariants.{Authority}
-use Rattle.rbc_words.specs.SessionLines.{request_view}
+use Rattle.rbc_server.specs.SessionLines.{request_view}
 use Rattle.rbc_kept.proofs.KeepingLemmas.{unchanged}
 use Rattle.rbc_kept.proofs.TreatingLemmas.{goes_by}
 use Rattle.rbc_kept.proofs.kept.Kept.ask.Goals as goal

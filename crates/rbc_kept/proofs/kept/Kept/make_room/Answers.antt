@@ -2,7 +2,7 @@ use Rattle.std.proofs.Common.{◌∙◌, ap, sym, subst}
 use Rattle.rbc_journal.specs.Journal.{IsLine}
 use Rattle.rbc_model.specs.SessionText.{parse_session}
 use Rattle.rbc_model.proofs.SaidLineLemmas.{said_line_read}
-use Rattle.rbc_words.specs.SessionLines.{request_view}
+use Rattle.rbc_server.specs.SessionLines.{request_view}
 use Rattle.rbc_kept.proofs.TreatingLemmas.{said_is_line}
 use Rattle.rbc_kept.proofs.kept.Kept.make_room.Goals as goal
 

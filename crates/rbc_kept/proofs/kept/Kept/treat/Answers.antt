@@ -1,8 +1,8 @@
 use Rattle.std.proofs.Common.{◌∙◌, Ok, refl}
-use Rattle.rbc_replies.specs.Replies.{reply_text, refusal_view}
-use Rattle.rbc_replies.specs.declared.replies.SessionReply.TheVariants.{Nothing as NoReply}
+use Rattle.rbc_server.specs.Replies.{reply_text, refusal_view}
+use Rattle.rbc_server.specs.SessionReply.TheVariants.{Nothing as NoReply}
 use Rattle.rbc_session_laws.specs.declared.demand.Demand.TheVariants.{Nothing}
-use Rattle.rbc_words.specs.SessionLines.{request_view}
+use Rattle.rbc_server.specs.SessionLines.{request_view}
 use Rattle.rbc_kept.proofs.KeepingLemmas.{unchanged}
 use Rattle.rbc_kept.proofs.TreatingLemmas.{asked, goes_by, nothing_comes, refused_said}
 use Rattle.rbc_kept.proofs.kept.Kept.treat.Goals as goal

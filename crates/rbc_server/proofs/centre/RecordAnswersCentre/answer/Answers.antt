@@ -22,8 +22,8 @@ returns-in-Ok-Event-clause-reply g c =
 pub returns-in-Ok-Authority-clause-reply : goal.returns-in-Ok-Authority-clause-reply
 returns-in-Ok-Authority-clause-reply g c = (
   c.ask.ensures.0,
-  line_comes c.args.self.now c.ask.new.history c.args.line.now c.ask.ensures.0 (Ok (Authority c.in-Ok-Authority.train)) c.deref.result.now (c.deref.ensures ∙ c.track.ensures)
-      (demand_is c.deref.result.now c.args.line.now c.in-Ok-Authority.field-0 (Authority c.in-Ok-Authority.train) c.in-Ok-Authority.field-0-is c.in-Ok-Authority.ensures.demand) c.ask.ensures.1,
+  line_comes c.args.self.now c.ask.new.history c.args.line.now c.ask.ensures.0 (Ok (Authority c.in-Ok-Authority.number)) c.deref.result.now (c.deref.ensures ∙ c.track.ensures)
+      (demand_is c.deref.result.now c.args.line.now c.in-Ok-Authority.field-0 (Authority c.in-Ok-Authority.number) c.in-Ok-Authority.field-0-is c.in-Ok-Authority.ensures.demand) (rw c.new.ensures at c.ask.ensures.1),
   c.ask.ensures.2,
 )
 

@@ -1,6 +1,6 @@
 use Rattle.std.proofs.Common.{Err, ◌∙◌, ap, refl, sym}
 use Rattle.rbc_replies.specs.Replies.{reply_text}
-use Rattle.rbc_words.specs.SessionLines.{request_view}
+use Rattle.rbc_replies.specs.SessionLines.{request_view}
 use Rattle.rbc_server.proofs.SeatLemmas.{asked_below, asked_whole}
 use Rattle.rbc_server.proofs.TreatingLemmas.{denied_treated, granted_adds, granted_treated}
 use Rattle.rbc_server.proofs.counter.Counter.ask.Goals as goal

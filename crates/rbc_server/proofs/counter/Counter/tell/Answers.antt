@@ -1,6 +1,6 @@
 use Rattle.std.proofs.Common.{◌∙◌, ap, refl, subst, sym}
 use Rattle.rbc_model.specs.HistoryText.{IsToldOfTrack}
-use Rattle.rbc_words.specs.SessionLines.{request_view}
+use Rattle.rbc_replies.specs.SessionLines.{request_view}
 use Rattle.rbc_server.proofs.SeatLemmas.{not_told_named_at_desk}
 use Rattle.rbc_server.proofs.TreatingLemmas.{not_told_treated, told_adds, told_treated}
 use Rattle.rbc_server.proofs.counter.Counter.tell.Goals as goal

@@ -1,8 +1,8 @@
-use Rattle.std.proofs.Common.{Ok, ◌∙◌, sym, refl}
+use Rattle.std.proofs.Common.{Ok, ◌∙◌, ap, sym, refl}
 use Rattle.rbc_replies.specs.Replies.{refusal_view}
 use Rattle.rbc_session_laws.specs.Demands.{looked_up}
 use Rattle.rbc_session_laws.specs.declared.demand.Demand.TheVariants.{Nothing, Event, Authority}
-use Rattle.rbc_words.specs.SessionLines.{request_view}
+use Rattle.rbc_replies.specs.SessionLines.{request_view}
 use Rattle.rbc_server.proofs.TreatingLemmas.{asked_for, nothing_treated, refused_for, refused_treated, treated_as}
 use Rattle.rbc_server.proofs.counter.Counter.treat.Goals as goal
 
@@ -27,15 +27,16 @@ returns-in-Ok-Event g c =
 
 pub ask-requires-clause-demand : goal.ask-requires-clause-demand
 ask-requires-clause-demand g c κs within =
-    sym (asked_for c.args.self.now.track.now g.L.DeskName.opened.track (request_view c.args.request.now) c.in-Ok-Authority.field-0 (Authority c.in-Ok-Authority.train) c.args.self.now.of_desk
+    sym (asked_for c.args.self.now.track.now g.L.DeskName.opened.track (request_view c.args.request.now) c.in-Ok-Authority.field-0 (Authority c.in-Ok-Authority.number) c.args.self.now.of_desk
     c.in-Ok-Authority.field-0-is c.in-Ok-Authority.ensures.demand)
+    ∙ ap (λ train. Ok (Authority train)) (sym c.new-train.ensures)
 
 pub returns-in-Ok-Authority : goal.returns-in-Ok-Authority
 returns-in-Ok-Authority g c =
     let later = c.known.ensures in
-    treated_as g.K.Keeper.kept _ _ _ _ _ _ (Ok (Authority c.in-Ok-Authority.train)) (looked_up c.args.sitting.now.seat.told.track (request_view c.args.request.now))
-    (asked_for c.args.self.now.track.now c.args.sitting.now.seat.told.track (request_view c.args.request.now) c.in-Ok-Authority.field-0 (Authority c.in-Ok-Authority.train) (c.args.self.now.of_desk ∙ sym later.track)
-    c.in-Ok-Authority.field-0-is c.in-Ok-Authority.ensures.demand) c.ask.ensures
+    treated_as g.K.Keeper.kept _ _ _ _ _ _ (Ok (Authority c.in-Ok-Authority.number)) (looked_up c.args.sitting.now.seat.told.track (request_view c.args.request.now))
+    (asked_for c.args.self.now.track.now c.args.sitting.now.seat.told.track (request_view c.args.request.now) c.in-Ok-Authority.field-0 (Authority c.in-Ok-Authority.number) (c.args.self.now.of_desk ∙ sym later.track)
+    c.in-Ok-Authority.field-0-is c.in-Ok-Authority.ensures.demand) (rw c.new-train.ensures at c.ask.ensures)
 
 pub returns-in-Err : goal.returns-in-Err
 returns-in-Err g c =

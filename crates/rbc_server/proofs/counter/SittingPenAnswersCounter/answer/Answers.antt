@@ -1,7 +1,7 @@
 use Rattle.std.proofs.Common.{◌∙◌, sym}
 use Rattle.rbc_model.proofs.SaidLineLemmas.{read_is_sayable}
 use Rattle.rbc_session_laws.specs.Demands.{demand_in, looked_up}
-use Rattle.rbc_words.specs.SessionLines.{request_view}
+use Rattle.rbc_replies.specs.SessionLines.{request_view}
 use Rattle.rbc_server.proofs.KeepingLemmas.{line_asks}
 use Rattle.rbc_server.proofs.TreatingLemmas.{bad_line_treated, treated_as}
 use Rattle.rbc_server.proofs.counter.SittingPenAnswersCounter.answer.Goals as goal

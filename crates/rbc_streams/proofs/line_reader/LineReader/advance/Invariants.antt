@@ -1,12 +1,10 @@
-use Rattle.std.proofs.Common.{◌≡◌, ◌+◌, ◌≤◌, ℕ, List, ◌++◌, true, false, [], ◌-◌, length, take}
+use Rattle.std.proofs.Common.{◌≡◌, ◌+◌, ℕ, List, ◌++◌, true, false, [], ◌-◌, length}
 use Rattle.std.specs.Io.KnownBytes.{Consumes}
-use Rattle.rbc_streams.specs.LineReading.{HasNoLineFeed, KnowsEnd}
+use Rattle.rbc_streams.specs.LineReading.{KnowsEnd}
 use Rattle.rbc_streams.proofs.line_reader.LineReader.advance.Given as goal
 
 abbrev pub invariant-loop-step : goal.invariant-loop-step
 invariant-loop-step g l = record {
-  within : l.searched ≤ length l.self.pending;
-  none_yet : HasNoLineFeed (take l.searched l.self.pending);
   works : g.R.Source.failed l.reader ≡ false;
   longest : l.self.longest ≡ l.fn.self.longest;
   reads : (taken : List ℕ) × Consumes (g.R.Source.left l.fn.reader) (g.R.Source.left l.reader) taken

@@ -3,9 +3,9 @@ use Rattle.std.specs.List.{flat_map}
 use Rattle.rbc_sweep.specs.declared.order.Done.{Done}
 use Rattle.rbc_sweep.specs.declared.worker.Worker.{Worker}
 use Rattle.rbc_sweep.specs.Serving.{all_of, tally_of}
-use Rattle.rbc_sweep.proofs.CrewLemmas.{flat_map-map}
 use Rattle.rbc_sweep.proofs.SweepLemmas.{gathered}
 use Rattle.rbc_sweep.proofs.post.Post.work.Goals as goal
+use Rattle.std.proofs.lemmas.List.Folds.{flat_map-map}
 
 pub returns-clause-worked : goal.returns-clause-worked
 returns-clause-worked g c =

@@ -1,0 +1,11 @@
+//! A session that is shown: a page of the scenes that its lines lead to.
+#![tactic(auto)]
+
+mod showing;
+
+pub use rbc_desk_journal as desk_journal;
+pub use rbc_desk_journal::kept;
+pub use rbc_desk_journal::kept::server::words::{Word, print_line};
+pub use rbc_show::{check, draw};
+pub use rbc_streams::{SessionFault, Sink, Source, Stream, WriteFailed};
+pub use showing::show;
