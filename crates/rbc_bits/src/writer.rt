@@ -1,6 +1,6 @@
 //! Fields of so many bits each, written into bytes.
 
-ghost use Rattle.std.specs.Prelude.{◌≡◌, ℕ, ◌+◌, ◌^◌, ◌<◌, ◌≤◌, [], ◌++◌, OnOk, OnErr};
+ghost use Rattle.std.specs.Prelude.{◌≡◌, ℕ, ◌+◌, ◌^◌, ◌<◌, ◌≤◌, [], ◌++◌, IfOk, OnOk, OnErr};
 ghost use Rattle.rbc_model.specs.Bits.{bits_of, padded_bits, bytes_of};
 
 use rbc_model::Memory;
@@ -41,6 +41,21 @@ impl BitWriter {
             pending: 0,
             filled: 0,
         }
+    }
+
+    /// No bits, with room for so many.
+    ///
+    /// # Errors
+    ///
+    /// [`Memory`] where there is none for them.
+    pub fn with_room(alloc: Global, bits: u32) -> Result<BitWriter, Memory>
+        ensures { IfOk result (λ writer. writer ≡ []) }
+    {
+        Ok(BitWriter {
+            bytes: Vec::with_capacity(alloc, bits.div_ceil(8) as usize)?,
+            pending: 0,
+            filled: 0,
+        })
     }
 
     /// Writes a value in a field of so many bits, 0 to 32.

@@ -46,7 +46,7 @@ pub(crate) fn put_header(bits: &mut BitWriter, authority: &Authority) -> Result<
 }
 
 /// How many bytes the message takes, its padding included (L_MESSAGE).
-fn message_length(authority: &Authority) -> u32
+pub(crate) fn message_length(authority: &Authority) -> u32
     ensures length { result ≡ message_length authority.now }
     ensures fits { result < 2 ^ 10 }
 {

@@ -8,7 +8,7 @@ ghost use Rattle.rbc_packet.specs.Reads.{Reads};
 ghost use Rattle.rbc_packet.specs.Spellings.{IsOneSpelling};
 
 use crate::Authority;
-use crate::header::{put_header, read_header};
+use crate::header::{message_length, put_header, read_header};
 use crate::packet_15::{put_packet_15, read_packet_15};
 use crate::packet_21::read_packet_21;
 use crate::packet_27::read_packet_27;
@@ -25,7 +25,7 @@ use std::alloc::Global;
 pub fn write_message(alloc: Global, authority: &Authority) -> Result<Vec<u8>, Memory>
     ensures { IfOk result (λ bytes. bytes.items ≡ message_bytes authority.now) }
 {
-    let mut bits = BitWriter::new(alloc);
+    let mut bits = BitWriter::with_room(alloc, 8 * message_length(authority))?;
     let nominal = authority.nominal();
     put_header(&mut bits, authority)?;
     put_packet_15(&mut bits, authority.end(), nominal)?;

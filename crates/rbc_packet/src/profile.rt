@@ -37,7 +37,7 @@ pub fn write_profile<V: Encoded>(
     ensures { IfOk result (λ bytes.
         bytes.items ≡ bytes_of_fields (V.packet nominal profile.now.end profile.now.steps)) }
 {
-    let mut bits = BitWriter::new(alloc);
+    let mut bits = BitWriter::with_room(alloc, V::packet_bits(profile.steps().len() as u32))?;
     put_profile(&mut bits, profile, nominal)?;
     Ok(bits.finish())
 }

@@ -1,5 +1,6 @@
 //! The table of prices of a track.
-ghost use Rattle.std.specs.Prelude.{◌≡◌, ℕ, ◌<◌, ◌≤◌, map, min, IfOk, length, slice_index};
+ghost use Rattle.std.specs.Prelude.{◌≡◌, ℕ, ◌<◌, ◌≤◌, [], map, min, IfOk, OnOk, length, slice_index};
+ghost use Rattle.rbc_model.specs.declared.limits.TheConstants.{MOST_LOSS};
 ghost use Rattle.rbc_model.specs.PriceTables.{IsGreatestSoundTable};
 ghost use Rattle.rbc_model.specs.Scales.{unit_of};
 ghost use Rattle.rbc_table_laws.specs.PriceRows.{prices_of, AreWide};
@@ -14,8 +15,8 @@ use rbc_steps::{Level, Runs};
 use std::alloc::Global;
 
 /// Up to so many stretches a table is filled in totals of 64 bits: narrower ones would save less than it takes to widen
-/// them.
-const NARROW_FROM: usize = 16;
+/// them. And what one step costs from each of so few breaks is kept in place.
+const FEW: usize = 16;
 
 /// The numbers of totals.
 fn numbers_of<N: Total>(alloc: Global, totals: &[N]) -> Result<Vec<u64>, Memory>
@@ -36,6 +37,33 @@ fn widened<N: Total>(alloc: Global, rows: &[Vec<N>]) -> Result<Vec<Vec<u64>>, Me
     Ok(wide)
 }
 
+/// Fills rows, which are empty, with the prices up to each break but the first.
+fn fill_rows<V: Level, N: Total>(
+    track: &Runs<V>,
+    stretches: &[(Stretch, V)],
+    rows: &mut Vec<Vec<N>>,
+    costs: &mut [u64],
+    totals: &mut [N],
+) -> Result<(), Memory>
+    requires stretches { AreStretches V.levels (unit_of track.now.end) track.now stretches.now }
+    requires some { 0 < length rows.old.items }
+    requires empty { (j : ℕ) → row_in N.number rows.old.items j ≡ [] }
+    requires room { length stretches.now ≤ length costs.old }
+    requires room_of_totals { length stretches.now ≤ length totals.old }
+    requires small { (i to : ℕ) → i < to → to ≤ length stretches.now
+        → cost_of_step V.levels (unit_of track.now.end) track.now i to ≤ N.most }
+    ensures size { length rows.new.items ≡ length rows.old.items }
+    ensures filled { OnOk result (AreFilled (cost_of_step V.levels (unit_of track.now.end) track.now)
+        (length rows.old.items) (row_in N.number rows.new.items) (length stretches.now)) }
+{
+    let _runs = track.runs();
+    for last in 0..stretches.len() {
+        totals_on(track, stretches, last + 1, costs, totals);
+        add_column(rows, &totals[..last + 1])?;
+    }
+    Ok(())
+}
+
 /// So many rows of prices up to each break but the first.
 fn filled<V: Level, N: Total>(
     alloc: Global,
@@ -51,21 +79,40 @@ fn filled<V: Level, N: Total>(
     ensures filled { IfOk result (λ rows. AreFilled (cost_of_step V.levels (unit_of track.now.end) track.now) count
         (row_in N.number rows.items) (length stretches.now)) }
 {
-    let _runs = track.runs();
     let breaks = stretches.len();
     let mut costs = vec![in alloc; 0; breaks]?;
     let mut totals = vec![in alloc; N::of(0); breaks]?;
     let mut rows = empty_rows(alloc, count, breaks)?;
-    for last in 0..breaks {
-        totals_on(
-            track,
-            stretches,
-            last + 1,
-            costs.as_mut_slice(),
-            totals.as_mut_slice(),
-        );
-        add_column(&mut rows, &totals[..last + 1])?;
-    }
+    fill_rows(
+        track,
+        stretches,
+        &mut rows,
+        costs.as_mut_slice(),
+        totals.as_mut_slice(),
+    )?;
+    Ok(rows)
+}
+
+/// The same of few stretches: what one step costs takes no memory.
+fn filled_of_few<V: Level>(
+    alloc: Global,
+    track: &Runs<V>,
+    stretches: &[(Stretch, V)],
+    count: usize,
+) -> Result<Vec<Vec<u64>>, Memory>
+    requires stretches { AreStretches V.levels (unit_of track.now.end) track.now stretches.now }
+    requires some { 0 < count }
+    requires few { length stretches.now ≤ 16 }
+    requires small { (i to : ℕ) → i < to → to ≤ length stretches.now
+        → cost_of_step V.levels (unit_of track.now.end) track.now i to ≤ MOST_LOSS }
+    ensures count { IfOk result (λ rows. length rows.items ≡ count) }
+    ensures filled { IfOk result (λ rows. AreFilled (cost_of_step V.levels (unit_of track.now.end) track.now) count
+        (row_in (λ n. n) rows.items) (length stretches.now)) }
+{
+    let mut costs = [0; FEW];
+    let mut totals = [0; FEW];
+    let mut rows = empty_rows(alloc, count, stretches.len())?;
+    fill_rows(track, stretches, &mut rows, &mut costs, &mut totals)?;
     Ok(rows)
 }
 
@@ -106,8 +153,12 @@ pub(crate) fn fill<V: Priced>(
     ensures small { IfOk result (λ rows. (j : ℕ) → AreSmall (price_in rows.items j)) }
 {
     let _runs = track.runs();
-    if V::is_low() && stretches.len() > NARROW_FROM {
+    let count = limit.min(stretches.len());
+    if stretches.len() <= FEW {
+        return filled_of_few(alloc, track, stretches, count);
+    }
+    if V::is_low() {
         return fill_in::<V, u32>(alloc, track, stretches, limit);
     }
-    filled::<V, u64>(alloc, track, stretches, limit.min(stretches.len()))
+    filled::<V, u64>(alloc, track, stretches, count)
 }

@@ -1,5 +1,6 @@
 -- The lines of a reply as the pieces that are printed one behind another.
-use Rattle.std.proofs.Common.{◌≡◌, ℕ, List, [], ◌∷◌, ◌++◌, refl, sym, ap, ◌∙◌, append_assoc, append-nil, drop, get_or, length, ◌<◌, ◌≤◌, ◌+◌, suc, add-one, drop-cons}
+use Rattle.std.proofs.Common.{◌≡◌, ℕ, List, [], ◌∷◌, ◌++◌, refl, sym, ap, ◌∙◌, append_assoc, append-nil, arith, ◌==◌, true, take, drop, take-append-drop, get_or, length, ◌<◌, ◌≤◌, ◌+◌, suc, add-one, drop-cons}
+use Rattle.std.proofs.lemmas.Bool.{eqb-true}
 use Rattle.std.proofs.lemmas.List.{at_drop_all}
 use Rattle.std.specs.Prelude.{codes, decimal}
 use Rattle.std.specs.Global.{Vec}
@@ -82,6 +83,20 @@ runs_text-next {V} kind runs index run inside same =
 -- no run is left
 pub runs_text-end : {V : Type 0} (kind : Kind V) (runs : List (ℕ × V)) (index : ℕ) → length runs ≤ index → runs_text kind (drop index runs) ≡ []
 runs_text-end kind runs index past = at_drop_all (runs_text kind) runs index past
+
+-- runs are the first ones, as they are written, and then the rest
+pub runs_text-split : {V : Type 0} (kind : Kind V) (count : ℕ) (runs front rest : List (ℕ × V)) → front ≡ take count runs → rest ≡ drop count runs
+    → runs_text kind runs ≡ runs_text kind front ++ runs_text kind rest
+runs_text-split {V} kind count runs front rest first second =
+    ap (runs_text kind) (sym (take-append-drop count runs))
+    ∙ flat_map-append (λ (run : ℕ × V). 32 ∷ (decimal run.0 ++ 58 ∷ kind.print run.1)) (take count runs) (drop count runs)
+    ∙ ap (λ rs. runs_text kind rs ++ runs_text kind (drop count runs)) (sym first)
+    ∙ ap (λ rs. runs_text kind front ++ runs_text kind rs) (sym second)
+
+-- no runs, and no text
+pub runs_text-none : {V : Type 0} (kind : Kind V) (runs : List (ℕ × V)) → (length runs == 0) ≡ true → runs_text kind runs ≡ []
+runs_text-none kind [] none = refl
+runs_text-none kind (run ∷ runs) none = let nothing = eqb-true (length (run ∷ runs)) 0 none in absurd (omega arith)
 
 pub packet_lines-is : (packet : List ℕ) → packet_lines packet ≡ codes "packet " ++ (hex_of packet ++ codes "\ndone\n")
 packet_lines-is packet = ap (λ l. codes "packet " ++ l) (append_assoc (hex_of packet) (10 ∷ []) (codes "done\n"))

@@ -32,42 +32,34 @@ fn print_row<W: Sink>(number: u64, row: &[u64], writer: &mut W) -> Result<(), Wr
     ensures { Prints (W.written writer.old) (W.written writer.new) (W.failed writer.new)
         (line_of (codes "prices" ∷ decimal number ∷ map decimal row.now)) result }
 {
-    if row.len() <= SHORT {
-        return put(writer, short_row(number, row).bytes());
+    let mut text = Gathered::new();
+    if row.len() > SHORT {
+        gather_head(number, &mut text);
+        put(writer, text.bytes())?;
+        print_prices(row, writer)?;
+        return put(writer, b"\n");
     }
-    put(writer, head(number).bytes())?;
-    print_prices(row, writer)?;
-    put(writer, b"\n")
+    text.byte(b'\n');
+    gather_prices(row, &mut text);
+    gather_head(number, &mut text);
+    put(writer, text.bytes())
 }
 
 /// How many prices a row has at most whose line is written at once.
-const SHORT: usize = 4;
+const SHORT: usize = 10;
 
-/// The line of a row of a few prices.
-fn short_row(number: u64, prices: &[u64]) -> Gathered
-    requires { length prices.now ≤ 4 }
-    ensures { result ≡ line_of (codes "prices" ∷ decimal number ∷ map decimal prices.now) }
+/// Puts how the line of the row of this number begins before a text.
+#[inline(always)]
+fn gather_head(number: u64, text: &mut Gathered)
+    requires { length text.old + 27 ≤ 256 }
+    ensures { text.new ≡ codes "prices " ++ (decimal number ++ text.old) }
 {
-    let mut text = Gathered::new();
-    text.byte(b'\n');
-    gather_prices(prices, &mut text);
     text.number(number);
     text.text(b"prices ");
-    text
-}
-
-/// How the line of the row of this number begins.
-fn head(number: u64) -> Gathered
-    ensures { result ≡ codes "prices " ++ decimal number }
-{
-    let mut text = Gathered::new();
-    text.number(number);
-    text.text(b"prices ");
-    text
 }
 
 /// How many prices are written at once.
-const PIECE: usize = 6;
+const PIECE: usize = 12;
 
 /// Writes prices, each behind a space.
 fn print_prices<W: Sink>(prices: &[u64], writer: &mut W) -> Result<(), WriteFailed>
@@ -78,26 +70,28 @@ fn print_prices<W: Sink>(prices: &[u64], writer: &mut W) -> Result<(), WriteFail
     let mut rest = prices;
     while !rest.is_empty() {
         let (piece, more) = rest.split_at(rest.len().min(PIECE));
-        put(writer, gathered(piece).bytes())?;
+        print_piece(piece, writer)?;
         rest = more;
     }
     Ok(())
 }
 
-/// A few prices, each behind a space.
-fn gathered(prices: &[u64]) -> Gathered
-    requires { length prices.now ≤ 6 }
-    ensures { result ≡ spaced (map decimal prices.now) }
+/// Writes a few prices, each behind a space.
+fn print_piece<W: Sink>(piece: &[u64], writer: &mut W) -> Result<(), WriteFailed>
+    requires going { W.failed writer.old ≡ false }
+    requires few { length piece.now ≤ 12 }
+    ensures { Prints (W.written writer.old) (W.written writer.new) (W.failed writer.new)
+        (spaced (map decimal piece.now)) result }
 {
     let mut text = Gathered::new();
-    gather_prices(prices, &mut text);
-    text
+    gather_prices(piece, &mut text);
+    put(writer, text.bytes())
 }
 
 /// Puts prices, each behind a space, before a text.
 #[inline(always)]
 fn gather_prices(prices: &[u64], text: &mut Gathered)
-    requires { length text.old + 21 * length prices.now ≤ 128 }
+    requires { length text.old + 21 * length prices.now ≤ 256 }
     ensures text { text.new ≡ spaced (map decimal prices.now) ++ text.old }
     ensures length { length text.new ≤ length text.old + 21 * length prices.now }
 {

@@ -5,6 +5,7 @@ ghost use Rattle.std.specs.Fmt.{signed_decimal};
 ghost use Rattle.rbc_model.specs.Sessions.{Prints};
 ghost use Rattle.rbc_model.specs.Words.{hex_of};
 
+use crate::gathered::Gathered;
 use rbc_streams::{Sink, WriteFailed, put};
 
 /// Writes a number in base 10.
@@ -35,7 +36,7 @@ pub fn print_signed<W: Sink>(number: i64, writer: &mut W) -> Result<(), WriteFai
 }
 
 /// How many bytes are written at once as two digits each.
-const PIECE: usize = 32;
+const PIECE: usize = 128;
 
 /// Writes bytes as text, each as two digits of base 16, in lower case.
 ///
@@ -57,11 +58,10 @@ pub fn print_hex<W: Sink>(bytes: &[u8], writer: &mut W) -> Result<(), WriteFaile
 
 fn print_piece<W: Sink>(piece: &[u8], writer: &mut W) -> Result<(), WriteFailed>
     requires going { W.failed writer.old ≡ false }
-    requires short { length piece.now ≤ 32 }
+    requires short { length piece.now ≤ 128 }
     ensures { Prints (W.written writer.old) (W.written writer.new) (W.failed writer.new) (hex_of piece.now) result }
 {
-    let mut digits = [0; 2 * PIECE];
-    let digits = &mut digits[..2 * piece.len()];
-    hex::encode_to_slice(piece, digits).unwrap();
-    put(writer, digits)
+    let mut text = Gathered::new();
+    text.hex(piece);
+    put(writer, text.bytes())
 }

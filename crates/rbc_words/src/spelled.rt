@@ -15,7 +15,8 @@ pub trait Spelled: Level {
 
     /// The command that asks for a profile of such levels.
     fn command() -> &'static [u8]
-        ensures { result.now ≡ kind.command };
+        ensures command { result.now ≡ kind.command }
+        ensures short { length result.now ≤ 16 };
 
     /// The level that a word writes, if it is in range.
     fn read(word: &[u8]) -> Option<Self>
@@ -23,7 +24,7 @@ pub trait Spelled: Level {
 
     /// Puts the level as a word before a text.
     fn gather(self, text: &mut Gathered)
-        requires { length text.old + 21 ≤ 128 }
+        requires { length text.old + 21 ≤ 256 }
         ensures text { text.new ≡ kind.print self ++ text.old }
         ensures length { length text.new ≤ length text.old + 21 };
 

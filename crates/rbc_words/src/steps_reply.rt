@@ -1,6 +1,6 @@
 //! The replies of `rbc steps`, printed: a refusal, or a certificate with its packet.
 
-ghost use Rattle.std.specs.Prelude.{◌≡◌, false, ℕ, List, [], ◌∷◌, ◌++◌, decimal, codes};
+ghost use Rattle.std.specs.Prelude.{◌≡◌, ◌+◌, ◌*◌, ◌≤◌, false, ℕ, List, [], ◌∷◌, ◌++◌, decimal, codes, length};
 ghost use Rattle.rbc_model.specs.Sessions.{Prints};
 ghost use Rattle.rbc_model.specs.Words.{line_of};
 ghost use Rattle.rbc_model.specs.StepsReply.{fault_words, refusal_words, refusal_reply};
@@ -118,9 +118,20 @@ pub fn print_track<V: Spelled, W: Sink>(
     ensures { Prints (W.written writer.old) (W.written writer.new) (W.failed writer.new)
         (track_text V.kind limit track.now) result }
 {
-    print_command::<V, W>(limit, writer)?;
-    print_line_end(track.runs(), b" end ", u64::from(track.end()), writer)
+    let runs = track.runs();
+    let end = u64::from(track.end());
+    if runs.len() > SHORT {
+        print_command::<V, W>(limit, writer)?;
+        return print_line_end(runs, b" end ", end, writer);
+    }
+    let mut text = Gathered::new();
+    gather_line_end(runs, b" end ", end, &mut text);
+    gather_command::<V>(limit, &mut text);
+    put(writer, text.bytes())
 }
+
+/// How many runs or steps a line has at most that is written at once.
+const SHORT: usize = 4;
 
 /// Writes the command for such levels, and the limit of steps behind it.
 fn print_command<V: Spelled, W: Sink>(limit: usize, writer: &mut W) -> Result<(), WriteFailed>
@@ -128,11 +139,20 @@ fn print_command<V: Spelled, W: Sink>(limit: usize, writer: &mut W) -> Result<()
     ensures { Prints (W.written writer.old) (W.written writer.new) (W.failed writer.new)
         (V.kind.command ++ (32 ∷ decimal limit)) result }
 {
-    put(writer, V::command())?;
     let mut text = Gathered::new();
+    gather_command::<V>(limit, &mut text);
+    put(writer, text.bytes())
+}
+
+/// Puts the command for such levels, and the limit of steps behind it, before a text.
+#[inline(always)]
+fn gather_command<V: Spelled>(limit: usize, text: &mut Gathered)
+    requires { length text.old + 37 ≤ 256 }
+    ensures { text.new ≡ (V.kind.command ++ (32 ∷ decimal limit)) ++ text.old }
+{
     text.number(limit as u64);
     text.byte(b' ');
-    put(writer, text.bytes())
+    text.text(V::command());
 }
 
 /// Writes the line of a profile, with what it loses, summed over all metres: km/h, or per mille.
@@ -149,8 +169,15 @@ pub fn print_profile<V: Spelled, W: Sink>(
     ensures { Prints (W.written writer.old) (W.written writer.new) (W.failed writer.new)
         (profile_line V.kind profile.now.steps loss) result }
 {
-    put(writer, b"steps")?;
-    print_line_end(profile.steps(), b" loss ", loss, writer)
+    let steps = profile.steps();
+    if steps.len() > SHORT {
+        put(writer, b"steps")?;
+        return print_line_end(steps, b" loss ", loss, writer);
+    }
+    let mut text = Gathered::new();
+    gather_line_end(steps, b" loss ", loss, &mut text);
+    text.text(b"steps");
+    put(writer, text.bytes())
 }
 
 /// Writes the end of a line: runs or steps, and the number at its end behind what it is.
@@ -168,15 +195,42 @@ fn print_line_end<V: Spelled, W: Sink>(
     print_last(name, number, writer)
 }
 
+/// Puts the end of a line before a text: runs or steps, and the number at its end behind what it is.
+#[inline(always)]
+fn gather_line_end<V: Spelled>(runs: &[(u32, V)], name: &[u8], number: u64, text: &mut Gathered)
+    requires { length text.old + length name.now + 43 * length runs.now + 21 ≤ 256 }
+    ensures text { text.new ≡ runs_text V.kind runs.now ++ (name.now ++ (decimal number ++ 10 ∷ text.old)) }
+    ensures length { length text.new ≤ length text.old + length name.now + 43 * length runs.now + 21 }
+{
+    text.byte(b'\n');
+    text.number(number);
+    text.text(name);
+    gather_runs(runs, text);
+}
+
+/// How many bytes a packet has at most whose lines are written at once.
+const SHORT_PACKET: usize = 120;
+
+/// Writes the line of a packet, and the last line of a reply.
 fn print_packet<W: Sink>(packet: &[u8], writer: &mut W) -> Result<(), WriteFailed>
     requires { W.failed writer.old ≡ false }
     ensures { Prints (W.written writer.old) (W.written writer.new) (W.failed writer.new)
         (packet_lines packet.now) result }
 {
-    put(writer, b"packet ")?;
-    print_hex(packet, writer)?;
-    put(writer, b"\ndone\n")
+    if packet.len() > SHORT_PACKET {
+        put(writer, b"packet ")?;
+        print_hex(packet, writer)?;
+        return put(writer, b"\ndone\n");
+    }
+    let mut text = Gathered::new();
+    text.text(b"\ndone\n");
+    text.hex(packet);
+    text.text(b"packet ");
+    put(writer, text.bytes())
 }
+
+/// How many runs or steps of a longer line are written at once.
+const PIECE: usize = 5;
 
 /// Writes runs or steps (start, value), each behind a space.
 fn print_runs<V: Spelled, W: Sink>(runs: &[(u32, V)], writer: &mut W) -> Result<(), WriteFailed>
@@ -184,21 +238,39 @@ fn print_runs<V: Spelled, W: Sink>(runs: &[(u32, V)], writer: &mut W) -> Result<
     ensures { Prints (W.written writer.old) (W.written writer.new) (W.failed writer.new)
         (runs_text V.kind runs.now) result }
 {
-    for run in runs {
-        print_run(run.0, run.1, writer)?;
+    let mut rest = runs;
+    while !rest.is_empty() {
+        let (piece, more) = rest.split_at(rest.len().min(PIECE));
+        print_piece(piece, writer)?;
+        rest = more;
     }
     Ok(())
 }
 
-fn print_run<V: Spelled, W: Sink>(start: u32, value: V, writer: &mut W) -> Result<(), WriteFailed>
-    requires { W.failed writer.old ≡ false }
+/// Writes a few runs or steps, each behind a space.
+fn print_piece<V: Spelled, W: Sink>(piece: &[(u32, V)], writer: &mut W) -> Result<(), WriteFailed>
+    requires going { W.failed writer.old ≡ false }
+    requires few { length piece.now ≤ 5 }
     ensures { Prints (W.written writer.old) (W.written writer.new) (W.failed writer.new)
-        (32 ∷ (decimal start ++ 58 ∷ V.kind.print value)) result }
+        (runs_text V.kind piece.now) result }
 {
     let mut text = Gathered::new();
-    value.gather(&mut text);
-    text.byte(b':');
-    text.number(u64::from(start));
-    text.byte(b' ');
+    gather_runs(piece, &mut text);
     put(writer, text.bytes())
+}
+
+/// Puts runs or steps, each behind a space, before a text.
+#[inline(always)]
+fn gather_runs<V: Spelled>(runs: &[(u32, V)], text: &mut Gathered)
+    requires { length text.old + 43 * length runs.now ≤ 256 }
+    ensures text { text.new ≡ runs_text V.kind runs.now ++ text.old }
+    ensures length { length text.new ≤ length text.old + 43 * length runs.now }
+{
+    for i in (0..runs.len()).rev() {
+        let (start, value) = runs[i];
+        value.gather(text);
+        text.byte(b':');
+        text.number(u64::from(start));
+        text.byte(b' ');
+    }
 }

@@ -8,7 +8,7 @@ pub returns : goal.returns
 returns c =
     let a = c.args.authority.now in
     let nominal = c.nominal-nominal.ensures in
-    let headed : c.put_header.new.bits ≡ bits_of_fields (header a) = c.in_ok-put_header.ensures ∙ ap (λ bits. bits ++ bits_of_fields (header a)) c.new-bits.ensures in
+    let headed : c.put_header.new.bits ≡ bits_of_fields (header a) = c.in_ok-put_header.ensures ∙ ap (λ bits. bits ++ bits_of_fields (header a)) c.in_ok-bits.ensures in
     let bits = c.put_header.new.bits in
     let ended : c.put_packet_15.new.bits ≡ bits_of_fields (header a ++ packet_15 a.nominal a.end) =
     more_written bits c.put_packet_15.new.bits (header a) (packet_15 a.nominal a.end) headed

@@ -1,23 +1,23 @@
-use Rattle.std.proofs.Common.{Ok, sym, ◌∙◌}
+use Rattle.std.proofs.Common.{Ok, refl, sym, ◌∙◌}
 use Rattle.rbc_words.proofs.SpacedLemmas.{prices-split, prices-none}
 use Rattle.rbc_words.proofs.PrintingLemmas.{prints_nothing, prints_then, prints_stopped}
 use Rattle.rbc_words.proofs.price_table.print_prices.Goals as goal
 
-pub returns-in_err-put : goal.returns-in_err-put
-returns-in_err-put g c =
-    let put = c.in_err-put.ensures in
-    let pieces = prices-split _ _ _ _ _ c.split_at.ensures.front c.split_at.ensures.back (c.bytes.ensures ∙ c.gathered.ensures) in
+pub returns-in_err-print_piece : goal.returns-in_err-print_piece
+returns-in_err-print_piece g c =
+    let piece = c.in_err-print_piece.ensures in
+    let pieces = prices-split _ _ _ _ _ c.split_at.ensures.front c.split_at.ensures.back refl in
     c.loop-rest.invariant.whole _ _ _
-    (prints_stopped _ _ _ _ _ _ _ put.text put.failed pieces c.from_residual.ensures.0)
+    (prints_stopped _ _ _ _ _ _ _ piece.text piece.failed pieces c.from_residual.ensures.0)
 
 pub loop-rest-preserved : goal.loop-rest-preserved
 loop-rest-preserved g c =
-    let put = c.in_ok-put.ensures in
-    let pieces = prices-split _ _ _ _ _ c.split_at.ensures.front c.split_at.ensures.back (c.bytes.ensures ∙ c.gathered.ensures) in
+    let piece = c.in_ok-print_piece.ensures in
+    let pieces = prices-split _ _ _ _ _ c.split_at.ensures.front c.split_at.ensures.back refl in
     record {
-      going = put.failed;
+      going = piece.failed;
       whole = λ end failed r rest. c.loop-rest.invariant.whole end failed r
-          (prints_then _ _ end failed _ _ _ r put.text pieces rest);
+          (prints_then _ _ end failed _ _ _ r piece.text pieces rest);
     }
 
 pub returns : goal.returns
