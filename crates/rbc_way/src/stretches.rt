@@ -6,12 +6,13 @@ ghost use Rattle.rbc_model.specs.Scenes.{others};
 ghost use Rattle.rbc_model.specs.Tracks.{metres_of};
 ghost use Rattle.rbc_model.specs.declared.limits.TheConstants.{LONGEST_TRACK};
 ghost use Rattle.rbc_way.specs.Reaches.{scene_of};
-ghost use Rattle.rbc_way.specs.Stretches.{IsTableOf, span_has, span_met_on, span_on, stretch_of, stretches_along, stretches_at};
+ghost use Rattle.rbc_way.specs.Stretches.{IsTableOf, span_has, span_met_on, span_on, stretch_of, stretches_along, stretches_at, stretches_in};
 
 use rbc_book::{Book, Train};
 use rbc_model::{Direction, Leg, Memory, SectionId, TrainId};
 use rbc_track::Track;
 use std::alloc::Global;
+use std::slice;
 
 /// Metres of a leg from one up to another, which is left out. There are none where the first is not the lower one.
 #[derive(Clone, Copy)]
@@ -30,8 +31,17 @@ pub(crate) struct Stretch {
     pub(crate) authority: Span,
 }
 
-/// For each section of a track what trains have of it, in their order.
-pub(crate) type Stretches = Vec<Vec<Stretch>>;
+/// What trains have of a section, in their order. What a single train has takes no memory of its own: few sections have
+/// more.
+#[derive(Drop)]
+pub(crate) enum Row {
+    Free,
+    One(Stretch),
+    Several(Vec<Stretch>),
+}
+
+/// For each section of a track what trains have of it.
+pub(crate) type Stretches = Vec<Row>;
 
 /// What the places from `from` up to `to` are on a leg of so many metres that begins at `begin`.
 fn span_on(metres: u32, begin: u32, from: u32, to: u32) -> Span
@@ -65,6 +75,34 @@ impl Span {
     }
 }
 
+impl Row {
+    /// Puts a stretch behind the others.
+    fn push(&mut self, alloc: Global, stretch: Stretch) -> Result<(), Memory>
+        ensures { OnOk result (stretches_in self.new ≡ stretches_in self.old ++ stretch ∷ []) }
+    {
+        match self {
+            Row::Free => *self = Row::One(stretch),
+            Row::One(first) => {
+                let several = vec![in alloc; *first, stretch]?;
+                *self = Row::Several(several);
+            }
+            Row::Several(several) => several.push(stretch)?,
+        }
+        Ok(())
+    }
+
+    /// The stretches, in order.
+    pub(crate) fn as_slice(&self) -> &[Stretch]
+        ensures { result.now ≡ stretches_in self.now }
+    {
+        match self {
+            Row::Free => &[],
+            Row::One(stretch) => slice::from_ref(stretch),
+            Row::Several(several) => several.as_slice(),
+        }
+    }
+}
+
 /// What the train has of the section of a leg of its line that begins at `begin` and has so many metres.
 fn stretch_of(train: &Train, begin: u32, leg: Leg, metres: u32) -> Stretch
     requires { metres ≡ metres_of train.now.track leg.section }
@@ -83,15 +121,20 @@ fn no_stretches(alloc: Global, sections: usize) -> Result<Stretches, Memory>
     ensures size { IfOk result (λ table. length table.items ≡ sections) }
     ensures empty { IfOk result (λ table. (section : ℕ) → stretches_at table.items section ≡ []) }
 {
-    let mut table = Vec::new(alloc);
+    let mut table = Vec::with_capacity(alloc, sections)?;
     for _count in 0..sections {
-        table.push(Vec::new(alloc))?;
+        table.push(Row::Free)?;
     }
     Ok(table)
 }
 
 /// Puts a stretch behind those of its section.
-fn add_stretch(table: &mut Stretches, section: SectionId, stretch: Stretch) -> Result<(), Memory>
+fn add_stretch(
+    alloc: Global,
+    table: &mut Stretches,
+    section: SectionId,
+    stretch: Stretch,
+) -> Result<(), Memory>
     requires { section < length table.old.items }
     ensures size { length table.new.items ≡ length table.old.items }
     ensures added { OnOk result
@@ -99,12 +142,11 @@ fn add_stretch(table: &mut Stretches, section: SectionId, stretch: Stretch) -> R
     ensures others { OnOk result ((other : ℕ) → other ≢ section
         → stretches_at table.new.items other ≡ stretches_at table.old.items other) }
 {
-    table[section.index()].push(stretch)?;
-    Ok(())
+    table[section.index()].push(alloc, stretch)
 }
 
 /// Puts in what the train has of the sections of its line.
-fn add_train(table: &mut Stretches, train: &Train) -> Result<(), Memory>
+fn add_train(alloc: Global, table: &mut Stretches, train: &Train) -> Result<(), Memory>
     requires { length table.old.items ≡ length train.now.track.sections }
     ensures size { length table.new.items ≡ length table.old.items }
     ensures added { OnOk result ((section : ℕ) → stretches_at table.new.items section
@@ -117,7 +159,8 @@ fn add_train(table: &mut Stretches, train: &Train) -> Result<(), Memory>
     let mut begin = 0;
     for leg in legs {
         let metres = line.track().metres_of(leg);
-        add_stretch(table, leg.section, stretch_of(train, begin, *leg, metres))?;
+        let stretch = stretch_of(train, begin, *leg, metres);
+        add_stretch(alloc, table, leg.section, stretch)?;
         begin += metres;
     }
     Ok(())
@@ -134,7 +177,7 @@ pub(crate) fn stretches_of(alloc: Global, book: &Book, train: &Train) -> Result<
     let mut table = no_stretches(alloc, sections)?;
     for other in book.trains() {
         if other.id() != id {
-            add_train(&mut table, other)?;
+            add_train(alloc, &mut table, other)?;
         }
     }
     Ok(table)
