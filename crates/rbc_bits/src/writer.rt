@@ -32,17 +32,6 @@ impl Model for BitWriter {
 }
 
 impl BitWriter {
-    /// No bits.
-    pub fn new(alloc: Global) -> BitWriter
-        ensures { result ≡ [] }
-    {
-        BitWriter {
-            bytes: Vec::new(alloc),
-            pending: 0,
-            filled: 0,
-        }
-    }
-
     /// No bits, with room for so many.
     ///
     /// # Errors
