@@ -1,10 +1,10 @@
 -- The figure of a certificate: its shapes, in whole pixels, and their text in SVG.
-use Rattle.std.specs.Prelude.{ℕ, ◌+◌, ◌-◌, List, [], ◌∷◌, ◌++◌, flat_map, map, Option, Some, None, ℤ, pos, codes, decimal}
+use Rattle.std.specs.Prelude.{ℕ, ◌+◌, ◌-◌, ◌==◌, if◌then◌else◌, nat_le, List, [], ◌∷◌, ◌++◌, length, flat_map, map, Option, Some, None, ℤ, pos, codes, decimal}
 use Rattle.std.specs.Fmt.{signed_decimal}
 use Rattle.std.specs.Option.{option_map_or}
 use Rattle.rbc_model.specs.CheckText.{CheckLine, SpeedHead, GradeHead, ProfileLine}
 use Rattle.rbc_model.specs.StepsText.{StepsRequest}
-use Rattle.rbc_draw.specs.declared.chart.TheConstants.{LEFT, TOP, DEPTH}
+use Rattle.rbc_draw.specs.declared.chart.TheConstants.{LEFT, TOP, DEPTH, MOST_VALUES}
 use Rattle.rbc_draw.specs.declared.chart.Measure.{Measure}
 use Rattle.rbc_draw.specs.declared.chart.Measure.TheVariants.{Speed, Grade}
 use Rattle.rbc_draw.specs.declared.chart.Place.{Place}
@@ -86,7 +86,7 @@ abbrev pub loss_text : Measure → List ℕ
 loss_text Speed = codes " km/h m"
 loss_text Grade = codes " &#8240; m"
 
--- the loss as an area, the track as a thin stair, the steps as a thick one, the value 0, and the end
+-- the loss as an area, the track as a thin stair, the steps as a thick one, the value 0, the end, and the greatest value at the left
 abbrev pub chart_shapes : Chart → List Place → List Place → List Shape
 chart_shapes chart track steps =
     Area (codes "loss") (first_point chart) (corners chart track) (corners chart steps) (last_point chart)
@@ -94,14 +94,32 @@ chart_shapes chart track steps =
     ∷ Stair (codes "steps") (first_point chart) (corners chart steps) (last_point chart)
     ∷ Line (codes "axis") (first_point chart) (last_point chart)
     ∷ Line (codes "end") (at (across chart chart.end) (TOP - 12)) (at (across chart chart.end) (TOP + DEPTH + 12))
+    ∷ Label (codes "before") (at (LEFT - 8) (down chart chart.high + 4)) (value_of chart.measure chart.high) []
     ∷ []
 
--- the greatest and the least value at the left, the value 0 with its unit at the right, and metre 0 and the end below
+-- the least value at the left, where it is not the greatest one too: that stands there already
+abbrev pub least_shapes : Chart → List Shape
+least_shapes chart =
+    if chart.low == chart.high then []
+    else Label (codes "before") (at (LEFT - 8) (down chart chart.low + 4)) (value_of chart.measure chart.low) [] ∷ []
+
+-- the value of a place, above its corner
+abbrev pub corner_shape : Chart → Place → Shape
+corner_shape chart place =
+    Label (codes "behind") (at (across chart place.start + 4) (down chart place.height - 5)) (value_of chart.measure place.height) []
+
+-- those of a stair, if they are few enough to be read
+abbrev pub corner_shapes : Chart → List Place → List Shape
+corner_shapes chart places = if nat_le (length places) MOST_VALUES then map (corner_shape chart) places else []
+
+-- the values beside a stair: the least one at the left, and those above its corners
+abbrev pub value_shapes : Chart → List Place → List Shape
+value_shapes chart places = least_shapes chart ++ corner_shapes chart places
+
+-- the value 0 with its unit at the right, and metre 0 and the end below
 abbrev pub scale_shapes : Chart → List Shape
 scale_shapes chart =
-    Label (codes "before") (at (LEFT - 8) (down chart chart.high + 4)) (value_of chart.measure chart.high) []
-    ∷ Label (codes "before") (at (LEFT - 8) (down chart chart.low + 4)) (value_of chart.measure chart.low) []
-    ∷ Label (codes "behind") (at (across chart chart.end + 8) (down chart (base_of chart.measure) + 4)) (value_of chart.measure (base_of chart.measure)) (unit_text chart.measure)
+    Label (codes "behind") (at (across chart chart.end + 8) (down chart (base_of chart.measure) + 4)) (value_of chart.measure (base_of chart.measure)) (unit_text chart.measure)
     ∷ Count (codes "behind") (at (across chart 0) (TOP + DEPTH + 28)) [] 0 (codes " m")
     ∷ Count (codes "before") (at (across chart chart.end) (TOP + DEPTH + 28)) [] chart.end (codes " m")
     ∷ []
@@ -119,7 +137,8 @@ legend_shapes measure end limit loss =
 
 abbrev pub shapes_of : Figure → List Shape
 shapes_of figure =
-    chart_shapes (chart_in figure) figure.track figure.steps ++ (scale_shapes (chart_in figure) ++ legend_shapes figure.measure figure.end figure.limit figure.loss)
+    chart_shapes (chart_in figure) figure.track figure.steps
+    ++ (value_shapes (chart_in figure) figure.steps ++ (scale_shapes (chart_in figure) ++ legend_shapes figure.measure figure.end figure.limit figure.loss))
 
 -- ---- their text
 

@@ -55,7 +55,7 @@ head_text = joined (
     ∷ codes "<meta name='viewport' content='width=device-width, initial-scale=1'>\n<title>Certificates</title>\n<style>\n"
     ∷ codes "body{max-width:60rem;margin:1rem auto;padding:0 1rem;font-family:sans-serif}\n"
     ∷ codes "svg{width:100%;break-inside:avoid;break-after:avoid;margin-top:2rem}\n"
-    ∷ codes "line,path{fill:none;stroke:#000;stroke-width:1.5}\ntext{font-size:14px}\n@media(max-width:40rem){text{font-size:20px}svg{min-width:28rem}}\n.before{text-anchor:end}\n"
+    ∷ codes "line,path{fill:none;stroke:#000;stroke-width:1.5}\ntext{font-size:14px;paint-order:stroke;stroke:#fff;stroke-width:3}\n@media(max-width:40rem){text{font-size:20px}svg{min-width:28rem}}\n.before{text-anchor:end}\n"
     ∷ codes ".loss{fill:#f2c14e;fill-rule:evenodd;stroke:none}\n.shade{stroke:#f2c14e;stroke-width:14}\n"
     ∷ codes ".steps{stroke:#0b4f8a;stroke-width:4}\n.axis{stroke:#777;stroke-width:1}\n.end{stroke-dasharray:6 3}\n"
     ∷ codes ".way{stroke:#0b4f8a;stroke-width:8}\n.front{stroke-width:4}\n.obstacle{stroke:#a11;stroke-width:36}\n"

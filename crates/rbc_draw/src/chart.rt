@@ -16,6 +16,9 @@ pub const TOP: u64 = 60;
 /// How many pixels a chart is high.
 pub const DEPTH: u64 = 180;
 
+/// How many values are told beside the corners of a stair at most: more could not be read.
+pub const MOST_VALUES: usize = 12;
+
 /// What a chart shows.
 #[derive(Clone, Copy)]
 pub enum Measure {

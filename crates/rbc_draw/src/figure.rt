@@ -8,7 +8,7 @@ ghost use Rattle.rbc_draw.specs.Figures.{places_of, figure_of, figure_in, title_
 ghost use Rattle.rbc_draw.specs.Shapes.{figure_view};
 
 use crate::pieces::{Piece, print_pieces};
-use crate::shapes::{loss_text, print_chart, print_legend, print_scale};
+use crate::shapes::{loss_text, print_chart, print_legend, print_scale, print_values};
 use crate::{Chart, Measure, Place};
 use rbc_checks::{Block, CheckLine, Grade, Level, Speed, StepsRequest, ToldProfile};
 use rbc_model::Memory;
@@ -174,6 +174,7 @@ fn print_shapes<W: Sink>(figure: &Figure, writer: &mut W) -> Result<(), WriteFai
     let steps = figure.steps.as_slice();
     let chart = Chart::new(figure.measure, figure.end, track, steps);
     print_chart(chart, track, steps, writer)?;
+    print_values(chart, steps, writer)?;
     print_scale(chart, writer)?;
     print_legend(
         figure.measure,

@@ -14,4 +14,4 @@ pub use page::draw;
 pub use pieces::{Printed, print_each};
 pub use rbc_checks::{check, print_number, print_signed};
 pub use rbc_streams::{Sink, WriteFailed, put};
-pub use shapes::Shape;
+pub use shapes::{Shape, print_values};

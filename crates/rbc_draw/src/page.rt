@@ -360,7 +360,7 @@ fn print_head<W: Sink>(writer: &mut W) -> Result<(), WriteFailed>
         ),
         Atom::Text(b"svg{width:100%;break-inside:avoid;break-after:avoid;margin-top:2rem}\n"),
         Atom::Text(
-            b"line,path{fill:none;stroke:#000;stroke-width:1.5}\ntext{font-size:14px}\n@media(max-width:40rem){text{font-size:20px}svg{min-width:28rem}}\n.before{text-anchor:end}\n",
+            b"line,path{fill:none;stroke:#000;stroke-width:1.5}\ntext{font-size:14px;paint-order:stroke;stroke:#fff;stroke-width:3}\n@media(max-width:40rem){text{font-size:20px}svg{min-width:28rem}}\n.before{text-anchor:end}\n",
         ),
         Atom::Text(
             b".loss{fill:#f2c14e;fill-rule:evenodd;stroke:none}\n.shade{stroke:#f2c14e;stroke-width:14}\n",

@@ -2,11 +2,11 @@
 
 ghost use Rattle.std.specs.Prelude.{◌≡◌, false, flat_map};
 ghost use Rattle.rbc_model.specs.Sessions.{Prints};
-ghost use Rattle.rbc_draw.specs.Figures.{Area as AreaOf, Stair as StairOf, Line as LineOf, shape_text, label_text, first_point, last_point, corners, unit_text, loss_text, chart_shapes, scale_shapes, legend_shapes};
+ghost use Rattle.rbc_draw.specs.Figures.{Area as AreaOf, Stair as StairOf, Line as LineOf, shape_text, label_text, first_point, last_point, corners, unit_text, loss_text, chart_shapes, corner_shape, corner_shapes, least_shapes, scale_shapes, value_shapes, legend_shapes};
 ghost use Rattle.rbc_draw.specs.Pieces.{atom_text};
 ghost use Rattle.rbc_draw.specs.Shapes.{shape_view};
 
-use crate::chart::{DEPTH, LEFT, TOP};
+use crate::chart::{DEPTH, LEFT, MOST_VALUES, TOP};
 use crate::pieces::{Atom, Piece, Printed, print_atoms, print_each, print_pieces};
 use crate::{Chart, Measure, Place, Point};
 use rbc_streams::{Sink, WriteFailed};
@@ -171,7 +171,8 @@ pub(crate) fn loss_text(measure: Measure) -> &'static [u8]
     }
 }
 
-/// Writes the loss as an area, the track as a thin stair, the steps as a thick one, the value 0, and the end.
+/// Writes the loss as an area, the track as a thin stair, the steps as a thick one, the value 0, the end, and the
+/// greatest value at the left.
 pub(crate) fn print_chart<W: Sink>(
     chart: Chart,
     track: &[Place],
@@ -188,31 +189,103 @@ pub(crate) fn print_chart<W: Sink>(
         x,
         y: TOP + DEPTH + 12,
     };
+    let highest = Point {
+        x: LEFT - 8,
+        y: chart.down(chart.high) + 4,
+    };
     let shapes = [
         Shape::Area(b"loss", chart, track, steps),
         Shape::Stair(b"track", chart, track),
         Shape::Stair(b"steps", chart, steps),
         Shape::Line(b"axis", chart.first(), chart.last()),
         Shape::Line(b"end", upper, lower),
+        Shape::Label(b"before", highest, chart.measure, chart.high, b""),
     ];
     print_each(&(), &shapes, writer)
 }
 
-/// Writes the greatest and the least value at the left, the value 0 with its unit at the right, and metre 0 and the
-/// end below.
+/// Writes the least value at the left, where it is not the greatest one too.
+fn print_least<W: Sink>(chart: Chart, writer: &mut W) -> Result<(), WriteFailed>
+    requires { W.failed writer.old ≡ false }
+    ensures { Prints (W.written writer.old) (W.written writer.new) (W.failed writer.new)
+        (flat_map shape_text (least_shapes chart)) result }
+{
+    if chart.low == chart.high {
+        return Ok(());
+    }
+    let lowest = Point {
+        x: LEFT - 8,
+        y: chart.down(chart.low) + 4,
+    };
+    let shapes = [Shape::Label(b"before", lowest, chart.measure, chart.low, b"")];
+    print_each(&(), &shapes, writer)
+}
+
+/// What values above corners stand on.
+#[derive(Clone, Copy)]
+pub(crate) struct Corners {
+    /// The chart.
+    chart: Chart,
+}
+
+/// The value of a place, above its corner.
+impl Printed<Corners> for Place {
+    ghost text = { λ corners place. shape_text (corner_shape corners.chart place) };
+
+    fn print<W: Sink>(&self, corners: &Corners, writer: &mut W) -> Result<(), WriteFailed> {
+        let chart = corners.chart;
+        let point = Point {
+            x: chart.across(self.start) + 4,
+            y: chart.down(self.height) - 5,
+        };
+        let value = Shape::Label(b"behind", point, chart.measure, self.height, b"");
+        value.print(&(), writer)
+    }
+}
+
+/// Writes the values above the corners of a stair, if they are few enough to be read.
+fn print_corners<W: Sink>(chart: Chart, places: &[Place], writer: &mut W) -> Result<(), WriteFailed>
+    requires { W.failed writer.old ≡ false }
+    ensures { Prints (W.written writer.old) (W.written writer.new) (W.failed writer.new)
+        (flat_map shape_text (corner_shapes chart places.now)) result }
+{
+    if places.len() <= MOST_VALUES {
+        print_each(&Corners { chart }, places, writer)
+    } else {
+        Ok(())
+    }
+}
+
+/// Writes the values beside a stair: the least one at the left, where it is not the greatest one too, and those above
+/// its corners, if they are few enough to be read.
+///
+/// # Errors
+///
+/// `WriteFailed`, where the writer fails. Then a part of the text stands, from its start.
+pub fn print_values<W: Sink>(
+    chart: Chart,
+    places: &[Place],
+    writer: &mut W,
+) -> Result<(), WriteFailed>
+    requires { W.failed writer.old ≡ false }
+    ensures { Prints (W.written writer.old) (W.written writer.new) (W.failed writer.new)
+        (flat_map shape_text (value_shapes chart places.now)) result }
+{
+    print_least(chart, writer)?;
+    print_corners(chart, places, writer)
+}
+
+/// Writes the value 0 with its unit at the right, and metre 0 and the end below.
 pub(crate) fn print_scale<W: Sink>(chart: Chart, writer: &mut W) -> Result<(), WriteFailed>
     requires { W.failed writer.old ≡ false }
     ensures { Prints (W.written writer.old) (W.written writer.new) (W.failed writer.new)
         (flat_map shape_text (scale_shapes chart)) result }
 {
     let measure = chart.measure;
-    let (left, right) = (LEFT - 8, chart.across(chart.end));
+    let right = chart.across(chart.end);
     let bottom = TOP + DEPTH + 28;
-    let (high, low) = (chart.down(chart.high) + 4, chart.down(chart.low) + 4);
     let height = measure.base();
     let base = chart.down(height) + 4;
-    let highest = Point { x: left, y: high };
-    let lowest = Point { x: left, y: low };
     let zero = Point {
         x: right + 8,
         y: base,
@@ -226,8 +299,6 @@ pub(crate) fn print_scale<W: Sink>(chart: Chart, writer: &mut W) -> Result<(), W
         y: bottom,
     };
     let shapes = [
-        Shape::Label(b"before", highest, measure, chart.high, b""),
-        Shape::Label(b"before", lowest, measure, chart.low, b""),
         Shape::Label(b"behind", zero, measure, height, unit_text(measure)),
         Shape::Count(b"behind", begin, b"", 0, b" m"),
         Shape::Count(b"before", end, b"", u64::from(chart.end), b" m"),

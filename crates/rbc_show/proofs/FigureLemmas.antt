@@ -11,8 +11,8 @@ use Rattle.rbc_show.specs.Figures.{marks_on, metre_marks, value_marks}
 use Rattle.rbc_show.specs.Strips.{Strip}
 use Rattle.rbc_show.specs.Pages.{heading_text, strip_text, strips_text}
 use Rattle.rbc_draw.specs.declared.chart.Point.{Point}
-use Rattle.rbc_draw.specs.Figures.{label_text}
-use Rattle.rbc_show.specs.Marks.{Mark, caption_opening, mark_text, part_marks, bar_marks, train_marks, end_marks, reach_marks, row_marks, scale_marks, shapes_on}
+use Rattle.rbc_draw.specs.Figures.{Shape, label_text, shape_text, value_shapes}
+use Rattle.rbc_show.specs.Marks.{Mark, Plain, caption_opening, mark_text, part_marks, bar_marks, train_marks, end_marks, reach_marks, row_marks, scale_marks, shapes_on}
 
 -- the texts of what is made of each item
 pub nested : {X : Type 0} (marks : X → List Mark) (items : List X) → flat_map mark_text (flat_map marks items) ≡ flat_map (λ item. flat_map mark_text (marks item)) items
@@ -43,14 +43,27 @@ caption_cut look place text =
     (codes "<text class='" ∷ look ∷ codes "' x='" ∷ decimal place.x ∷ codes "' y='" ∷ decimal place.y ∷ codes "'>" ∷ [])
     ([] ∷ text ∷ [] ∷ codes "</text>\n" ∷ [])
 
+-- the texts of shapes of a certificate's figures
+drawn_shapes : (shapes : List Shape) → flat_map mark_text (map Plain shapes) ≡ flat_map shape_text shapes
+drawn_shapes [] = refl
+drawn_shapes (shape ∷ shapes) = ap (λ rest. shape_text shape ++ rest) (drawn_shapes shapes)
+
+three_marks : (values metres : List Mark) (beside : List Shape) → flat_map mark_text (values ++ (map Plain beside ++ metres))
+    ≡ flat_map mark_text values ++ (flat_map shape_text beside ++ flat_map mark_text metres)
+three_marks values metres beside =
+    then_parts values (map Plain beside ++ metres) _
+    (flat_map-append mark_text (map Plain beside) metres ∙ ap (λ text. text ++ flat_map mark_text metres) (drawn_shapes beside))
+
 -- the figure of a stair, by its marks, where its chart is another one
 pub stair_drawn : (made told : Chart) (origin : ℕ) (group : GroupName) (places : List Place) → made ≡ told
     → flat_map mark_text (marks_on told origin group places) ++ codes "</svg>\n"
-    ≡ flat_map mark_text (value_marks made places) ++ (flat_map mark_text (metre_marks made origin group) ++ codes "</svg>\n")
+    ≡ flat_map mark_text (value_marks made places) ++ (flat_map shape_text (value_shapes made places) ++ (flat_map mark_text (metre_marks made origin group) ++ codes "</svg>\n"))
 stair_drawn made told origin group places same =
     ap (λ (chart : Chart). flat_map mark_text (marks_on chart origin group places) ++ codes "</svg>\n") (sym same)
-    ∙ ap (λ text. text ++ codes "</svg>\n") (flat_map-append mark_text (value_marks made places) (metre_marks made origin group))
-    ∙ append_assoc (flat_map mark_text (value_marks made places)) (flat_map mark_text (metre_marks made origin group)) (codes "</svg>\n")
+    ∙ ap (λ text. text ++ codes "</svg>\n") (three_marks (value_marks made places) (metre_marks made origin group) (value_shapes made places))
+    ∙ append_assoc (flat_map mark_text (value_marks made places)) (flat_map shape_text (value_shapes made places) ++ flat_map mark_text (metre_marks made origin group)) (codes "</svg>\n")
+    ∙ ap (λ text. flat_map mark_text (value_marks made places) ++ text)
+    (append_assoc (flat_map shape_text (value_shapes made places)) (flat_map mark_text (metre_marks made origin group)) (codes "</svg>\n"))
 
 -- a text that is printed is another one
 pub prints_as : {E : Type 0} (a b : Option (List ℕ)) (failed : Bool) (x y : List ℕ) (r : Result (Unit {0}) E) → x ≡ y → Prints a b failed x r → Prints a b failed y r

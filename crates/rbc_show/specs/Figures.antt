@@ -1,5 +1,5 @@
 -- The figures of a way's speeds and gradients: their shapes in whole pixels, and their text in SVG. Metres are counted from the train's group.
-use Rattle.std.specs.Prelude.{ℕ, ◌+◌, List, [], ◌∷◌, ◌++◌, flat_map, codes, decimal}
+use Rattle.std.specs.Prelude.{ℕ, ◌+◌, List, [], ◌∷◌, ◌++◌, flat_map, map, codes, decimal}
 use Rattle.std.specs.Fmt.{signed_decimal}
 use Rattle.rbc_model.specs.GroupNames.{GroupName}
 use Rattle.rbc_draw.specs.declared.chart.Measure.{Measure}
@@ -8,7 +8,7 @@ use Rattle.rbc_draw.specs.declared.chart.Place.{Place}
 use Rattle.rbc_draw.specs.declared.chart.Chart.{Chart}
 use Rattle.rbc_draw.specs.Charts.{chart_of, across, down, base_of, value_of}
 use Rattle.rbc_draw.specs.Texts.{joined}
-use Rattle.rbc_draw.specs.Figures.{Stair, Label, at, first_point, last_point, corners}
+use Rattle.rbc_draw.specs.Figures.{Stair, Label, at, first_point, last_point, corners, value_shapes}
 use Rattle.rbc_show.specs.Strips.{Strip}
 use Rattle.rbc_show.specs.Words.{place_text, metre_text, origin_text}
 use Rattle.rbc_show.specs.Marks.{Mark, Plain, Caption, line, named, mark_text}
@@ -33,21 +33,24 @@ stair_opening origin train measure places = joined (
     codes "<svg viewBox='0 0 960 296' role='img'>\n<title>" ∷ stair_name measure ∷ codes " of the way of train " ∷ decimal train
     ∷ codes "</title>\n<desc>Each metre with the value from there on:" ∷ flat_map (stair_word measure origin) places ∷ codes ".</desc>\n" ∷ [])
 
--- the stair and its name, the value 0 as a line, and the greatest value, the least one and 0, with its unit
+-- the stair and its name, the value 0 as a line, and the greatest value
 abbrev pub value_marks : Chart → List Place → List Mark
 value_marks chart places =
     Caption (codes "behind") (at 70 30) (stair_name chart.measure)
     ∷ Plain (Stair (codes "stair") (first_point chart) (corners chart places) (last_point chart))
     ∷ line (codes "axis") (at (across chart 0) (down chart (base_of chart.measure))) (at (across chart chart.end) (down chart (base_of chart.measure)))
     ∷ Plain (Label (codes "before") (at 62 (down chart chart.high + 4)) (value_of chart.measure chart.high) [])
-    ∷ Plain (Label (codes "before") (at 62 (down chart chart.low + 4)) (value_of chart.measure chart.low) [])
-    ∷ Plain (Label (codes "behind") (at (across chart chart.end + 8) (down chart (base_of chart.measure) + 4)) (value_of chart.measure (base_of chart.measure)) (unit_text chart.measure))
     ∷ []
 
--- the way's beginning and its end, and the group where it stands
+-- the values beside the stair, as in the figure of a certificate
+abbrev pub side_marks : Chart → List Place → List Mark
+side_marks chart places = map Plain (value_shapes chart places)
+
+-- the value 0 with its unit, the way's beginning and its end, and the group where it stands
 abbrev pub metre_marks : Chart → ℕ → GroupName → List Mark
 metre_marks chart origin group =
-    Caption (codes "behind") (at (across chart 0) 286) (metre_text origin 0)
+    Plain (Label (codes "behind") (at (across chart chart.end + 8) (down chart (base_of chart.measure) + 4)) (value_of chart.measure (base_of chart.measure)) (unit_text chart.measure))
+    ∷ Caption (codes "behind") (at (across chart 0) 286) (metre_text origin 0)
     ∷ Caption (codes "before") (at (across chart chart.end) 286) (metre_text origin chart.end)
     ∷ line (codes "tick") (at (across chart origin) 240) (at (across chart origin) 268)
     ∷ named chart origin 268 (origin_text group)
@@ -55,7 +58,7 @@ metre_marks chart origin group =
 
 -- the shapes of a stair on a way of so many metres
 abbrev pub marks_on : Chart → ℕ → GroupName → List Place → List Mark
-marks_on chart origin group places = value_marks chart places ++ metre_marks chart origin group
+marks_on chart origin group places = value_marks chart places ++ (side_marks chart places ++ metre_marks chart origin group)
 
 -- the figure of a stair on the way of a strip
 abbrev pub stair_text : ℕ → Strip → Measure → List Place → List ℕ

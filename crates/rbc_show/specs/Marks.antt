@@ -37,17 +37,30 @@ scale_of metres = chart_of Speed metres [] []
 abbrev pub bar : List ℕ → Chart → ℕ → ℕ → ℕ → Mark
 bar look chart y from to = line look (at (across chart from) y) (at (max (across chart to) (across chart from + 1)) y)
 
+-- ---- texts beside lines
+
+-- a text beside a line stands behind it, or before it where the line stands beyond a pixel
+abbrev pub side : ℕ → ℕ → List ℕ
+side turn x = if nat_le x turn then codes "behind" else codes "before"
+
+abbrev pub beside : ℕ → ℕ → ℕ → Point
+beside turn x y = if nat_le x turn then at (x + 4) y else at (x - 4) y
+
+-- a text beside the line at a place: on the side that has more room
+abbrev pub named : Chart → ℕ → ℕ → List ℕ → Mark
+named chart place y text = Caption (side 480 (across chart place)) (beside 480 (across chart place) y) text
+
 -- ---- legs
 
 abbrev pub lock_look : Bool → List ℕ
 lock_look locked = if locked then codes "locked" else codes "unlocked"
 
--- a leg: a line from its name down to its beginning, the name and length of its section, and the leg as a bar that tells by its look whether it is
--- locked
+-- a leg: a line from its name down to its beginning, the name and length of its section, behind that line as long as there is room for the longest
+-- one, and the leg as a bar that tells by its look whether it is locked
 abbrev pub part_marks : Track → Chart → Part → List Mark
 part_marks track chart part =
     line (codes "tick") (at (across chart part.begin) part.height) (at (across chart part.begin) 108)
-    ∷ Caption (codes "behind") (at (across chart part.begin + 4) part.height) (section_text track part.leg.section part.metres)
+    ∷ Caption (side 700 (across chart part.begin)) (beside 700 (across chart part.begin) part.height) (section_text track part.leg.section part.metres)
     ∷ bar (lock_look part.locked) chart 100 part.begin part.end
     ∷ []
 
@@ -64,7 +77,7 @@ bar_look holds = if holds then codes "held" else codes "stands"
 abbrev pub bar_marks : Chart → Bar → List Mark
 bar_marks chart other =
     bar (bar_look other.holds) chart (bar_height other.holds) other.from other.to
-    ∷ Caption (codes "behind") (at (across chart other.from) (bar_height other.holds - 8)) (decimal other.train)
+    ∷ Caption (codes "behind") (at (across chart other.from + 4) (bar_height other.holds - 10)) (decimal other.train)
     ∷ []
 
 -- ---- the train
@@ -75,17 +88,6 @@ train_marks chart strip =
     bar (codes "stands") chart 130 strip.rear strip.front
     ∷ line (codes "held") (at (across chart strip.from) 154) (at (across chart strip.to) 154)
     ∷ []
-
--- a text beside a line stands on the side that has more room
-abbrev pub side : ℕ → List ℕ
-side x = if nat_le x 480 then codes "behind" else codes "before"
-
-abbrev pub beside : ℕ → ℕ → Point
-beside x y = if nat_le x 480 then at (x + 4) y else at (x - 4) y
-
--- a text beside the line at a place
-abbrev pub named : Chart → ℕ → ℕ → List ℕ → Mark
-named chart place y text = Caption (side (across chart place)) (beside (across chart place) y) text
 
 -- the end, where there is one
 abbrev pub end_marks : Chart → ℕ → Option ℕ → List Mark

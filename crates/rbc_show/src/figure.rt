@@ -6,12 +6,14 @@ ghost use Rattle.rbc_show.specs.Held.{strip_view};
 ghost use Rattle.rbc_show.specs.Marks.{mark_text};
 ghost use Rattle.rbc_show.specs.Figures.{stair_name, stair_word, unit_text, value_marks, metre_marks, stair_opening, stair_text, stairs_text};
 
-use crate::marks::{Mark, at, beside, side};
+use crate::marks::{MIDDLE, Mark, at, beside, side};
 use crate::phrases::Phrase;
 use crate::pieces::Piece;
 use crate::strip::Strip;
 use crate::words::{Ground, Scale, Word};
-use rbc_draw::{Chart, Measure, Place, Point, Printed, Shape, Sink, WriteFailed, print_each, put};
+use rbc_draw::{
+    Chart, Measure, Place, Point, Printed, Shape, Sink, WriteFailed, print_each, print_values, put,
+};
 use rbc_model::GroupName;
 
 /// What a figure is named.
@@ -73,7 +75,7 @@ fn print_opening<W: Sink>(
     print_each(basis, &pieces, writer)
 }
 
-/// Writes the stair and its name, and the greatest value, the least one and 0, with its unit.
+/// Writes the stair and its name, the value 0 as a line, and the greatest value.
 fn print_value_marks<W: Sink>(
     basis: &Ground,
     chart: Chart,
@@ -85,20 +87,11 @@ fn print_value_marks<W: Sink>(
         (flat_map mark_text (value_marks chart places.now)) result }
 {
     let measure = chart.measure;
-    let height = measure.base();
-    let base = chart.down(height);
+    let base = chart.down(measure.base());
     let axis = Shape::Line(b"axis", at(chart, 0, base), at(chart, chart.end, base));
     let highest = Point {
         x: 62,
         y: chart.down(chart.high) + 4,
-    };
-    let lowest = Point {
-        x: 62,
-        y: chart.down(chart.low) + 4,
-    };
-    let zero = Point {
-        x: chart.across(chart.end) + 8,
-        y: base + 4,
     };
     let marks = [
         Mark::Caption(
@@ -109,13 +102,12 @@ fn print_value_marks<W: Sink>(
         Mark::Drawn(Shape::Stair(b"stair", chart, places)),
         Mark::Drawn(axis),
         Mark::Drawn(Shape::Label(b"before", highest, measure, chart.high, b"")),
-        Mark::Drawn(Shape::Label(b"before", lowest, measure, chart.low, b"")),
-        Mark::Drawn(Shape::Label(b"behind", zero, measure, height, unit_text(measure))),
     ];
     print_each(basis, &marks, writer)
 }
 
-/// Writes the way's beginning and its end, in metres from the group, and the group where it stands.
+/// Writes the value 0 with its unit, the way's beginning and its end, in metres from the group, and the group where it
+/// stands.
 fn print_metre_marks<W: Sink>(
     basis: &Ground,
     chart: Chart,
@@ -126,14 +118,24 @@ fn print_metre_marks<W: Sink>(
     ensures { Prints (W.written writer.old) (W.written writer.new) (W.failed writer.new)
         (flat_map mark_text (metre_marks chart basis.now.origin group)) result }
 {
-    let (end, origin) = (chart.end, basis.origin);
+    let (measure, end, origin) = (chart.measure, chart.end, basis.origin);
+    let height = measure.base();
+    let zero = Point {
+        x: chart.across(end) + 8,
+        y: chart.down(height) + 4,
+    };
     let x = chart.across(origin);
     let tick = Shape::Line(b"tick", at(chart, origin, 240), at(chart, origin, 268));
     let marks = [
+        Mark::Drawn(Shape::Label(b"behind", zero, measure, height, unit_text(measure))),
         Mark::Caption(b"behind", at(chart, 0, 286), Phrase::Metre(0)),
         Mark::Caption(b"before", at(chart, end, 286), Phrase::Metre(end)),
         Mark::Drawn(tick),
-        Mark::Caption(side(x), beside(x, 268), Phrase::Origin(group)),
+        Mark::Caption(
+            side(MIDDLE, x),
+            beside(MIDDLE, x, 268),
+            Phrase::Origin(group),
+        ),
     ];
     print_each(basis, &marks, writer)
 }
@@ -153,6 +155,7 @@ fn print_stair<W: Sink>(
     let chart = Chart::new(measure, strip.metres, places, &[]);
     print_opening(basis, strip.train, measure, places, writer)?;
     print_value_marks(basis, chart, places, writer)?;
+    print_values(chart, places, writer)?;
     print_metre_marks(basis, chart, strip.group, writer)?;
     put(writer, b"</svg>\n")
 }

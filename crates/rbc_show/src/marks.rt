@@ -1,6 +1,6 @@
 //! The shapes of a train's figure, printed as elements of SVG.
 
-ghost use Rattle.std.specs.Prelude.{◌≡◌, ◌<◌, ◌^◌, [], false, flat_map, Some};
+ghost use Rattle.std.specs.Prelude.{◌≡◌, ◌<◌, ◌≤◌, ◌^◌, [], false, flat_map, Some};
 ghost use Rattle.rbc_model.specs.Sessions.{Prints};
 ghost use Rattle.rbc_draw.specs.Charts.{across as pixels_of};
 ghost use Rattle.rbc_draw.specs.Figures.{at as point_at, label_text};
@@ -16,6 +16,12 @@ use crate::pieces::Piece;
 use crate::strip::Strip;
 use crate::words::Ground;
 use rbc_draw::{Chart, Measure, Point, Printed, Shape, Sink, WriteFailed, print_each, put};
+
+/// How many pixels from the left the middle of a figure stands: texts beside a line beyond it stand before the line.
+pub(crate) const MIDDLE: u64 = 480;
+
+/// How many pixels from the left the last line stands that has room for a section's name behind it.
+const LAST_NAME: u64 = 700;
 
 /// A shape of a figure. Its look is the name under which the page's style has it.
 #[derive(Clone, Copy)]
@@ -131,10 +137,7 @@ impl Printed<Canvas<'_>> for Part {
     fn print<W: Sink>(&self, canvas: &Canvas, writer: &mut W) -> Result<(), WriteFailed> {
         let chart = canvas.chart;
         let y = self.height;
-        let name = Point {
-            x: chart.across(self.begin) + 4,
-            y,
-        };
+        let x = chart.across(self.begin);
         let marks = [
             Mark::Drawn(Shape::Line(
                 b"tick",
@@ -142,8 +145,8 @@ impl Printed<Canvas<'_>> for Part {
                 at(chart, self.begin, 108),
             )),
             Mark::Caption(
-                b"behind",
-                name,
+                side(LAST_NAME, x),
+                beside(LAST_NAME, x, y),
                 Phrase::Section(self.leg.section, self.metres),
             ),
             bar(lock_look(self.locked), chart, 100, self.begin, self.end),
@@ -170,13 +173,13 @@ impl Printed<Canvas<'_>> for Bar {
 
     fn print<W: Sink>(&self, canvas: &Canvas, writer: &mut W) -> Result<(), WriteFailed> {
         let y = bar_height(self.holds);
+        let name = Point {
+            x: canvas.chart.across(self.from) + 4,
+            y: y - 10,
+        };
         let marks = [
             bar(bar_look(self.holds), canvas.chart, y, self.from, self.to),
-            Mark::Caption(
-                b"behind",
-                at(canvas.chart, self.from, y - 8),
-                Phrase::Number(u64::from(self.train)),
-            ),
+            Mark::Caption(b"behind", name, Phrase::Number(u64::from(self.train))),
         ];
         print_each(&canvas.basis, &marks, writer)
     }
@@ -231,19 +234,20 @@ pub(crate) fn print_train_marks<W: Sink>(
     print_each(&canvas.basis, &marks, writer)
 }
 
-/// The look of a text beside a line: on the side that has more room.
-pub(crate) fn side(x: u64) -> &'static [u8]
-    ensures { result.now ≡ side x }
+/// The look of a text beside a line: before it, where the line stands beyond this many pixels.
+pub(crate) fn side(turn: u64, x: u64) -> &'static [u8]
+    ensures { result.now ≡ side turn x }
 {
-    if x <= 480 { b"behind" } else { b"before" }
+    if x <= turn { b"behind" } else { b"before" }
 }
 
 /// Where a text beside a line stands.
-pub(crate) fn beside(x: u64, y: u64) -> Point
-    requires { x < 2 ^ 48 }
-    ensures { result ≡ beside x y }
+pub(crate) fn beside(turn: u64, x: u64, y: u64) -> Point
+    requires room { 4 ≤ turn }
+    requires inside { x < 2 ^ 48 }
+    ensures { result ≡ beside turn x y }
 {
-    if x <= 480 {
+    if x <= turn {
         Point { x: x + 4, y }
     } else {
         Point { x: x - 4, y }
@@ -276,7 +280,7 @@ fn print_end_at<W: Sink>(canvas: &Canvas, end: u32, writer: &mut W) -> Result<()
     let line = Shape::Line(b"end", at(chart, end, 88), at(chart, end, 240));
     let marks = [
         Mark::Drawn(line),
-        Mark::Caption(side(x), beside(x, 252), Phrase::EndAt(end)),
+        Mark::Caption(side(MIDDLE, x), beside(MIDDLE, x, 252), Phrase::EndAt(end)),
     ];
     print_each(&canvas.basis, &marks, writer)
 }
@@ -297,8 +301,16 @@ pub(crate) fn print_reach_marks<W: Sink>(
     let line = Shape::Line(b"reach", at(chart, reach, 88), at(chart, reach, 288));
     let marks = [
         Mark::Drawn(line),
-        Mark::Caption(side(x), beside(x, 270), Phrase::Metre(reach)),
-        Mark::Caption(side(x), beside(x, 288), Phrase::Obstacle(strip.obstacle)),
+        Mark::Caption(
+            side(MIDDLE, x),
+            beside(MIDDLE, x, 270),
+            Phrase::Metre(reach),
+        ),
+        Mark::Caption(
+            side(MIDDLE, x),
+            beside(MIDDLE, x, 288),
+            Phrase::Obstacle(strip.obstacle),
+        ),
     ];
     print_each(&canvas.basis, &marks, writer)
 }
@@ -345,7 +357,11 @@ pub(crate) fn print_scale_marks<W: Sink>(
         Mark::Caption(b"behind", at(chart, 0, 336), Phrase::Metre(0)),
         Mark::Caption(b"before", at(chart, end, 336), Phrase::Metre(end)),
         Mark::Drawn(group),
-        Mark::Caption(side(x), beside(x, 318), Phrase::Origin(strip.group)),
+        Mark::Caption(
+            side(MIDDLE, x),
+            beside(MIDDLE, x, 318),
+            Phrase::Origin(strip.group),
+        ),
     ];
     print_each(&canvas.basis, &marks, writer)
 }

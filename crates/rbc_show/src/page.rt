@@ -4,7 +4,7 @@ ghost use Rattle.std.specs.Prelude.{◌≡◌, [], true, false, map, length, fla
 ghost use Rattle.rbc_model.specs.Sessions.{Prints, WritesText};
 ghost use Rattle.rbc_show.specs.Held.{strip_view};
 ghost use Rattle.rbc_show.specs.Marks.{mark_text, shapes_on};
-ghost use Rattle.rbc_show.specs.Pages.{closing_text, foot_text, head_text, heading_text, opening_text, scene_text, strip_text, strips_text};
+ghost use Rattle.rbc_show.specs.Pages.{closing_text, foot_text, head_text, heading_text, legend_text, opening_text, scene_text, strip_text, strips_text};
 ghost use Rattle.rbc_show.specs.declared.page.ShowFault.TheVariants.{Memory as NoMemory, Write as NoWrite};
 
 use crate::figure::print_stairs;
@@ -117,6 +117,13 @@ impl Printed<Track> for Strip {
     }
 }
 
+/// What the lines and bars of figures mean.
+fn legend_text() -> &'static [u8]
+    ensures { result.now ≡ legend_text }
+{
+    b"<p>In each figure a section at <b>locks</b> is thick where it is locked for the train, thin and dashed where it is not.\nThe bar at <b>train</b> is where the train may stand, the one at <b>holds</b> its authority.\nAt <b>others</b> and <b>hold</b> are those of other trains, with their numbers.\nThe dashed upright line is the end up to which the train may be granted an authority now;\nthe plain one is its reach, with what stands there.</p>\n"
+}
+
 /// Writes the beginning of a page.
 ///
 /// # Errors
@@ -136,18 +143,19 @@ pub fn print_head<W: Sink>(track: &Track, writer: &mut W) -> Result<(), WriteFai
         ),
         Piece::Text(b"svg{width:100%;break-inside:avoid;break-after:avoid}\n"),
         Piece::Text(
-            b"line,path{fill:none;stroke:#000;stroke-width:1}\ntext{font-size:14px}\n@media(max-width:40rem){text{font-size:18px}svg{min-width:36rem}}\n.before{text-anchor:end}\n",
+            b"line,path{fill:none;stroke:#000;stroke-width:1}\ntext{font-size:14px;paint-order:stroke;stroke:#fff;stroke-width:3}\n@media(max-width:40rem){text{font-size:20px}svg{min-width:28rem}}\n.before{text-anchor:end}\n",
         ),
         Piece::Text(
             b".tick,.axis{stroke:#777}\n.locked{stroke-width:7}\n.unlocked{stroke-width:3;stroke-dasharray:4 4}\n",
         ),
         Piece::Text(
-            b".stands{stroke-width:14}\n.held{stroke:#f2a900;stroke-width:8}\n.end{stroke:#0b4f8a;stroke-width:3;stroke-dasharray:6 3}\n.reach{stroke-width:2}\n.stair{stroke:#0b4f8a;stroke-width:3}\n",
+            b".stands{stroke-width:14}\n.held{stroke:#f2a900;stroke-width:8}\n.end{stroke:#0b4f8a;stroke-width:6;stroke-dasharray:6 3}\n.reach{stroke-width:2}\n.stair{stroke:#0b4f8a;stroke-width:3}\n",
         ),
         Piece::Text(
             b"h1{margin:2.5rem 0 .5rem;font-size:1.4rem;break-after:avoid}\nh2{margin:2rem 0 0;font-size:1.1rem;break-after:avoid}\np{margin:0 0 1rem}\n",
         ),
         Piece::Text(b"</style>\n</head>\n<body>\n"),
+        Piece::Text(legend_text()),
     ];
     print_each(&Ground { track, origin: 0 }, &head, writer)
 }

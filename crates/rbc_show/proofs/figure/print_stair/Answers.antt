@@ -16,13 +16,22 @@ returns-in_err-print_value_marks g c =
     prints_then _ _ _ _ _ _ _ _ c.in_ok-print_opening.ensures.text refl
     (prints_stopped _ _ _ _ _ _ _ c.in_err-print_value_marks.ensures.text c.in_err-print_value_marks.ensures.failed drawn c.from_residual-in_err-print_value_marks.ensures.0)
 
+pub returns-in_err-print_values : goal.returns-in_err-print_values
+returns-in_err-print_values g c =
+    let strip = strip_view c.args.strip.now in
+    let drawn = stair_drawn c.new-chart.result (chart_of c.args.measure strip.metres c.args.places.now []) c.args.basis.now.origin strip.group c.args.places.now c.new-chart.ensures in
+    prints_then _ _ _ _ _ _ _ _ c.in_ok-print_opening.ensures.text refl
+    (prints_then _ _ _ _ _ _ _ _ c.in_ok-print_value_marks.ensures.text drawn
+    (prints_stopped _ _ _ _ _ _ _ c.in_err-print_values.ensures.text c.in_err-print_values.ensures.failed refl c.from_residual-in_err-print_values.ensures.0))
+
 pub returns-in_err-print_metre_marks : goal.returns-in_err-print_metre_marks
 returns-in_err-print_metre_marks g c =
     let strip = strip_view c.args.strip.now in
     let drawn = stair_drawn c.new-chart.result (chart_of c.args.measure strip.metres c.args.places.now []) c.args.basis.now.origin strip.group c.args.places.now c.new-chart.ensures in
     prints_then _ _ _ _ _ _ _ _ c.in_ok-print_opening.ensures.text refl
     (prints_then _ _ _ _ _ _ _ _ c.in_ok-print_value_marks.ensures.text drawn
-    (prints_stopped _ _ _ _ _ _ _ c.in_err-print_metre_marks.ensures.text c.in_err-print_metre_marks.ensures.failed refl c.from_residual-in_err-print_metre_marks.ensures.0))
+    (prints_then _ _ _ _ _ _ _ _ c.in_ok-print_values.ensures.text refl
+    (prints_stopped _ _ _ _ _ _ _ c.in_err-print_metre_marks.ensures.text c.in_err-print_metre_marks.ensures.failed refl c.from_residual-in_err-print_metre_marks.ensures.0)))
 
 pub returns : goal.returns
 returns g c =
@@ -30,4 +39,5 @@ returns g c =
     let drawn = stair_drawn c.new-chart.result (chart_of c.args.measure strip.metres c.args.places.now []) c.args.basis.now.origin strip.group c.args.places.now c.new-chart.ensures in
     prints_then _ _ _ _ _ _ _ _ c.in_ok-print_opening.ensures.text refl
     (prints_then _ _ _ _ _ _ _ _ c.in_ok-print_value_marks.ensures.text drawn
-    (prints_then _ _ _ _ _ _ _ _ c.in_ok-print_metre_marks.ensures.text refl c.put.ensures))
+    (prints_then _ _ _ _ _ _ _ _ c.in_ok-print_values.ensures.text refl
+    (prints_then _ _ _ _ _ _ _ _ c.in_ok-print_metre_marks.ensures.text refl c.put.ensures)))

@@ -10,7 +10,7 @@ pub returns : goal.returns
 returns g c =
     let chart = c.args.chart in
     let places = c.args.places.now in
-    let base : c.down-base.result ≡ down chart (base_of chart.measure) = c.down-base.ensures ∙ (λ j. down chart (c.base-height.ensures j)) in
+    let base : c.down-base.result ≡ down chart (base_of chart.measure) = c.down-base.ensures ∙ (λ j. down chart (c.base.ensures j)) in
     let begin = c.at.ensures ∙ (λ j. at (across chart 0) (base j)) in
     let end = c.at-2.ensures ∙ (λ j. at (across chart chart.end) (base j)) in
     prints_as _ _ _ _ _ _
@@ -19,7 +19,5 @@ returns g c =
     ∷ Plain (Stair (codes "stair") (first_point chart) (corners chart places) (last_point chart))
     ∷ line (codes "axis") (begin j) (end j)
     ∷ Plain (Label (codes "before") (at 62 (c.down.ensures j + 4)) (value_of chart.measure chart.high) [])
-    ∷ Plain (Label (codes "before") (at 62 (c.down-2.ensures j + 4)) (value_of chart.measure chart.low) [])
-    ∷ Plain (Label (codes "behind") (at (c.across.ensures j + 8) (base j + 4)) (value_of chart.measure (c.base-height.ensures j)) (c.unit_text.ensures j))
     ∷ []))
     c.print_each.ensures

@@ -9,10 +9,10 @@ pub returns : goal.returns
 returns g c =
     let basis = c.args.canvas.now.basis in
     let strip = c.args.strip.now in
-    let look = c.side.ensures ∙ (λ j. side (c.across-x.ensures j)) in
-    let look_below = c.side-2.ensures ∙ (λ j. side (c.across-x.ensures j)) in
-    let place = c.beside.ensures ∙ (λ j. beside (c.across-x.ensures j) 270) in
-    let place_below = c.beside-2.ensures ∙ (λ j. beside (c.across-x.ensures j) 288) in
+    let look = c.side.ensures ∙ (λ j. side 480 (c.across-x.ensures j)) in
+    let look_below = c.side-2.ensures ∙ (λ j. side 480 (c.across-x.ensures j)) in
+    let place = c.beside.ensures ∙ (λ j. beside 480 (c.across-x.ensures j) 270) in
+    let place_below = c.beside-2.ensures ∙ (λ j. beside 480 (c.across-x.ensures j) 288) in
     prints_as _ _ _ _ _ _
     (λ j. flat_map mark_text
     (line (codes "reach") (c.at.ensures j) (c.at-2.ensures j)
