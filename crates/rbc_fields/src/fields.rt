@@ -1,6 +1,7 @@
 //! The fields of a message or packet, read one after another.
 
 ghost use Rattle.std.specs.Prelude.{◌≡◌, ◌<◌, ◌≤◌, ◌*◌, ◌^◌, ℕ, Some, None, true, false, suc, length, if◌then◌else◌};
+ghost use Rattle.rbc_model.specs.declared.limits.TheConstants.{LONGEST_LINE};
 ghost use Rattle.rbc_model.specs.Bits.{byte_bits};
 ghost use Rattle.rbc_fields.specs.Readings.{left_to_read, reading, with_item, filling_found, IsCounted};
 
@@ -66,9 +67,9 @@ pub(crate) struct Fields<'a> {
 }
 
 impl<'a> Fields<'a> {
-    /// The fields of these bytes, at most 4,096, from this one on.
+    /// The fields of these bytes, no more than a line has, from this one on.
     pub(crate) fn new(start: &Walk, bytes: &'a [u8]) -> Fields<'a>
-        requires { length bytes.now ≤ 4096 }
+        requires { length bytes.now ≤ LONGEST_LINE }
         ensures fields { (most : ℕ) → left_to_read most result ≡ reading most start.now (byte_bits bytes.now) 0 }
         ensures bits { result.bits ≡ byte_bits bytes.now }
         ensures counted { IsCounted result }

@@ -3,6 +3,8 @@
 ghost use Rattle.std.specs.Prelude.{◌≡◌, ◌+◌, ◌≤◌, ◌++◌, ◌∷◌, ℕ, List, [], Bool, true, false, length, decimal, codes};
 ghost use Rattle.std.specs.Fmt.{signed_decimal};
 ghost use Rattle.rbc_model.specs.Sessions.{Prints};
+ghost use Rattle.rbc_fields.specs.declared.parts.TheConstants.{LONGEST_PART};
+ghost use Rattle.rbc_fields.specs.declared.sheet.TheConstants.{ROOM};
 ghost use Rattle.rbc_fields.specs.JsonParts.{piece_text, pieces_text, packet_start, member_part, other_part, is_grade, grade_part};
 ghost use Rattle.rbc_fields.specs.JsonParts.{is_speed, speed_part, outcome_part, words_part, array_part};
 ghost use Rattle.rbc_fields.specs.JsonText.{json_text, found_data, grade_data, speed_data, kind_text};
@@ -59,7 +61,7 @@ fn print_piece<W: Sink>(piece: &Piece, writer: &mut W) -> Result<(), WriteFailed
 /// Puts what stands between an element and the one before it, if there is one, behind a text.
 #[inline(always)]
 fn gather_comma(later: bool, sheet: &mut Sheet)
-    requires { length sheet.old ≤ 896 }
+    requires { length sheet.old + LONGEST_PART ≤ ROOM }
     ensures text { sheet.new ≡ sheet.old ++ comma_if later }
     ensures length { length sheet.new ≤ length sheet.old + 1 }
 {
@@ -132,7 +134,7 @@ impl Part for OtherMembers {
 /// Puts what is said behind a text, as a member behind others, unless it is a gradient or a speed.
 #[tactic(auto, unfolding(json::specs::Print::escape_byte))]
 fn gather_other(said: &Said, sheet: &mut Sheet)
-    requires { length sheet.old ≤ 896 }
+    requires { length sheet.old + LONGEST_PART ≤ ROOM }
     ensures { sheet.new ≡ sheet.old ++ other_part said.now }
 {
     match *said {
@@ -161,7 +163,7 @@ fn direction_member(nominal: bool) -> &'static [u8]
 /// Puts a number behind its name, and both behind a text.
 fn gather_named(name: &[u8], number: u64, sheet: &mut Sheet)
     requires short { length name.now ≤ 20 }
-    requires room { length sheet.old ≤ 896 }
+    requires room { length sheet.old + LONGEST_PART ≤ ROOM }
     ensures { sheet.new ≡ sheet.old ++ (name.now ++ decimal number) }
 {
     sheet.text(name);
@@ -191,7 +193,7 @@ impl Part for GradeElements {
 }
 
 fn gather_if_grade(later: bool, said: &Said, sheet: &mut Sheet)
-    requires { length sheet.old ≤ 896 }
+    requires { length sheet.old + LONGEST_PART ≤ ROOM }
     ensures { sheet.new ≡ sheet.old ++ grade_part later said.now }
 {
     if let Said::Grade(from, per_mille) = *said {
@@ -201,7 +203,7 @@ fn gather_if_grade(later: bool, said: &Said, sheet: &mut Sheet)
 
 /// Puts a gradient behind a text, as an element.
 fn gather_grade(later: bool, from: u64, per_mille: i64, sheet: &mut Sheet)
-    requires { length sheet.old ≤ 896 }
+    requires { length sheet.old + LONGEST_PART ≤ ROOM }
     ensures { sheet.new ≡ sheet.old ++ (comma_if later ++ compact_text (grade_data from per_mille)) }
 {
     gather_comma(later, sheet);
@@ -235,7 +237,7 @@ impl Part for SpeedElements {
 }
 
 fn gather_if_speed(later: bool, said: &Said, sheet: &mut Sheet)
-    requires { length sheet.old ≤ 896 }
+    requires { length sheet.old + LONGEST_PART ≤ ROOM }
     ensures { sheet.new ≡ sheet.old ++ speed_part later said.now }
 {
     if let Said::Speed(from, kmh) = *said {
@@ -245,7 +247,7 @@ fn gather_if_speed(later: bool, said: &Said, sheet: &mut Sheet)
 
 /// Puts a speed behind a text, as an element.
 fn gather_speed(later: bool, from: u64, kmh: u64, sheet: &mut Sheet)
-    requires { length sheet.old ≤ 896 }
+    requires { length sheet.old + LONGEST_PART ≤ ROOM }
     ensures { sheet.new ≡ sheet.old ++ (comma_if later ++ compact_text (speed_data from kmh)) }
 {
     gather_comma(later, sheet);

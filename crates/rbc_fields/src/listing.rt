@@ -1,7 +1,9 @@
 //! The fields of a message or packet, in a list.
 
-ghost use Rattle.std.specs.Prelude.{◌≡◌, ◌≤◌, length, take};
+ghost use Rattle.std.specs.Prelude.{◌≡◌, ◌<◌, ◌≤◌, length, take};
+ghost use Rattle.rbc_model.specs.declared.limits.TheConstants.{LONGEST_LINE};
 ghost use Rattle.rbc_fields.specs.DecodeText.{start_of, reading_kind};
+ghost use Rattle.rbc_fields.specs.declared.listing.TheConstants.{LIST};
 
 use crate::fields::{Fields, Found, Item};
 use crate::row::Row;
@@ -39,9 +41,9 @@ pub(crate) fn list_fields(
     bytes: &[u8],
     items: &mut [Item; LIST],
 ) -> (usize, Option<Found>)
-    requires { length bytes.now ≤ 4096 }
+    requires { length bytes.now ≤ LONGEST_LINE }
     ensures items { take result.0 items.new ≡ (reading_kind is_packet bytes.now).items }
-    ensures count { result.0 ≤ 252 }
+    ensures count { result.0 < LIST }
     ensures found { result.1 ≡ (reading_kind is_packet bytes.now).found }
 {
     let mut fields = Fields::new(&start_of(is_packet, bytes), bytes);

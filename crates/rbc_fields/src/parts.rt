@@ -1,7 +1,9 @@
 //! The fields of a message, printed one after another.
 
-ghost use Rattle.std.specs.Prelude.{◌≡◌, ◌≤◌, ◌++◌, ◌||◌, ℕ, List, Bool, false, length, OnOk};
+ghost use Rattle.std.specs.Prelude.{◌≡◌, ◌+◌, ◌≤◌, ◌++◌, ◌||◌, ℕ, List, Bool, false, length, OnOk};
 ghost use Rattle.rbc_model.specs.Sessions.{Prints};
+ghost use Rattle.rbc_fields.specs.declared.parts.TheConstants.{LONGEST_PART};
+ghost use Rattle.rbc_fields.specs.declared.sheet.TheConstants.{ROOM};
 ghost use Rattle.rbc_fields.specs.declared.fields.Item.{Item};
 ghost use Rattle.rbc_fields.specs.Parts.{parts_text, Hands};
 
@@ -10,7 +12,7 @@ use crate::sheet::{ROOM, Sheet};
 use rbc_streams::{Sink, WriteFailed, put};
 
 /// How many bytes may be printed of a field.
-const LONGEST_PART: usize = 128;
+pub(crate) const LONGEST_PART: usize = 128;
 
 /// What is printed of a field.
 pub(crate) trait Part {
@@ -26,7 +28,7 @@ pub(crate) trait Part {
 
     /// Puts what is printed of a field behind a text, by whether one before it was told.
     fn gather(item: &Item, later: bool, sheet: &mut Sheet)
-        requires { length sheet.old ≤ 896 }
+        requires { length sheet.old + LONGEST_PART ≤ ROOM }
         ensures { sheet.new ≡ sheet.old ++ text later item.now };
 }
 
@@ -53,7 +55,7 @@ pub(crate) fn print_parts<P: Part, W: Sink>(
 #[inline(always)]
 fn make_room<W: Sink>(sheet: &mut Sheet, writer: &mut W) -> Result<(), WriteFailed>
     requires { W.failed writer.old ≡ false }
-    ensures room { OnOk result (length sheet.new ≤ 896) }
+    ensures room { OnOk result (length sheet.new + LONGEST_PART ≤ ROOM) }
     ensures handed { Hands (W.written writer.old) (W.written writer.new) (W.failed writer.new)
         sheet.old sheet.new result }
 {

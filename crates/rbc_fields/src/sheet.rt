@@ -2,6 +2,7 @@
 
 ghost use Rattle.std.specs.Prelude.{◌≡◌, ◌+◌, ◌≤◌, ◌<◌, [], ◌∷◌, ◌++◌, length, take, decimal};
 ghost use Rattle.std.specs.Fmt.{signed_decimal};
+ghost use Rattle.rbc_fields.specs.declared.sheet.TheConstants.{ROOM};
 
 use itoa::write_digits;
 use std::marker::Model;
@@ -18,12 +19,13 @@ pub(crate) struct Sheet {
 
 impl Model for Sheet {
     ghost use Rattle.std.specs.Prelude.{◌≤◌, ℕ, List, take};
+    ghost use Rattle.rbc_fields.specs.declared.sheet.TheConstants.{ROOM};
 
     ghost Value = { List ℕ };
 
     ghost view = { λ sheet. take sheet.count sheet.bytes };
 
-    ghost invariant = { λ sheet. sheet.count ≤ 1024 };
+    ghost invariant = { λ sheet. sheet.count ≤ ROOM };
 }
 
 impl Sheet {
@@ -40,7 +42,7 @@ impl Sheet {
     /// How many bytes the text has.
     pub(crate) fn len(&self) -> usize
         ensures value { result ≡ length self.now }
-        ensures bound { result ≤ 1024 }
+        ensures bound { result ≤ ROOM }
     {
         self.count
     }
@@ -62,7 +64,7 @@ impl Sheet {
     /// Puts a byte behind the text.
     #[inline(always)]
     pub(crate) fn byte(&mut self, byte: u8)
-        requires { length self.old < 1024 }
+        requires { length self.old < ROOM }
         ensures text { self.new ≡ self.old ++ byte ∷ [] }
         ensures length { length self.new ≡ length self.old + 1 }
     {
@@ -73,7 +75,7 @@ impl Sheet {
     /// Puts a text behind the text.
     #[inline(always)]
     pub(crate) fn text(&mut self, text: &[u8])
-        requires { length self.old + length text.now ≤ 1024 }
+        requires { length self.old + length text.now ≤ ROOM }
         ensures text { self.new ≡ self.old ++ text.now }
         ensures length { length self.new ≡ length self.old + length text.now }
     {
@@ -86,7 +88,7 @@ impl Sheet {
     #[inline(always)]
     pub(crate) fn front(&mut self, bytes: &[u8; 24], count: usize)
         requires within { count ≤ 24 }
-        requires room { length self.old + 24 ≤ 1024 }
+        requires room { length self.old + 24 ≤ ROOM }
         ensures text { self.new ≡ self.old ++ take count bytes.now }
         ensures length { length self.new ≡ length self.old + count }
     {
@@ -98,7 +100,7 @@ impl Sheet {
     /// Puts a number in base 10 behind the text.
     #[inline(always)]
     pub(crate) fn number(&mut self, number: u64)
-        requires { length self.old + 20 ≤ 1024 }
+        requires { length self.old + 20 ≤ ROOM }
         ensures text { self.new ≡ self.old ++ decimal number }
         ensures length { length self.new ≤ length self.old + 20 }
     {
@@ -110,7 +112,7 @@ impl Sheet {
     /// Puts a number in base 10 behind the text, with a `-` before its digits if it is below 0.
     #[inline(always)]
     pub(crate) fn signed(&mut self, number: i64)
-        requires { length self.old + 21 ≤ 1024 }
+        requires { length self.old + 21 ≤ ROOM }
         ensures text { self.new ≡ self.old ++ signed_decimal number }
         ensures length { length self.new ≤ length self.old + 21 }
     {

@@ -2,6 +2,8 @@
 
 ghost use Rattle.std.specs.Prelude.{◌≡◌, ◌+◌, ◌≤◌, ◌++◌, ◌∷◌, [], false, decimal, codes, length};
 ghost use Rattle.rbc_model.specs.Sessions.{Prints};
+ghost use Rattle.rbc_fields.specs.declared.parts.TheConstants.{LONGEST_PART};
+ghost use Rattle.rbc_fields.specs.declared.sheet.TheConstants.{ROOM};
 ghost use Rattle.rbc_fields.specs.declared.said.Said.TheVariants.{Nominal, Grade, Speed};
 ghost use Rattle.rbc_fields.specs.Readings.{read_as};
 ghost use Rattle.rbc_fields.specs.Texts.{name_text, field_line, row_text, head_text, said_text};
@@ -97,7 +99,7 @@ pub(crate) fn print_reading<W: Sink>(
 
 /// Puts the line of the message or packet that begins with the field behind a text, if one does.
 fn gather_head(item: &Item, sheet: &mut Sheet)
-    requires { length sheet.old ≤ 896 }
+    requires { length sheet.old + LONGEST_PART ≤ ROOM }
     ensures text { sheet.new ≡ sheet.old ++ head_text item.now }
     ensures length { length sheet.new ≤ length sheet.old + 10 }
 {
@@ -121,9 +123,9 @@ fn row_text(row: Row) -> &'static [u8]
     }
 }
 
-/// Puts the line of a field behind a text: its name, its width in bits, and its value.
+/// Puts the line of a field behind a text: its name and its width in bits, in at most 24 bytes, and its value.
 fn gather_field(name: FieldName, value: u32, sheet: &mut Sheet)
-    requires { length sheet.old ≤ 960 }
+    requires { length sheet.old + 45 ≤ ROOM }
     ensures { sheet.new ≡ sheet.old ++ field_line name value }
 {
     let (start, count) = field_start(name);
@@ -135,7 +137,7 @@ fn gather_field(name: FieldName, value: u32, sheet: &mut Sheet)
 /// Puts a name and the number at its end behind a text, as the end of a line.
 fn gather_last(name: &[u8], number: u64, sheet: &mut Sheet)
     requires short { length name.now ≤ 20 }
-    requires room { length sheet.old ≤ 960 }
+    requires room { length sheet.old + 41 ≤ ROOM }
     ensures { sheet.new ≡ sheet.old ++ (name.now ++ (decimal number ++ 10 ∷ [])) }
 {
     sheet.text(name);
@@ -145,7 +147,7 @@ fn gather_last(name: &[u8], number: u64, sheet: &mut Sheet)
 
 /// Puts what is said, in words, behind a text.
 fn gather_said(said: &Said, sheet: &mut Sheet)
-    requires { length sheet.old ≤ 896 }
+    requires { length sheet.old + LONGEST_PART ≤ ROOM }
     ensures { sheet.new ≡ sheet.old ++ said_text said.now }
 {
     match *said {
@@ -160,7 +162,7 @@ fn gather_said(said: &Said, sheet: &mut Sheet)
 }
 
 fn gather_country(country: u32, sheet: &mut Sheet)
-    requires { length sheet.old ≤ 896 }
+    requires { length sheet.old + LONGEST_PART ≤ ROOM }
     ensures { sheet.new ≡ sheet.old ++ (codes "group " ++ decimal country) }
 {
     sheet.text(b"group ");
@@ -179,7 +181,7 @@ fn direction_line(nominal: bool) -> &'static [u8]
 }
 
 fn gather_grade(from: u64, per_mille: i64, sheet: &mut Sheet)
-    requires { length sheet.old ≤ 896 }
+    requires { length sheet.old + LONGEST_PART ≤ ROOM }
     ensures { sheet.new ≡ sheet.old ++ said_text (Grade from per_mille) }
 {
     sheet.text(b"grade ");
@@ -190,7 +192,7 @@ fn gather_grade(from: u64, per_mille: i64, sheet: &mut Sheet)
 }
 
 fn gather_speed(from: u64, kmh: u64, sheet: &mut Sheet)
-    requires { length sheet.old ≤ 896 }
+    requires { length sheet.old + LONGEST_PART ≤ ROOM }
     ensures { sheet.new ≡ sheet.old ++ said_text (Speed from kmh) }
 {
     sheet.text(b"speed ");
