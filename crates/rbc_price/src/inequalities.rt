@@ -49,30 +49,37 @@ fn first_row(rows: &[Vec<u64>], from: usize, to: usize, cost: u64) -> Option<Pla
     None
 }
 
+/// The stretch that is the lowest one over the metres of a step, and the last such one, with its value.
+#[derive(Clone, Copy)]
+struct Lowest<V: Level> {
+    column: Column,
+    level: V,
+}
+
 /// The first price that is too high for a step from this break, over whose metres the stretch of `lowest` is the lowest
-/// one, of this value, and the last such one. Up to the break behind that stretch such a step costs so much.
+/// one, and the last such one. Up to the break behind that stretch such a step costs so much.
 fn first_from_break<V: Level>(
     track: &Runs<V>,
     rows: &[Vec<u64>],
     from: Column,
-    lowest: Column,
-    level: V,
+    lowest: Lowest<V>,
     cost: u64,
 ) -> Option<Place>
     requires whole { track.now.end % unit_of track.now.end ≡ 0 }
     requires wide { AreWide (stretches_of track.now) rows.now }
     requires from { IsColumn track.now from }
-    requires lowest { IsColumn track.now lowest }
-    requires on { from.index ≤ lowest.index }
-    requires level { IsLowest V.levels track.now lowest.stretch.from lowest.stretch.to level }
-    requires cost { IsCostAt V.levels track.now from.stretch.from lowest.stretch.to level cost }
+    requires lowest { IsColumn track.now lowest.column }
+    requires on { from.index ≤ lowest.column.index }
+    requires level { IsLowest V.levels track.now lowest.column.stretch.from lowest.column.stretch.to lowest.level }
+    requires cost { IsCostAt V.levels track.now from.stretch.from lowest.column.stretch.to lowest.level cost }
     ensures { IsFirst V.levels track.now (prices_of rows.now)
-        (λ f to. (f ≡ from.index) × IsLowestStretch V.levels track.now f to lowest.index) result }
+        (λ f to. (f ≡ from.index) × IsLowestStretch V.levels track.now f to lowest.column.index) result }
 {
     let _end = track.end();
+    let Lowest { column, level } = lowest;
     let mut cost = cost;
-    let mut last = lowest;
-    let mut first = first_row(rows, from.index, lowest.index + 1, cost);
+    let mut last = column;
+    let mut first = first_row(rows, from.index, column.index + 1, cost);
     while let Some(next) = column_behind(track, last) {
         if is_at_most(least_on(track, next.stretch), level) {
             return first;
@@ -84,29 +91,27 @@ fn first_from_break<V: Level>(
     first
 }
 
-/// The first price that is too high for a step over whose metres the stretch of `lowest` is the lowest one, and the
+/// The first price that is too high for a step over whose metres the stretch of `column` is the lowest one, and the
 /// last such one.
-fn first_over<V: Level>(track: &Runs<V>, rows: &[Vec<u64>], lowest: Column) -> Option<Place>
+fn first_over<V: Level>(track: &Runs<V>, rows: &[Vec<u64>], column: Column) -> Option<Place>
     requires whole { track.now.end % unit_of track.now.end ≡ 0 }
     requires wide { AreWide (stretches_of track.now) rows.now }
-    requires lowest { IsColumn track.now lowest }
+    requires column { IsColumn track.now column }
     ensures { IsFirst V.levels track.now (prices_of rows.now)
-        (λ from to. IsLowestStretch V.levels track.now from to lowest.index) result }
+        (λ from to. IsLowestStretch V.levels track.now from to column.index) result }
 {
     let _end = track.end();
-    let level = least_on(track, lowest.stretch);
-    let mut cost = price_on(track, lowest.stretch, level.floor());
-    let mut from = lowest;
-    let mut first = first_from_break(track, rows, from, lowest, level, cost);
+    let level = least_on(track, column.stretch);
+    let lowest = Lowest { column, level };
+    let mut cost = price_on(track, column.stretch, level.floor());
+    let mut from = column;
+    let mut first = first_from_break(track, rows, from, lowest, cost);
     while let Some(before) = column_before(track, from) {
         if !is_at_most(level, least_on(track, before.stretch)) {
             return first;
         }
         cost += price_on(track, before.stretch, level.floor());
-        first = earlier(
-            first,
-            first_from_break(track, rows, before, lowest, level, cost),
-        );
+        first = earlier(first, first_from_break(track, rows, before, lowest, cost));
         from = before;
     }
     first

@@ -8,9 +8,9 @@ use Rattle.rbc_price.proofs.inequalities.first_over.Given as goal
 abbrev pub invariant-loop-before : goal.invariant-loop-before
 invariant-loop-before g l = record {
   from : IsColumn l.track l.from;
-  order : l.from.index ≤ l.lowest.index;
-  cost : IsCostAt g.V.Level.levels l.track l.from.stretch.from l.lowest.stretch.to l.level l.cost;
-  first : IsFirst g.V.Level.levels l.track (prices_of l.rows) (λ f to. (l.from.index ≤ f) × IsLowestStretch g.V.Level.levels l.track f to l.lowest.index) l.first;
+  order : l.from.index ≤ l.fn.column.index;
+  cost : IsCostAt g.V.Level.levels l.track l.from.stretch.from l.fn.column.stretch.to l.level l.cost;
+  first : IsFirst g.V.Level.levels l.track (prices_of l.rows) (λ f to. (l.from.index ≤ f) × IsLowestStretch g.V.Level.levels l.track f to l.fn.column.index) l.first;
 }
 
 abbrev pub decreases-loop-before : goal.decreases-loop-before
