@@ -1,15 +1,18 @@
 -- Lemmas on tries to grant.
 use Rattle.std.proofs.Common.{◌≡◌, ℕ, zero, suc, map, replicate, Bool, true, false, length, List, [], ◌∷◌, ◌++◌, Option, Some, None, is_some, Result, Ok, Err, refl, ap, sym, subst, ◌∙◌}
-use Rattle.std.specs.Prelude.{if◌then◌else◌, IfErr, IfOk, IfSome, slice_get}
+use Rattle.std.specs.Prelude.{if◌then◌else◌, IfErr, IfOk, IfSome, OnErr, slice_get}
 use Rattle.std.specs.Option.{option_map_or}
 use Rattle.std.specs.Result.{result_map_both}
 use Rattle.rbc_model.specs.declared.memory.OrMemory.{OrMemory}
 use Rattle.rbc_model.specs.declared.memory.OrMemory.TheVariants.{Refused, Memory}
+use Rattle.rbc_model.specs.declared.refusals.Refusal.{Refusal}
 use Rattle.rbc_model.specs.declared.refusals.ViewFault.{ViewFault}
 use Rattle.rbc_model.specs.declared.refusals.ViewFault.TheVariants.{UnknownTrain, Blocked as BlockedAt}
 use Rattle.rbc_model.specs.declared.reports.Told.{Told}
-use Rattle.rbc_model.specs.Histories.{Entry, Granted, Receipt}
-use Rattle.rbc_model.specs.Scenes.{train_numbered}
+use Rattle.rbc_model.specs.declared.reports.Event.TheVariants.{Tell}
+use Rattle.rbc_model.specs.Events.{step}
+use Rattle.rbc_model.specs.Histories.{Entry, Heard, Granted, Receipt}
+use Rattle.rbc_model.specs.Scenes.{Scene, train_numbered}
 use Rattle.rbc_model.specs.Views.{View, view, view_of}
 use Rattle.rbc_snap.specs.SameViews.{is_same_view-decides}
 use Rattle.rbc_grant_laws.specs.Candidates.{IsCandidateOf}
@@ -21,6 +24,7 @@ use Rattle.rbc_snap.specs.Records.{HistoryOnTrack, scene_now, is_full, with_entr
 use Rattle.rbc_snap.specs.Entering.{EntersOrMemory, entry_granted, is_just, is_shown}
 use Rattle.rbc_grant_laws.proofs.CandidateLemmas.{view-train}
 use Rattle.rbc_snap.specs.ApplyFault.{ApplyFault}
+use Rattle.rbc_snap.specs.ApplyFault.TheVariants.{Full as FullToTold, Refused as RefusedByScene}
 use Rattle.rbc_snap.specs.Later.{IsLater}
 use Rattle.rbc_snap.specs.Looks.{IsSeenIn}
 use Rattle.rbc_snap.specs.declared.faults.EyeFault.{EyeFault}
@@ -31,7 +35,7 @@ use Rattle.rbc_desk.specs.declared.faults.AskFault.TheVariants.{UnknownTrain as 
 use Rattle.rbc_desk.specs.declared.granted.Granted.{Granted as GrantedAtDesk}
 use Rattle.rbc_desk.specs.Asking.{fault_at, seen_by, shown, tried, IsAnsweredAt, IsAnsweredThen, IsRefused, Means, Tries}
 use Rattle.rbc_desk.specs.Seats.{Seated}
-use Rattle.rbc_desk.specs.Telling.{IsToldThen}
+use Rattle.rbc_desk.specs.Telling.{IsToldAt, IsToldThen}
 
 -- what is entered, by what is asked in turn: whether the history is full, whether the candidate's view is shown
 abbrev entry_by : Bool → Bool → ℕ → Entry → Result Entry CommitFault
@@ -219,10 +223,30 @@ module _ (first had has : Seated) (later : IsLater first.told had.told) (none : 
 
 -- ---- what is told
 
-pub told_place : (begun after : HistoryOnTrack) (told : Told) (answer : Result Receipt (OrMemory ApplyFault)) → IsToldThen begun after told answer
-    → IfOk answer (λ receipt. slice_get after.entries receipt.place ≡ Some receipt.entry)
-told_place begun after told (Ok receipt) since = let e = since.entered in entered_place since.before after receipt.place receipt.entry e.1 e.2
-told_place begun after told (Err fault) since = tt
+told_place : (begun after : HistoryOnTrack) (told : Told) (receipt : Receipt) → IsToldThen begun after told (Ok receipt) → slice_get after.entries receipt.place ≡ Some receipt.entry
+told_place begun after told receipt since = let e = since.entered in entered_place since.before after receipt.place receipt.entry e.1 e.2
+
+only_told : (full : Bool) (told : Told) (stepped : Result Scene Refusal) (entry : Entry)
+    → (if full then Err FullToTold else result_map_both (λ after. Heard told) (λ refusal. RefusedByScene refusal) stepped) ≡ Ok entry → entry ≡ Heard told
+only_told true told stepped entry e = cc
+only_told false told (Ok after) entry e = cc
+only_told false told (Err refusal) entry e = cc
+
+-- what the seat has then
+pub told_at : (had has : Seated) (told : Told) (answer : Result Receipt (OrMemory ApplyFault)) → IsToldThen had.told has.told told answer → IsLater had.told has.told
+    → IfOk answer (λ receipt. has.receipts ≡ had.receipts ++ receipt ∷ []) → OnErr answer (has.receipts ≡ had.receipts) → IsToldAt had has told answer
+told_at had has told (Ok receipt) since later gains none =
+    let before = since.before in
+    let entered = since.entered in
+    record {
+      since = since;
+      later = later;
+      receipt = gains;
+      entry = only_told (is_full before) told (step before.track (scene_now before) (Tell told)) receipt.entry entered.0;
+      place = told_place had.told has.told told receipt since;
+      refused = tt;
+    }
+told_at had has told (Err fault) since later gains none = record { since = since; later = later; receipt = tt; entry = tt; place = tt; refused = none }
 
 -- ---- what a seat is told in a hold
 

@@ -14,7 +14,7 @@ pub struct Blank {
 }
 
 impl Blank {
-    /// For a desk with so many seats.
+    /// For a desk with this number of seats.
     pub fn new(seats: usize) -> Blank
         ensures { result.ledger.parts ≡ seats }
     {

@@ -9,7 +9,7 @@ ghost use Rattle.rbc_snap.specs.Later.{IsLater};
 ghost use Rattle.rbc_desk.specs.Asking.{seen_by, IsAnsweredAt, IsAnsweredThen, IsTriedAt};
 ghost use Rattle.rbc_desk.specs.Closing.{all_receipts, IsUnmatched};
 ghost use Rattle.rbc_desk.specs.Seats.{seated};
-ghost use Rattle.rbc_desk.specs.Telling.{IsToldThen};
+ghost use Rattle.rbc_desk.specs.Telling.{IsToldAt};
 ghost use Rattle.rbc_desk.specs.Trains.{numbers_of};
 ghost use Rattle.rbc_desk.specs.declared.faults.CloseFault.TheVariants.{Missing};
 
@@ -94,8 +94,8 @@ fn look<L: DeskName, R: Wait>(
 }
 
 impl<L: DeskName> Desk<L> {
-    /// A desk over the record, with so many seats. The blank is that of the desk's ledger, with a part for each seat, and
-    /// of its history. Each seat is told all that the record has.
+    /// A desk over the record, with this number of seats. The blank is that of the desk's ledger, with a part for each
+    /// seat, and of its history. Each seat is told all that the record has.
     ///
     /// # Errors
     ///
@@ -161,12 +161,7 @@ impl<L: DeskName> Desk<L> {
         told: Told,
     ) -> Result<Receipt, OrMemory<ApplyFault>>
         requires { IsOfTrack L.opened.track told }
-        ensures since { IsToldThen seat.old.told seat.new.told told result }
-        ensures later { IsLater seat.old.told seat.new.told }
-        ensures receipt { IfOk result (λ receipt. seat.new.receipts ≡ seat.old.receipts ++ receipt ∷ []) }
-        ensures entry { IfOk result (λ receipt. receipt.entry ≡ Heard told) }
-        ensures place { IfOk result (λ receipt. slice_get seat.new.told.entries receipt.place ≡ Some receipt.entry) }
-        ensures refused { OnErr result (seat.new.receipts ≡ seat.old.receipts) }
+        ensures { IsToldAt seat.old seat.new told result }
     {
         let mut shared = self.shared.lock(rt);
         let answer = (*shared).event(rt, alloc, seat, &told);
@@ -184,9 +179,7 @@ impl<L: DeskName> Desk<L> {
         told: &Told,
     ) -> OrMemory<ApplyFault>
         requires { IsOfTrack L.opened.track told.now }
-        ensures since { IsToldThen seat.old.told seat.new.told told.now (Err result) }
-        ensures later { IsLater seat.old.told seat.new.told }
-        ensures receipts { seat.new.receipts ≡ seat.old.receipts }
+        ensures { IsToldAt seat.old seat.new told.now (Err result) }
     {
         let shared = self.shared.lock(rt);
         let fault = (*shared).event_in_vain(rt, seat, told);

@@ -11,8 +11,8 @@ pub enum AskFault {
     /// There is no such train.
     #[error("unknown train")]
     UnknownTrain,
-    /// This stands in its way, so many metres from its group (negative: before the group), at this version of the
-    /// history.
+    /// This stands in its way, this number of metres from its group (negative: before the group), at this version of
+    /// the history.
     #[error("blocked")]
     Blocked(Obstacle, i64, u64),
     /// The record has 100,000 entries.
@@ -23,7 +23,7 @@ pub enum AskFault {
 /// Why a desk gives no record back.
 #[derive(Drop, Error)]
 pub enum CloseFault {
-    /// So many of its seats were not handed back.
+    /// This number of its seats was not handed back.
     #[error("{0} seats are missing")]
     Missing(usize),
     /// This receipt is not at its place in the history.

@@ -14,7 +14,7 @@ ghost use Rattle.rbc_desk.specs.Closing.{all_receipts, IsUnmatchedIn};
 ghost use Rattle.rbc_desk.specs.Trains.{numbers_of};
 ghost use Rattle.rbc_snap.specs.Later.{IsLater};
 ghost use Rattle.rbc_desk.specs.Asking.{fault_at, shown, tried, IsAnsweredAt, IsRefused, IsTriedAt, Tries};
-ghost use Rattle.rbc_desk.specs.Telling.{IsToldThen};
+ghost use Rattle.rbc_desk.specs.Telling.{IsToldAt, IsToldThen};
 
 use crate::closing::{find_seats, merge_all};
 use crate::{AskFault, CloseFault, DeskName, Granted, Seat};
@@ -202,9 +202,7 @@ impl<L: DeskName> Shared<L> {
         told: &Told,
     ) -> OrMemory<ApplyFault>
         requires { IsOfTrack L.opened.track told.now }
-        ensures told { IsToldThen seat.old.told seat.new.told told.now (Err result) }
-        ensures later { IsLater seat.old.told seat.new.told }
-        ensures receipts { seat.new.receipts ≡ seat.old.receipts }
+        ensures { IsToldAt seat.old seat.new told.now (Err result) }
     {
         self.bring(rt, seat);
         match self.log.refusal(told) {

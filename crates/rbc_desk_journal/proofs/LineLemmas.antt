@@ -31,7 +31,7 @@ read_is_short line said read true long =
     absurd (err_is_ok said Overlong (sym refused ∙ read))
 read_is_short line said read false short = let no = ltb-false LONGEST_LINE (length line) short in omega (arith, no)
 
-pub text_is_short : (said : SessionLine) (text : List ℕ) → IsSayable said → text ≡ said_line said → length text ≤ 4096
+pub text_is_short : (said : SessionLine) (text : List ℕ) → IsSayable said → text ≡ said_line said → length text ≤ LONGEST_LINE
 text_is_short said text sayable is = read_is_short text said (text_says said text sayable is) (nat_lt LONGEST_LINE (length text)) refl
 
 -- the line of a request that led to an entry tells it

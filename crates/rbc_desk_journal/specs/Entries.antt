@@ -11,7 +11,7 @@ pub record TellsEntry (history : HistoryOnTrack) (place : ℕ) (line : List ℕ)
   pub stands : slice_get history.entries place ≡ Some entry
   pub adds : Adds history.track (take place history.entries) line entry
 
--- A file that tells the first entries of a history, so many at least: no more than there are, each by a line of its own, and none is skipped.
+-- A file that tells the first entries of a history, at least the number given: no more than there are, each by its own line, and none is skipped.
 pub record TellsFirst (history : HistoryOnTrack) (least : ℕ) (file : List ℕ) : Type 0 where
   pub enough : least ≤ length (recovered file)
   pub fits : length (recovered file) ≤ length history.entries

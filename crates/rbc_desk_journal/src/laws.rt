@@ -8,8 +8,8 @@ ghost use Rattle.rbc_scribe.specs.Told.{HasLines};
 
 use rbc_journal::Device;
 
-/// A file with so many lines, each of which tells the entry at its place, tells the first entries of the history. Nothing
-/// here runs.
+/// A file with lines each of which tells the entry at its place, and with at least the number given of them, tells the
+/// first entries of the history. Nothing here runs.
 pub fn lines_tell_first_entries()
     ensures { (history : HistoryOnTrack) (least : ℕ) (file : List ℕ) → HasLines (TellsEntry history) least file → TellsFirst history least file }
 {}

@@ -10,7 +10,7 @@ use crate::SeatTold;
 use rbc_journal::Device;
 use rbc_kept::server::{Blank, Desk, DeskName, Seat};
 use rbc_kept::{Kept, KeptFault};
-use rbc_scribe::{Pen, Scribe, ScribeName, Told};
+use rbc_scribe::{Pen, Scribe, ScribeName, Start, Told};
 use std::alloc::Global;
 use std::sync::Wait;
 
@@ -26,7 +26,8 @@ pub struct Opened<L: DeskName, T: Told + Drop, D: Device, N: ScribeName> {
     pub pens: Vec<Pen<N>>,
 }
 
-/// A desk over a record that its journal tells, with so many seats, each with a pen. The file is not asked for anything.
+/// A desk over a record that its journal tells, with this number of seats, each with a pen. The file is not asked for
+/// anything.
 ///
 /// # Errors
 ///
@@ -62,7 +63,12 @@ pub fn open<L: DeskName, D: Device, N: ScribeName, R: Wait>(
         Err(_) => return Err((KeptFault::Memory, journal.into_device())),
     };
     let told = told_first(seats, made.as_slice());
-    match Scribe::open(rt, alloc, journal, told, lines, seats, stamps) {
+    let start = Start {
+        journal,
+        told,
+        lines,
+    };
+    match Scribe::open(rt, alloc, start, seats, stamps) {
         Ok((scribe, pens)) => Ok(Opened {
             desk,
             seats: made,
@@ -76,7 +82,7 @@ pub fn open<L: DeskName, D: Device, N: ScribeName, R: Wait>(
     }
 }
 
-/// What the first of so many new seats was told.
+/// What the first of the new seats was told.
 #[tactic(auto, using(crate::proofs::OpeningLemmas::first_of_all, crate::proofs::OpeningLemmas::none_of_some))]
 fn told_first<L: DeskName>(count: usize, seats: &[Seat<L>]) -> SeatTold<L>
     requires some { 1 ≤ count }

@@ -13,7 +13,7 @@ use Rattle.rbc_kept.specs.declared.kept.TheConstants.{MOST_TOGETHER}
 abbrev pub StandsFor : {Entry : Type 0} → (List Entry → List ℕ → Entry → Type 0) → List ℕ → List Entry → Type 0
 StandsFor adds file entries = Tells adds [] (recovered file) entries
 
--- a file stands for the first n of these entries, n being at least so many
+-- a file stands for the first n of these entries, n being at least the number given
 abbrev pub IsFrom : {Entry : Type 0} → (List Entry → List ℕ → Entry → Type 0) → ℕ → List Entry → List ℕ → Type 0
 IsFrom adds least entries file = (n : ℕ) × (least ≤ n) × (n ≤ length entries) × StandsFor adds file (take n entries)
 

@@ -38,7 +38,7 @@ pub fn run<R: Source, W: Sink, D: Device>(
     requires writer { W.failed writer.old ≡ false }
     requires ready { IsReady D.seen D.may_leave kept.old }
 
-    // A fault is answered just where the reader or the writer failed, or the journal: this only where its file did.
+    // A fault is answered exactly where the reader or the writer failed, or the journal: this only where its file did.
     ensures read { (result ≡ Err (Ended ReadFault)) ↔ IsTrue (R.failed reader.new) }
     ensures write { result ≡ Err (Ended WriteFault) → IsTrue (W.failed writer.new) }
     ensures journal { (result ≡ Err JournalFailed) ↔ IsTrue kept.new.has_failed }

@@ -36,7 +36,7 @@ abbrev pub shown_text : Bool → Track → List Entry → List ℕ → List ℕ
 shown_text each track before input =
     head_text ++ (lines_text each track before (lines_of input) ++ (end_text each track (entries_after track before input) ++ foot_text))
 
--- Where what was left to read and what was written are known, just the page of what was read was written.
+-- Where what was left to read and what was written are known, the page of what was read was written, and nothing else.
 abbrev pub ShowsAll : Bool → Track → List Entry → Option (List ℕ) → Option (List ℕ) → Option (List ℕ) → Type 0
 ShowsAll each track before left old new =
     (input held text : List ℕ) → left ≡ Some input → old ≡ Some held → new ≡ Some (held ++ text) → text ≡ shown_text each track before input

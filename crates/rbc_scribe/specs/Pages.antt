@@ -19,7 +19,7 @@ abbrev pub page_of : {D T : Type 0} → D → T → ℕ → ℕ → Bool → Pag
 page_of device told lines next has_failed = record { device = device; told = told; lines = lines; next = next; has_failed = has_failed }
 
 module _ {D : Type 0} (seen : D → List ℕ) (may_leave : D → List ℕ → Type 0) where
-  -- The journal is settled, with so many lines in its file and so many with the staged ones. Each tells the entry at its place.
+  -- The journal is settled. Its file has the first number of lines, and with the staged ones there are the second. Each tells the entry at its place.
   pub record IsWhole (tells : ℕ → List ℕ → Type 0) (journal : Journal D) (lines next : ℕ) : Type 0 where
     pub settled : IsSettled seen may_leave journal
     pub count : lines ≡ length (recovered (seen journal.device))
@@ -27,7 +27,7 @@ module _ {D : Type 0} (seen : D → List ℕ) (may_leave : D → List ℕ → Ty
     pub told : AreTold tells (recovered (seen journal.device) ++ staged journal)
 
 module _ {D : Type 0} (moment : D → ℕ) (left_since : D → ℕ → List ℕ → Type 0) where
-  -- each of these stamps has at most so many lines, and lasts
+  -- each of these stamps has at most this number of lines, and lasts
   abbrev pub AllLast : (ℕ → List ℕ → Type 0) → D → ℕ → List Stamp → Type 0
   AllLast tells device lines stamps =
       (place : ℕ) (stamp : Stamp) → slice_get stamps place ≡ Some stamp → (stamp.lines ≤ lines) × Lasts moment left_since tells device stamp

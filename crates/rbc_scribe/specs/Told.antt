@@ -6,7 +6,7 @@ use Rattle.rbc_journal.specs.Journal.{recovered}
 abbrev pub AreTold : (ℕ → List ℕ → Type 0) → List (List ℕ) → Type 0
 AreTold tells lines = (place : ℕ) (line : List ℕ) → slice_get lines place ≡ Some line → tells place line
 
--- A file that stands for at least so many lines, each of which tells the entry at its place: the first entries, and none is skipped.
+-- A file that stands for lines each of which tells the entry at its place, at least the number given: the first entries, and none is skipped.
 pub record HasLines (tells : ℕ → List ℕ → Type 0) (least : ℕ) (file : List ℕ) : Type 0 where
   pub enough : least ≤ length (recovered file)
   pub told : AreTold tells (recovered file)

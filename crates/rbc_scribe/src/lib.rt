@@ -17,6 +17,6 @@ pub use line::Line;
 pub use name::ScribeName;
 pub use page::Page;
 pub use pen::Pen;
-pub use scribe::{NotKept, Scribe};
+pub use scribe::{NotKept, Scribe, Start};
 pub use stamp::{Law, Stamp};
 pub use told::Told;

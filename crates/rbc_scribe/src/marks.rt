@@ -161,7 +161,7 @@ impl<N: ScribeName> Marks<N> {
         }
     }
 
-    /// Adds a stamp of the journal, whose file stands for so many lines. All stamps are given out too.
+    /// Adds a stamp of the journal, whose file stands for this number of lines. All stamps are given out too.
     #[tactic(auto, using(crate::proofs::MarkLemmas::latest_added))]
     pub(crate) fn stamp<R: Wait, D: Device>(
         &mut self,

@@ -41,7 +41,7 @@ impl<T: Told + Drop, D: Device, N: ScribeName> Model for Page<T, D, N> {
         × (p.lines ≤ p.next) };
 }
 
-/// Makes room to stage a line of so many bytes. False where the file takes no more.
+/// Makes room to stage a line of this number of bytes. False where the file takes no more.
 fn make_room<D: Device, R: Wait>(rt: &R, journal: &mut Journal<D>, bytes: usize) -> bool
     requires { IsSettled D.seen D.may_leave journal.old }
     ensures settled { IsSettled D.seen D.may_leave journal.new }
@@ -61,7 +61,7 @@ fn make_room<D: Device, R: Wait>(rt: &R, journal: &mut Journal<D>, bytes: usize)
 }
 
 impl<T: Told + Drop, D: Device, N: ScribeName> Page<T, D, N> {
-    /// A page over a journal that is settled, with so many lines, and its first stamp.
+    /// A page over a journal that is settled, with this number of lines, and its first stamp.
     pub(crate) fn new<R: Wait>(
         rt: &R,
         journal: Journal<D>,

@@ -32,6 +32,17 @@ pub struct Scribe<T: Told + Drop, D: Device, N: ScribeName> {
 /// How many bytes the lines of all pens have at most, each with its line feed and its gate.
 const ROOM: usize = MOST_PENS * 4_098;
 
+/// What a scribe starts with: a journal that is settled, what was told of the history that its lines tell, and how many
+/// lines it has.
+pub struct Start<T: Told + Drop, D: Device> {
+    /// The journal.
+    pub journal: Journal<D>,
+    /// What was told of the history.
+    pub told: T,
+    /// How many lines the journal has.
+    pub lines: u64,
+}
+
 /// A slot for each pen.
 fn empty_slots<T: Told + Drop>(alloc: Global) -> Result<Vec<Option<Line<T>>>, AllocError>
     ensures { IfOk result (λ slots. vec_len slots ≡ 16) }
@@ -43,7 +54,7 @@ fn empty_slots<T: Told + Drop>(alloc: Global) -> Result<Vec<Option<Line<T>>>, Al
     Ok(slots)
 }
 
-/// So many pens, in the room that is there for them.
+/// This number of pens, in the room that is there for them.
 fn pens_with<N: ScribeName>(mut pens: Vec<Pen<N>>, count: usize, mark: &Mark<N>) -> Vec<Pen<N>>
     requires empty { vec_len pens ≡ 0 }
     requires room { count ≤ vec_capacity pens }
@@ -57,8 +68,8 @@ fn pens_with<N: ScribeName>(mut pens: Vec<Pen<N>>, count: usize, mark: &Mark<N>)
 }
 
 impl<T: Told + Drop, D: Device, N: ScribeName> Scribe<T, D, N> {
-    /// A scribe over a journal with so many lines, each of which tells the entry at its place, and so many pens, which have
-    /// the first stamp. The file is not asked for anything.
+    /// A scribe over a journal each of whose lines tells the entry at its place, and this number of pens, which have the
+    /// first stamp. The file is not asked for anything.
     ///
     /// # Errors
     ///
@@ -66,21 +77,24 @@ impl<T: Told + Drop, D: Device, N: ScribeName> Scribe<T, D, N> {
     pub fn open<R: Wait>(
         rt: &R,
         alloc: Global,
-        mut journal: Journal<D>,
-        told: T,
-        lines: u64,
+        start: Start<T, D>,
         pens: usize,
         blank: Blank,
     ) -> Result<(Scribe<T, D, N>, Vec<Pen<N>>), (JournalFault, D)>
-        requires settled { IsSettled D.seen D.may_leave journal }
-        requires none_staged { staged journal ≡ [] }
-        requires count { lines ≡ length (recovered (D.seen journal.device)) }
-        requires told { AreTold (T.tells told) (recovered (D.seen journal.device)) }
+        requires settled { IsSettled D.seen D.may_leave start.journal }
+        requires none_staged { staged start.journal ≡ [] }
+        requires count { start.lines ≡ length (recovered (D.seen start.journal.device)) }
+        requires told { AreTold (T.tells start.told) (recovered (D.seen start.journal.device)) }
         requires few { pens ≤ 16 }
         requires book { blank ≡ N.book }
-        ensures pens { IfOk result (λ opened. opened.1.items ≡ replicate pens (stamp_of D.seen D.moment journal ∷ [])) }
-        ensures refused { IfErr result (λ fault. (fault.1 ≡ journal.device) × (fault.0 ≡ JournalFault.Device → ⊥)) }
+        ensures pens { IfOk result (λ opened. opened.1.items ≡ replicate pens (stamp_of D.seen D.moment start.journal ∷ [])) }
+        ensures refused { IfErr result (λ fault. (fault.1 ≡ start.journal.device) × (fault.0 ≡ JournalFault.Device → ⊥)) }
     {
+        let Start {
+            mut journal,
+            told,
+            lines,
+        } = start;
         if let Err(fault) = journal.reserve(ROOM) {
             return Err((fault, journal.into_device()));
         }

@@ -1,18 +1,13 @@
 -- A train that asks: what it is shown, and what the record answers, as the reply to its line.
-use Rattle.std.proofs.Common.{◌≡◌, ℕ, zero, suc, lit<, ◌+◌, Bool, true, false, cond, List, ◌∷◌, [], ◌++◌, length, Option, Some, None, Result, Ok, Err, refl, sym, ap, ◌∙◌, subst, inl, ℤ, arith}
+use Rattle.std.proofs.Common.{◌≡◌, ℕ, ◌+◌, Bool, true, false, cond, List, ◌∷◌, [], ◌++◌, length, Option, Some, None, Result, Ok, Err, refl, sym, ap, ◌∙◌, subst, inl, ℤ, arith}
 use Rattle.std.specs.Prelude.{MatchBool, codes, decimal}
 use Rattle.std.specs.Fmt.{signed_decimal}
-use Rattle.rbc_model.specs.declared.places.Format.TheVariants.{Far}
 use Rattle.rbc_model.specs.declared.refusals.Obstacle.{Obstacle}
 use Rattle.rbc_model.specs.declared.refusals.ViewFault.{ViewFault}
 use Rattle.rbc_model.specs.declared.refusals.ViewFault.TheVariants.{Blocked}
 use Rattle.rbc_model.specs.Levels.{Levels, speed_levels, grade_levels}
 use Rattle.rbc_model.specs.Profiles.{StepFunction, value_at, IsChosenProfile}
-use Rattle.rbc_model.specs.Bits.{IsBytes, bytes_of, padded_bits, field_bits}
-use Rattle.rbc_model.specs.Messages.{Authority, IsAuthority, message_3, sized_fields, message_bytes}
-use Rattle.rbc_model.proofs.BitLemmas.{number_of-below}
-use Rattle.rbc_model.proofs.RoundTripLemmas.{round_trip_far}
-use Rattle.rbc_model.specs.Reading.{read_message}
+use Rattle.rbc_model.specs.Messages.{Authority, message_bytes}
 use Rattle.rbc_model.specs.SoundTracks.{IsInForm, IsSound}
 use Rattle.rbc_model.specs.Tracks.{Track}
 use Rattle.rbc_model.specs.Scenes.{Scene}
@@ -117,16 +112,6 @@ module _ (history : HistoryOnTrack) (candidate : Candidate) where
 
 -- ---- what is told of a grant
 
--- a message is made of bytes
-are_bytes : (bits : List Bool) → IsBytes (bytes_of bits)
-are_bytes (a ∷ b ∷ c ∷ d ∷ e ∷ f ∷ g ∷ h ∷ rest) zero = number_of-below (a ∷ b ∷ c ∷ d ∷ e ∷ f ∷ g ∷ h ∷ [])
-are_bytes (a ∷ b ∷ c ∷ d ∷ e ∷ f ∷ g ∷ h ∷ rest) (suc i) = are_bytes rest i
-are_bytes _ i = lit< tt
-
--- and reading it gives the authority back
-pub reads_back : (authority : Authority) → IsAuthority Far authority → read_message Far (message_bytes authority) ≡ Ok authority
-reads_back authority is = (round_trip_far (message_bytes authority) authority (are_bytes (padded_bits (field_bits (sized_fields (message_3 authority)))))).1 (is, refl)
-
 basis_is : {V : Type 0} (levels : Levels V) (unit limit n m : ℕ) (runs steps : List (ℕ × V)) (track : StepFunction V)
     → IsChosenProfile levels unit limit n (value_at runs) steps → track ≡ record { steps = runs; end = m } → m ≡ n → IsBasisOf levels (record { steps = steps; end = n }) track
 basis_is levels unit limit n m runs steps track chosen is ends =
@@ -182,7 +167,7 @@ module _ (track : Track) (candidate : Candidate) (count : ℕ) (granted : ToldGr
           grades = chosen.grades;
           speed_prices = is.speed_prices;
           grade_prices = is.grade_prices;
-          message = is.reads;
+          writable = is.writable;
         }
 
 -- the train is granted what the candidate is, and the reply tells it

@@ -8,7 +8,7 @@ use Rattle.rbc_session_laws.specs.AllRead.{OfAllRead}
 abbrev pub AnswersInput : HistoryOnTrack → HistoryOnTrack → List ℕ → List ℕ → Type 0
 AnswersInput before after input text = (text ≡ answers_of before.track before.entries input) × (after.entries ≡ entries_after before.track before.entries input)
 
--- Where what was left to read and what was written are known, and no line that was written says that memory was refused: just the answers to what was
--- read were written, and the history has just the entries that it leads to.
+-- Where what was left to read and what was written are known, and no line that was written says that memory was refused: the answers to what was read
+-- were written, and nothing else, and the history has the entries that it leads to, and no others.
 abbrev pub AnswersAll : HistoryOnTrack → HistoryOnTrack → Option (List ℕ) → Option (List ℕ) → Option (List ℕ) → Type 0
 AnswersAll before after left old new = OfAllRead (AnswersInput before after) left old new

@@ -26,7 +26,7 @@ pub record IsConnection {L P : Type 0} (kept : P → ℕ → Type 0) (c : Connec
   -- What it was told are the replies to the first lines, and what these led to is kept: so it is with all lines, unless keeping failed.
   pub is_kept : AreToldKept (kept c.after.pen) c.after.has_failed session.turns c.came.told c.went.told
   pub stays : StaysKept kept c.before.pen c.after.pen
-  -- It ended well only at the end of what this client says, and with a read or write fault just where a read or a write failed, or keeping.
+  -- It ended well only at the end of what this client says, and with a read or write fault exactly where a read or a write failed, or keeping.
   pub end : OnOk c.went.ended (IsAtEnd c.went.unread)
   pub read_fault : (c.went.ended ≡ Err Read) ↔ IsTrue c.went.read_failed
   pub write_fault : c.went.ended ≡ Err Write → IsTrue (c.after.has_failed || c.went.write_failed)

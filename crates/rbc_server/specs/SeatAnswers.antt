@@ -1,4 +1,4 @@
--- What the lines of a session at a desk are answered: just what they are answered in a session of its own, after a history that the seat is told.
+-- What the lines of a session at a desk are answered: what they are answered in a session of its own, after a history that the seat is told.
 use Rattle.std.specs.Prelude.{◌≡◌, ℕ, List, [], ◌∷◌, ◌⊎◌}
 use Rattle.rbc_model.specs.Tracks.{Track}
 use Rattle.rbc_model.specs.SessionReply.{Full, Memory, refused_reply}

@@ -133,7 +133,7 @@ pub record IsAttended {L P : Type 0} (kept : P → ℕ → Type 0) (track : Trac
 
 -- The desk that was opened with this history was closed with these seats, and gave this record.
 pub record IsClosed (opened : HistoryOnTrack) (kept : List Seated) (log : HistoryOnTrack) : Type 0 where
-  -- All receipts of all seats are just the entries since the desk was opened, and the record goes on from what each seat was told.
+  -- The receipts of all seats are the entries since the desk was opened, and no others, and the record goes on from what each seat was told.
   pub matches : Matches (all_receipts kept) log.entries (length opened.entries)
   pub goes_on : All (λ (seat : Seated). IsLater seat.told log) kept
 

@@ -4,8 +4,7 @@ use Rattle.rbc_model.specs.declared.memory.OrMemory.{OrMemory}
 use Rattle.rbc_model.specs.declared.memory.OrMemory.TheVariants.{Refused, Memory as NoMemory}
 use Rattle.rbc_model.specs.Histories.{Entry}
 use Rattle.rbc_model.specs.Levels.{speed_levels, grade_levels}
-use Rattle.rbc_model.specs.Messages.{message_bytes}
-use Rattle.rbc_model.specs.Reading.{read_message}
+use Rattle.rbc_model.specs.Messages.{IsAuthority, message_bytes}
 use Rattle.rbc_model.specs.declared.places.Format.TheVariants.{Far}
 use Rattle.rbc_model.specs.PriceTables.{IsGreatestSoundTable}
 use Rattle.rbc_model.specs.Scales.{unit_of}
@@ -34,7 +33,7 @@ pub record IsToldOf (candidate : Candidate) (count : ℕ) (granted : Granted) : 
   pub obstacle : granted.obstacle ≡ candidate.grant.obstacle
   pub authority : granted.authority.now ≡ candidate.grant.authority
   pub message : granted.message.now ≡ message_bytes candidate.grant.authority
-  pub reads : read_message Far (message_bytes candidate.grant.authority) ≡ Ok candidate.grant.authority
+  pub writable : IsAuthority Far candidate.grant.authority
   pub speed_steps : granted.speeds.limit ≡ candidate.view.speed_steps
   pub speeds : granted.speeds.track.now ≡ record { steps = candidate.view.speeds; end = metres_shown candidate.view }
   pub speed_prices : IsGreatestSoundTable speed_levels (unit_of candidate.grant.authority.end) candidate.view.speed_steps candidate.grant.authority.end candidate.view.speeds (prices_of granted.speeds.prices.now)

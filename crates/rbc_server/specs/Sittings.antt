@@ -58,7 +58,7 @@ pub record AreToldKept (kept : ℕ → Type 0) (has_failed : Bool) (turns : List
 abbrev pub AreKeptOf : (ℕ → Type 0) → Outcome → Type 0
 AreKeptOf kept outcome = All (λ (receipt : Receipt). kept receipt.place) (receipts_of outcome.answer)
 
--- the same of the outcome with this number in a list, if it has so many
+-- the same of the outcome with this number in a list, if there is one
 abbrev pub IsKeptAt : (ℕ → Type 0) → List Outcome → ℕ → Type 0
 IsKeptAt kept outcomes number = (d : Outcome) → number < length outcomes → AreKeptOf kept (slice_index_or outcomes number d)
 

@@ -299,7 +299,7 @@ fn visit_all<
 }
 
 /// Accepts a client for each of the sittings, in order, each with a thread of its own, and closes the port. Once all
-/// sessions have ended it gives the seats and the pens back in their order, with room for so many seats more, and what is
+/// sessions have ended it gives the seats and the pens back in their order, with room for as many seats more, and what is
 /// left of the clients.
 ///
 /// # Errors

@@ -329,8 +329,8 @@ pub fn serve<
     ensures told { IfOk result (λ served. IsLater served.told.history served.record) }
 
     // Where a client could not be had, memory was refused or a request could not be kept, nothing is written; and where it is
-    // known who comes, fewer come than are to be served. A write fault is answered just where the writer failed; then a part
-    // of the text is written, from its start. Where the desk can't be closed the outcomes are told.
+    // known who comes, fewer come than are to be served. A write fault is answered exactly where the writer failed; then a
+    // part of the text is written, from its start. Where the desk can't be closed the outcomes are told.
     ensures port { result ≡ Err PortFault → writer.new ≡ writer.old }
     ensures no_client { result ≡ Err PortFault → FewerCome (P.coming port) (vec_len staff.sittings) }
     ensures memory { result ≡ Err NoMemory → writer.new ≡ writer.old }

@@ -39,7 +39,7 @@ pub fn run<R: Source, W: Sink>(
     requires reader { R.failed reader.old ≡ false }
     requires writer { W.failed writer.old ≡ false }
 
-    // A read or write fault is answered just where the reader or the writer failed.
+    // A read or write fault is answered exactly where the reader or the writer failed.
     ensures read { (result ≡ Err SessionFault.Read) ↔ IsTrue (R.failed reader.new) }
     ensures write { (result ≡ Err SessionFault.Write) ↔ IsTrue (W.failed writer.new) }
 
@@ -107,7 +107,7 @@ pub fn session<
     requires writer { W.failed writer.old ≡ false }
     requires whole { sitting.old.has_failed ≡ false }
 
-    // A read fault is answered just where the reader failed; a write fault where the writer did, or keeping.
+    // A read fault is answered exactly where the reader failed; a write fault where the writer did, or keeping.
     ensures read { (result ≡ Err SessionFault.Read) ↔ IsTrue (I.failed reader.new) }
     ensures write { (result ≡ Err SessionFault.Write) ↔ IsTrue (sitting.new.has_failed || W.failed writer.new) }
 

@@ -47,7 +47,7 @@ impl<L: DeskName, Q: Drop> Staff<L, Q> {
     }
 }
 
-/// So many pens that keep nothing.
+/// This number of pens that keep nothing.
 ///
 /// # Errors
 ///

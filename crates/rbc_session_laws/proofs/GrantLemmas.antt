@@ -1,5 +1,5 @@
 -- What a train is granted in a scene is one grant alone, with one table of prices for each profile.
-use Rattle.std.proofs.Common.{◌≡◌, ℕ, ◌<◌, Bool, List, ℤ, Ok, refl, ap, sym, ◌∙◌, subst, arith}
+use Rattle.std.proofs.Common.{◌≡◌, ℕ, zero, suc, ◌<◌, lit<, Bool, List, [], ◌∷◌, ℤ, Ok, refl, ap, sym, ◌∙◌, subst, arith}
 use Rattle.std.specs.Prelude.{◌%◌}
 use Rattle.rbc_model.specs.declared.refusals.Obstacle.{Obstacle}
 use Rattle.rbc_model.specs.GroupNames.{GroupName}
@@ -7,20 +7,23 @@ use Rattle.rbc_model.specs.Levels.{Levels, IsLawful, speed_levels, grade_levels}
 use Rattle.rbc_model.specs.Profiles.{value_at, IsTrackFunction, IsChosenProfile}
 use Rattle.rbc_model.specs.PriceTables.{IsGreatestSoundTable}
 use Rattle.rbc_model.specs.Scales.{unit_of}
-use Rattle.rbc_model.specs.Messages.{Authority}
+use Rattle.rbc_model.specs.Bits.{IsBytes, bytes_of, padded_bits, field_bits}
+use Rattle.rbc_model.specs.Messages.{Authority, message_3, sized_fields, message_bytes}
 use Rattle.rbc_model.specs.Tracks.{Track}
 use Rattle.rbc_model.specs.SoundTracks.{IsInForm}
 use Rattle.rbc_model.specs.Scenes.{Scene}
 use Rattle.rbc_model.specs.Views.{View, view}
 use Rattle.rbc_model.specs.Histories.{Grants, IsBest}
+use Rattle.rbc_model.proofs.BitLemmas.{number_of-below}
 use Rattle.rbc_model.proofs.LevelLemmas.{speed_lawful, grade_lawful}
+use Rattle.rbc_model.proofs.RoundTripLemmas.{round_trip_far}
 use Rattle.rbc_table_laws.specs.LeastTables.{greatest_prices, chosen_steps}
 use Rattle.rbc_table_laws.proofs.TableLawLemmas.{one_chosen}
 use Rattle.rbc_table_laws.proofs.LeastTableLemmas.{greatest_tables_are_one, least_prices_are_greatest, steps_read_are_chosen}
 use Rattle.rbc_grant_laws.specs.Candidates.{IsCandidateOf}
 use Rattle.rbc_grant_laws.proofs.CandidateLemmas.{candidate-IsBest, the_ok}
 use Rattle.rbc_session_laws.specs.Answers.{metres_shown, grant_of, speed_prices_of, grade_prices_of}
-use Rattle.rbc_session_laws.specs.Laws.{GrantsAreOne}
+use Rattle.rbc_session_laws.specs.Laws.{GrantsAreOne, GrantsAreReadBack}
 use Rattle.rbc_session_laws.proofs.ViewLemmas.{shown_well}
 use Rattle.rbc_model.proofs.ScaleLemmas.{expressible_whole, some_unit}
 
@@ -102,3 +105,16 @@ grants_are_one track scene number shown grant speed_rows grade_rows form h g =
       speeds = the_prices speed_levels speed_lawful shown.speed_steps n shown.speeds grant.authority.end speed_rows end g.speed_prices;
       grades = the_prices grade_levels grade_lawful shown.grade_steps n shown.grades grant.authority.end grade_rows end g.grade_prices;
     }
+
+-- ---- what its message is read as
+
+-- a message is made of bytes
+are_bytes : (bits : List Bool) → IsBytes (bytes_of bits)
+are_bytes (a ∷ b ∷ c ∷ d ∷ e ∷ f ∷ g ∷ h ∷ rest) zero = number_of-below (a ∷ b ∷ c ∷ d ∷ e ∷ f ∷ g ∷ h ∷ [])
+are_bytes (a ∷ b ∷ c ∷ d ∷ e ∷ f ∷ g ∷ h ∷ rest) (suc i) = are_bytes rest i
+are_bytes _ i = lit< tt
+
+pub grants_are_read_back : GrantsAreReadBack
+grants_are_read_back authority =
+    let law = round_trip_far (message_bytes authority) authority (are_bytes (padded_bits (field_bits (sized_fields (message_3 authority))))) in
+    (λ is. law.1 (is, refl), λ read. (law.0 read).0)

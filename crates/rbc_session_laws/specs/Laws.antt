@@ -1,6 +1,9 @@
 -- What sessions on a track in form answer, where memory is not refused.
-use Rattle.std.specs.Prelude.{◌≡◌, ◌≢◌, ℕ, not, List, ◌++◌, Option, Some, Result, Ok, All, filter, bytes_eq, codes}
+use Rattle.std.specs.Prelude.{◌≡◌, ◌≢◌, ◌↔◌, ℕ, not, List, ◌++◌, Option, Some, Result, Ok, All, filter, bytes_eq, codes}
+use Rattle.rbc_model.specs.declared.places.Format.TheVariants.{Far}
 use Rattle.rbc_model.specs.declared.sessions.SessionFault.{SessionFault}
+use Rattle.rbc_model.specs.Messages.{Authority, IsAuthority, message_bytes}
+use Rattle.rbc_model.specs.Reading.{read_message}
 use Rattle.rbc_model.specs.Sessions.{lines_of}
 use Rattle.rbc_model.specs.Tracks.{Track}
 use Rattle.rbc_model.specs.SoundTracks.{IsInForm}
@@ -22,7 +25,11 @@ abbrev pub GrantsAreOne : Type 0
 GrantsAreOne = (track : Track) (scene : Scene) (number : ℕ) (shown : View) (grant : Grants) (speed_rows grade_rows : List (List ℕ)) → IsInForm track
     → view track scene number ≡ Ok shown → IsGrantFor track scene number shown grant speed_rows grade_rows → IsTheGrant shown grant speed_rows grade_rows
 
--- a line is answered just so, unless memory was refused in its treatment
+-- A message can give an authority exactly where reading its message gives this authority. So what a train is granted is what its message is read as.
+abbrev pub GrantsAreReadBack : Type 0
+GrantsAreReadBack = (authority : Authority) → IsAuthority Far authority ↔ (read_message Far (message_bytes authority) ≡ Ok authority)
+
+-- a line is answered so, unless memory was refused in its treatment
 abbrev pub LinesAreAnswered : Type 0
 LinesAreAnswered = (track : Track) (before : List Entry) (line reply : List ℕ) (added : Option Entry) → IsInForm track
     → AnswersLine track before line reply added → reply ≢ refused_reply track Memory
@@ -48,7 +55,7 @@ SessionsAreAnswered = (track : Track) (before after : List Entry) (input : List 
 abbrev pub SaysNoMemory : List ℕ → Type 0
 SaysNoMemory text = All (λ line. line ≢ codes "refused Memory") (lines_of text)
 
--- A session up to the end of its input that wrote no line `refused Memory` wrote just what the function answers to the input, and left just these entries.
+-- A session up to the end of its input that wrote no line `refused Memory` wrote what the function answers to the input, and left the entries that it adds.
 abbrev pub WrittenIsAnswered : Type 0
 WrittenIsAnswered = (track : Track) (before after : List Entry) (input old text : List ℕ) → IsInForm track
     → IsSession track before after input (Some old) (Some (old ++ text)) (Ok tt) → SaysNoMemory text

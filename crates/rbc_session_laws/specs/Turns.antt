@@ -13,8 +13,7 @@ use Rattle.rbc_model.specs.Profiles.{IsChosenProfile, value_at}
 use Rattle.rbc_model.specs.PriceTables.{IsGreatestSoundTable}
 use Rattle.rbc_model.specs.Scales.{unit_of}
 use Rattle.rbc_model.specs.declared.places.Format.TheVariants.{Far}
-use Rattle.rbc_model.specs.Messages.{message_bytes}
-use Rattle.rbc_model.specs.Reading.{read_message}
+use Rattle.rbc_model.specs.Messages.{IsAuthority}
 use Rattle.rbc_model.specs.Tracks.{Track, group_named}
 use Rattle.rbc_model.specs.Scenes.{Scene, train_numbered}
 use Rattle.rbc_model.specs.Events.{step}
@@ -28,7 +27,8 @@ use Rattle.rbc_session_laws.specs.Demands.{demand_in}
 -- ---- what a train is granted
 
 -- What this train is granted in this scene, where it is shown this view: the best authority; of several best profiles those that the rules choose;
--- each with the greatest sound table of prices. The message that is printed tells the authority, in the scale of its end.
+-- each with the greatest sound table of prices. A message can give the authority, so the one that is printed is read as this authority
+-- (`GrantsAreReadBack`, a law).
 pub record IsGrantFor (track : Track) (scene : Scene) (number : ℕ) (view : View) (grant : Grants) (speed_rows grade_rows : List (List ℕ)) : Type 0 where
   pub train : grant.train ≡ number
   pub best : IsBest track scene grant
@@ -36,7 +36,7 @@ pub record IsGrantFor (track : Track) (scene : Scene) (number : ℕ) (view : Vie
   pub grades : IsChosenProfile grade_levels (unit_of grant.authority.end) view.grade_steps grant.authority.end (value_at view.grades) grant.authority.grades
   pub speed_prices : IsGreatestSoundTable speed_levels (unit_of grant.authority.end) view.speed_steps grant.authority.end view.speeds speed_rows
   pub grade_prices : IsGreatestSoundTable grade_levels (unit_of grant.authority.end) view.grade_steps grant.authority.end view.grades grade_rows
-  pub message : read_message Far (message_bytes grant.authority) ≡ Ok grant.authority
+  pub writable : IsAuthority Far grant.authority
 
 -- ---- what needs no memory
 

@@ -5,7 +5,7 @@
 mod demand;
 
 ghost use Rattle.rbc_session_laws.specs.CheckAnswers.{ChecksAreAnswered};
-ghost use Rattle.rbc_session_laws.specs.Laws.{GrantsAreOne, LinesAreAnswered, SessionsAreAnswered, SessionsAreOne, WrittenIsAnswered};
+ghost use Rattle.rbc_session_laws.specs.Laws.{GrantsAreOne, GrantsAreReadBack, LinesAreAnswered, SessionsAreAnswered, SessionsAreOne, WrittenIsAnswered};
 ghost use Rattle.rbc_session_laws.specs.Retelling.{EntriesAreToldAgain, HistoriesAreSessions, ReadsAreSayable};
 ghost use Rattle.rbc_session_laws.specs.Retelling.{LegalHistoriesAreRetold, RequestsAreReadBack};
 ghost use Rattle.rbc_session_laws.specs.Retelling.{RetoldEntriesAreOfTrack, RetoldHistoriesAreSessions, SessionsAreRetold};
@@ -16,6 +16,7 @@ pub use demand::Demand;
 /// What a session answers, line by line and as a whole, where memory is not refused.
 pub fn sessions_are_answered()
     ensures grants { GrantsAreOne }
+    ensures read_back { GrantsAreReadBack }
     ensures lines { LinesAreAnswered }
     ensures sessions { SessionsAreAnswered }
     ensures one { SessionsAreOne }

@@ -21,7 +21,7 @@ IdleIsEmpty tallies = (i : ℕ) (v : Tally) → get_elem? tallies i ≡ some v �
 abbrev pub all_parts : ℕ
 all_parts = 2 ^ 64
 
--- There are so many parts. What was put is what was taken and what waits in the queue, however jobs are weighed.
+-- The tallies have all parts. What was put is what was taken and what waits in the queue, however jobs are weighed.
 abbrev pub IsBalanced : List Job → List Tally → Type 0
 IsBalanced waiting tallies =
     (sum_by (λ (v : Tally). v.parts) tallies ≡ all_parts)

@@ -50,7 +50,7 @@ pub record HasServed (old : Tally) (had : Seated) (new : Tally) (has : Seated) (
 abbrev pub joined : Tally → Tally → Tally
 joined v w = tally (v.parts + w.parts) (v.put ++ w.put) (v.taken ++ w.taken)
 
--- The seats keep what they had, in their order, and have gained just these receipts.
+-- The seats keep what they had, in their order, and have gained these receipts and no others.
 pub record HaveGained (had has : List Seated) (gained : List Receipt) : Type 0 where
   pub kept : AllZip AreFirst had has
   pub just : IsPermutation (all_receipts had ++ gained) (all_receipts has)

@@ -94,7 +94,7 @@ pub(crate) type Queue = RuledArrayQueue<Job, Tally, Balanced>;
 
 pub(crate) type JobPass = Pass<Job, Tally>;
 
-/// A queue with room for so many jobs, and its pass with all parts.
+/// A queue with room for this number of jobs, and its pass with all parts.
 pub(crate) fn queue_for(alloc: Global, count: usize) -> Result<(Queue, JobPass), Memory>
     requires { 0 < count }
     ensures room { IfOk result (λ made. ruled_capacity made.0 ≡ count) }

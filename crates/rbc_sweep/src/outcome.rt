@@ -11,8 +11,8 @@ use rbc_model::{Obstacle, TrainId};
 pub enum Answer {
     /// It was granted this.
     Granted(Granted),
-    /// This stands in its way, so many metres from its group (negative: before the group), at this version of the
-    /// history.
+    /// This stands in its way, this number of metres from its group (negative: before the group), at this version of
+    /// the history.
     Blocked(Obstacle, i64, u64),
     /// It had left.
     Gone,

@@ -59,7 +59,7 @@ pub(crate) struct Room<L: DeskName> {
     pub(crate) ghost room_for_outcomes: { train_count ≤ vec_capacity outcomes },
 }
 
-/// So many empty lists, each with room for all trains.
+/// An empty list for each seat, with room for all trains.
 fn lists_for(alloc: Global, seats: usize, trains: usize) -> Result<Vec<Vec<Done>>, Memory>
     ensures many { IfOk result (λ lists. vec_len lists ≡ seats) }
     ensures empty { IfOk result (λ lists. All (λ list. list.items ≡ []) lists.items) }
@@ -71,7 +71,7 @@ fn lists_for(alloc: Global, seats: usize, trains: usize) -> Result<Vec<Vec<Done>
     Ok(lists)
 }
 
-/// The room for so many seats and trains.
+/// The room for this number of seats and of trains.
 pub(crate) fn room_for<L: DeskName>(
     alloc: Global,
     seats: usize,

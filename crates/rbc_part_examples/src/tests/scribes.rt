@@ -8,7 +8,7 @@ ghost use Rattle.rbc_journal.specs.Settled.{IsSettled, staged};
 use super::journals::{Noted, image_of, lines_in};
 use rbc_journal::{Device, Journal, is_line};
 use rbc_journal_file::Recorded;
-use rbc_scribe::{Blank, Line, Pen, Scribe, ScribeName, Told};
+use rbc_scribe::{Blank, Line, Pen, Scribe, ScribeName, Start, Told};
 use std::alloc::{AllocError, Global};
 use std::marker::Brand;
 use std::sync::Wait;
@@ -103,9 +103,12 @@ fn kept_by_four<N: ScribeName + Send + Sync, R: Threads + Wait + Sync>(
     let Ok(journal) = Journal::open(alloc, b"", Recorded::opened(noted, b"")) else {
         return Err("the file is opened".into());
     };
-    let opened = Scribe::<Anything, Recorded<Noted>, N>::open(
-        rt, alloc, journal, Anything, 0, 4, blank,
-    );
+    let start = Start {
+        journal,
+        told: Anything,
+        lines: 0,
+    };
+    let opened = Scribe::<Anything, Recorded<Noted>, N>::open(rt, alloc, start, 4, blank);
     let Ok((scribe, mut pens)) = opened else {
         return Err("there is room".into());
     };

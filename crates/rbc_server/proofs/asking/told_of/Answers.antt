@@ -3,7 +3,7 @@ use Rattle.std.proofs.lemmas.Int.{to_z-of_z}
 use Rattle.rbc_model.specs.Messages.{message_bytes}
 use Rattle.rbc_model.specs.Views.{View}
 use Rattle.rbc_sweep.specs.Forms.{metres_shown}
-use Rattle.rbc_server.proofs.AskingLemmas.{grades_fit, reads_back, speeds_fit}
+use Rattle.rbc_server.proofs.AskingLemmas.{grades_fit, speeds_fit}
 use Rattle.rbc_server.proofs.asking.told_of.Goals as goal
 
 pub returns-clause-told : goal.returns-clause-told
@@ -18,7 +18,7 @@ returns-clause-told c =
       obstacle = c.obstacle.ensures;
       authority = authority;
       message = c.message-message.ensures;
-      reads = reads_back c.args.candidate.now.grant.authority (rw (← authority) c.end-end.ensures.authority);
+      writable = rw (← authority) c.end-end.ensures.authority;
       speed_steps = c.speed_steps.ensures.steps ∙ ap (λ (v : View). v.speed_steps) seen;
       speeds = c.speeds.ensures.speeds ∙ ap (λ (v : View). record { steps = v.speeds; end = metres_shown v }) seen;
       speed_prices = rw c.as_slice.ensures.value c.prices-prices.ensures.speeds;

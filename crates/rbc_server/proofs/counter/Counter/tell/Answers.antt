@@ -17,7 +17,7 @@ pub returns-in_default : goal.returns-in_default
 returns-in_default g c =
     let later = c.known-2.ensures in
     not_told_treated g.K.Keeper.kept _ _ _ _ _ _ c.args.told c.event_in_vain-fault.result c.refusal_of.result c.args.self.now.track.now c.refusal_of.ensures c.requires.whole refl refl
-    (later.track ∙ sym c.args.self.now.of_desk) c.event_in_vain-fault.ensures.since c.event_in_vain-fault.ensures.receipts c.print.ensures
+    (later.track ∙ sym c.args.self.now.of_desk) c.event_in_vain-fault.ensures.since c.event_in_vain-fault.ensures.refused c.print.ensures
 
 pub say-requires-clause-told : goal.say-requires-clause-told
 say-requires-clause-told g c =
