@@ -21,7 +21,7 @@ use Rattle.rbc_model.specs.CheckText.{CheckLine, with_loss, in_shape, shaped, st
 use Rattle.rbc_model.proofs.LineTrackLemmas.{with_track, track_in-runs_of}
 use Rattle.rbc_price.proofs.CertificateLemmas.{stop_at_shape}
 use Rattle.rbc_price.proofs.ShapeLemmas.{no_shape}
-use Rattle.rbc_checks.specs.Verdicts.{rows_verdict}
+use Rattle.rbc_checks.specs.Verdicts.{rows_verdict, steps_verdict}
 
 -- a track that ends between two multiples of the unit has no table
 pub no_table : {V : Type 0} (levels : Levels V) (limit : ℕ) (track profile : StepFunction V) (rows : List (List ℕ)) (is_last : Bool) → (track.end % unit_of track.end ≡ 0 → ⊥)
@@ -29,6 +29,29 @@ pub no_table : {V : Type 0} (levels : Levels V) (limit : ℕ) (track profile : S
 no_table levels limit track profile rows is_last uneven = ap (with_loss is_last) (stop_at_shape (has_shape levels limit track profile rows) (first_above levels track profile)
     (first_too_high levels limit track rows) (lost levels limit track profile rows == last_price levels limit track rows) (nat_le (length profile.steps) limit)
     (sym (no_shape levels limit track profile rows (λ s. uneven s.whole))))
+
+-- ---- steps
+
+module _ {V : Type 0} (levels : Levels V) (limit : ℕ) (track : StepFunction V) (steps : List (ℕ × V)) (told : ℕ) (found : Option (List (List ℕ))) where
+  no_fault : (fault : Option ProfileFault) (profile made : StepFunction V) → unless fault (Ok made) ≡ Ok profile → (is_none fault ≡ true) × (made ≡ profile)
+  no_fault None profile made e = (refl, cc)
+  no_fault (Some fault) profile made e = absurd cc
+
+  some_fault : (fault : Option ProfileFault) (told : ProfileFault) (made : StepFunction V) → unless fault (Ok made) ≡ Err told → is_none fault ≡ false
+  some_fault None told made e = absurd cc
+  some_fault (Some fault) told made e = refl
+
+  pub no_profile : (fault : ProfileFault) → Err fault ≡ profile_of levels track.end steps → steps_verdict levels limit track steps told found ≡ Err Shape
+  no_profile fault e =
+      ap (λ fits. demand fits Shape >> rows_verdict levels limit track (record { steps = steps; end = track.end }) told found)
+      (some_fault (profile_fault levels track.end steps) fault (record { steps = steps; end = track.end }) (sym e))
+
+  pub with_profile : (profile : StepFunction V) → Ok profile ≡ profile_of levels track.end steps
+      → steps_verdict levels limit track steps told found ≡ rows_verdict levels limit track profile told found
+  with_profile profile e =
+      let made = no_fault (profile_fault levels track.end steps) profile (record { steps = steps; end = track.end }) (sym e) in
+      ap (λ fits. demand fits Shape >> rows_verdict levels limit track (record { steps = steps; end = track.end }) told found) made.0
+      ∙ ap (λ p. rows_verdict levels limit track p told found) made.1
 
 module _ {V : Type 0} (levels : Levels V) (value_of : ℤ → Option V) (told : ℕ) (lines : List CheckLine) where
   -- the verdict from the rows on
@@ -99,29 +122,6 @@ module _ {V : Type 0} (levels : Levels V) (value_of : ℤ → Option V) (told : 
           ap (λ found. shaped found >>= λ track. from_steps track.limit (record { steps = track.runs; end = track.end }) (steps_of levels value_of words)) tracks
           ∙ ap (λ n. from_steps request.limit (record { steps = track.steps; end = n }) (steps_of levels value_of words)) (sym ends)
 
-  -- ---- steps
-
-  module _ (limit : ℕ) (track : StepFunction V) (steps : List (ℕ × V)) where
-    no_fault : (fault : Option ProfileFault) (profile made : StepFunction V) → unless fault (Ok made) ≡ Ok profile → (is_none fault ≡ true) × (made ≡ profile)
-    no_fault None profile made e = (refl, cc)
-    no_fault (Some fault) profile made e = absurd cc
-
-    some_fault : (fault : Option ProfileFault) (told : ProfileFault) (made : StepFunction V) → unless fault (Ok made) ≡ Err told → is_none fault ≡ false
-    some_fault None told made e = absurd cc
-    some_fault (Some fault) told made e = refl
-
-    no_profile : (fault : ProfileFault) → Err fault ≡ profile_of levels track.end steps → from_steps limit track (Some steps) ≡ Err Shape
-    no_profile fault e =
-        ap (λ fits. demand fits Shape >> from_rows limit track (record { steps = steps; end = track.end }) (rows_of 1 lines))
-        (some_fault (profile_fault levels track.end steps) fault (record { steps = steps; end = track.end }) (sym e))
-
-    with_profile : (profile : StepFunction V) → Ok profile ≡ profile_of levels track.end steps
-        → from_steps limit track (Some steps) ≡ from_rows limit track profile (rows_of 1 lines)
-    with_profile profile e =
-        let made = no_fault (profile_fault levels track.end steps) profile (record { steps = steps; end = track.end }) (sym e) in
-        ap (λ fits. demand fits Shape >> from_rows limit track (record { steps = steps; end = track.end }) (rows_of 1 lines)) made.0
-        ∙ ap (λ p. from_rows limit track p (rows_of 1 lines)) made.1
-
   -- ---- the parts of a block
 
   module _ (words : List (ℕ × ℤ)) (request : StepsRequest V) (track : StepFunction V) (made : Ok track ≡ runs_of levels request.end request.runs)
@@ -133,11 +133,6 @@ module _ {V : Type 0} (levels : Levels V) (value_of : ℤ → Option V) (told : 
     pub no_steps_in : None ≡ steps_of levels value_of words → verdict_of levels value_of request words told lines ≡ Err Shape
     no_steps_in same = with_steps None same
 
-    pub no_profile_in : (steps : List (ℕ × V)) → Some steps ≡ steps_of levels value_of words
-        → (fault : ProfileFault) → Err fault ≡ profile_of levels track.end steps → verdict_of levels value_of request words told lines ≡ Err Shape
-    no_profile_in steps same fault none = with_steps (Some steps) same ∙ no_profile request.limit track steps fault none
-
-    pub parts_in : (steps : List (ℕ × V)) → Some steps ≡ steps_of levels value_of words
-        → (profile : StepFunction V) → Ok profile ≡ profile_of levels track.end steps
-        → verdict_of levels value_of request words told lines ≡ rows_verdict levels request.limit track profile told (rows_of 1 lines)
-    parts_in steps same profile is = with_steps (Some steps) same ∙ with_profile request.limit track steps profile is
+    pub steps_in : (steps : List (ℕ × V)) → Some steps ≡ steps_of levels value_of words
+        → verdict_of levels value_of request words told lines ≡ steps_verdict levels request.limit track steps told (rows_of 1 lines)
+    steps_in steps same = with_steps (Some steps) same

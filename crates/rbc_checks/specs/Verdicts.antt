@@ -1,12 +1,13 @@
 -- What is said of a block, as text.
-use Rattle.std.specs.Prelude.{◌≡◌, ℕ, Bool, true, false, List, [], ◌∷◌, Option, Some, None, Result, Ok, Err, codes, decimal, ℤ, ◌==◌}
+use Rattle.std.specs.Prelude.{◌≡◌, ℕ, Bool, true, false, List, [], ◌∷◌, Option, Some, None, is_none, Result, Ok, Err, codes, decimal, ℤ, ◌==◌}
 use Rattle.rbc_model.specs.declared.memory.OrMemory.{OrMemory}
 use Rattle.rbc_model.specs.declared.memory.OrMemory.TheVariants.{Refused as RefusedFor, Memory as NoMemory}
 use Rattle.rbc_model.specs.declared.prices.Reason.{Reason}
+use Rattle.rbc_model.specs.declared.prices.Reason.TheVariants.{Shape}
 use Rattle.rbc_model.specs.Answers.{RefusesOrMemory}
-use Rattle.rbc_model.specs.Results.{◌>>=◌}
+use Rattle.rbc_model.specs.Results.{demand, ◌>>=◌, ◌>>◌}
 use Rattle.rbc_model.specs.Levels.{Levels}
-use Rattle.rbc_model.specs.Profiles.{StepFunction}
+use Rattle.rbc_model.specs.Profiles.{StepFunction, profile_fault}
 use Rattle.rbc_model.specs.PriceChecks.{price_check, last_price}
 use Rattle.rbc_model.specs.StepsText.{StepsRequest}
 use Rattle.rbc_model.specs.CheckText.{CheckLine, AnswersBlock, refusal_text, memory_text, in_shape, with_loss, rows_of, verdict_of}
@@ -52,10 +53,15 @@ abbrev pub rows_verdict : {V : Type 0} → Levels V → ℕ → StepFunction V �
 rows_verdict levels limit track profile told found =
     in_shape found >>= λ rows. with_loss (told == last_price levels limit track rows) (price_check levels limit track profile rows)
 
+-- the same from the steps on, which have to be a profile
+abbrev pub steps_verdict : {V : Type 0} → Levels V → ℕ → StepFunction V → List (ℕ × V) → ℕ → Option (List (List ℕ)) → Result (Unit {0}) Reason
+steps_verdict levels limit track steps told found =
+    demand (is_none (profile_fault levels track.end steps)) Shape >> rows_verdict levels limit track (record { steps = steps; end = track.end }) told found
+
 -- The parts are those of a request and of steps, whatever rows and loss come with them; or there are none, and each such block is refused so.
 abbrev pub ArePartsOf : {V : Type 0} → Levels V → (ℤ → Option V) → StepsRequest V → List (ℕ × ℤ) → Result (Parts V) (OrMemory Reason) → Type 0
 ArePartsOf levels value_of request words (Ok parts) = (told : ℕ) (lines : List CheckLine)
-    → verdict_of levels value_of request words told lines ≡ rows_verdict levels parts.limit parts.track parts.profile told (rows_of 1 lines)
+    → verdict_of levels value_of request words told lines ≡ steps_verdict levels parts.limit parts.track parts.steps.items told (rows_of 1 lines)
 ArePartsOf levels value_of request words (Err fault) = (told : ℕ) (lines : List CheckLine)
     → RefusesOrMemory fault (verdict_of levels value_of request words told lines)
 

@@ -5,27 +5,28 @@ ghost use Rattle.rbc_model.specs.Answers.{AnswersOrMemory};
 ghost use Rattle.rbc_model.specs.CheckText.{verdict_of, with_loss, rows_of, speed_of};
 ghost use Rattle.rbc_model.specs.Levels.{speed_levels, grade_levels};
 ghost use Rattle.rbc_model.specs.PriceChecks.{price_check, last_price};
+ghost use Rattle.rbc_model.specs.Profiles.{profile_of};
 ghost use Rattle.rbc_table_laws.specs.PriceRows.{prices_of};
 ghost use Rattle.rbc_words.specs.StepsLines.{request_view};
 ghost use Rattle.rbc_checks.specs.Blocks.{lines_view};
-ghost use Rattle.rbc_checks.specs.Verdicts.{rows_verdict, ArePartsOf};
+ghost use Rattle.rbc_checks.specs.Verdicts.{rows_verdict, steps_verdict, ArePartsOf};
 
 use crate::CheckLine;
 use crate::lines::ToldProfile;
 use crate::table::{Told, price_at, steps_of, table_of};
 use rbc_model::scales::unit_of;
-use rbc_model::{OrMemory, Reason};
+use rbc_model::{OrMemory, ProfileFault, Reason};
 use rbc_price::{Priced, Prices, check, column_count};
 use rbc_steps::{Grade, Level, Profile, Runs, Speed};
 use rbc_words::StepsRequest;
 use std::alloc::Global;
 
-/// A track and a profile, with the limit of steps.
+/// A track with the limit of steps, and the steps of a profile, if they are one.
 #[derive(Drop)]
 pub(crate) struct Parts<V: Level> {
     limit: usize,
     track: Runs<V>,
-    profile: Profile<V>,
+    steps: Vec<(u32, V)>,
 }
 
 /// Whether the rows are prices that show that the profile of speeds is a best one for the track, and that it loses
@@ -46,7 +47,9 @@ pub(crate) fn certify_speeds(
         profile.steps.items profile.loss (lines_view rows.items)) }
 {
     let parts = parts_of(alloc, request, profile.steps.as_slice())?;
-    certify(alloc, &parts, profile.loss, rows)
+    // A profile is large, and stays where it is.
+    let made = Profile::new(parts.steps.as_slice(), parts.track.end());
+    certify(alloc, &parts, &made, profile.loss, rows)
 }
 
 /// The same of a profile of gradients.
@@ -64,14 +67,16 @@ pub(crate) fn certify_grades(
         profile.steps.items profile.loss (lines_view rows.items)) }
 {
     let parts = parts_of(alloc, request, profile.steps.as_slice())?;
-    certify(alloc, &parts, profile.loss, rows)
+    // A profile is large, and stays where it is.
+    let made = Profile::new(parts.steps.as_slice(), parts.track.end());
+    certify(alloc, &parts, &made, profile.loss, rows)
 }
 
-/// The track of a request, and the profile of the steps told.
+/// The track of a request, and the steps told, as values of its kind.
 ///
 /// # Errors
 ///
-/// - `Refused`: `Shape`, where the runs make no track, or the steps no profile.
+/// - `Refused`: `Shape`, where the runs make no track, or the kind has no such value.
 /// - `Memory`
 fn parts_of<V: Told>(
     alloc: Global,
@@ -87,17 +92,15 @@ fn parts_of<V: Told>(
     let Some(steps) = steps_of::<V>(alloc, steps)? else {
         return Err(OrMemory::Refused(Reason::Shape));
     };
-    let Ok(profile) = Profile::new(steps.as_slice(), track.end()) else {
-        return Err(OrMemory::Refused(Reason::Shape));
-    };
     Ok(Parts {
         limit,
         track,
-        profile,
+        steps,
     })
 }
 
-/// Whether the rows are prices that show that the profile is a best one for the track, and that it loses what is told.
+/// Whether the steps are a profile, and the rows are prices that show that it is a best one for the track, and that it
+/// loses what is told. `made` is the profile of the steps up to the track's end.
 ///
 /// # Errors
 ///
@@ -105,16 +108,39 @@ fn parts_of<V: Told>(
 fn certify<V: Priced>(
     alloc: Global,
     parts: &Parts<V>,
+    made: &Result<Profile<V>, ProfileFault>,
     loss: u64,
     rows: Vec<CheckLine>,
 ) -> Result<(), OrMemory<Reason>>
-    ensures { AnswersOrMemory result (rows_verdict V.levels parts.now.limit parts.now.track parts.now.profile
+    requires { made.now ≡ profile_of V.levels parts.now.track.end parts.now.steps.items }
+    ensures { AnswersOrMemory result (steps_verdict V.levels parts.now.limit parts.now.track parts.now.steps.items
+        loss (rows_of 1 (lines_view rows.items))) }
+{
+    match made {
+        Ok(profile) => certify_profile(alloc, parts, profile, loss, rows),
+        Err(_) => Err(OrMemory::Refused(Reason::Shape)),
+    }
+}
+
+/// Whether the rows are prices that show that the profile is a best one for the track, and that it loses what is told.
+///
+/// # Errors
+///
+/// As of [`certify_speeds`].
+fn certify_profile<V: Priced>(
+    alloc: Global,
+    parts: &Parts<V>,
+    profile: &Profile<V>,
+    loss: u64,
+    rows: Vec<CheckLine>,
+) -> Result<(), OrMemory<Reason>>
+    ensures { AnswersOrMemory result (rows_verdict V.levels parts.now.limit parts.now.track profile.now
         loss (rows_of 1 (lines_view rows.items))) }
 {
     let Some(prices) = table_of(alloc, rows)? else {
         return Err(OrMemory::Refused(Reason::Shape));
     };
-    match check_told(alloc, parts, &prices, loss) {
+    match check_told(alloc, parts, profile, &prices, loss) {
         Ok(()) => Ok(()),
         Err(reason) => Err(OrMemory::Refused(reason)),
     }
@@ -128,12 +154,13 @@ fn certify<V: Priced>(
 fn check_told<V: Priced>(
     alloc: Global,
     parts: &Parts<V>,
+    profile: &Profile<V>,
     prices: &Prices,
     loss: u64,
 ) -> Result<(), Reason>
     ensures { result ≡ with_loss
         (loss == last_price V.levels parts.now.limit parts.now.track (prices_of prices.now.items))
-        (price_check V.levels parts.now.limit parts.now.track parts.now.profile (prices_of prices.now.items)) }
+        (price_check V.levels parts.now.limit parts.now.track profile.now (prices_of prices.now.items)) }
 {
     let end = parts.track.end();
     if end % unit_of(end) != 0 {
@@ -142,7 +169,7 @@ fn check_told<V: Priced>(
     let columns = column_count(&parts.track);
     let is_last = loss == price_at(prices, parts.limit.min(columns), columns);
     with_loss(
-        check(alloc, &parts.track, parts.limit, &parts.profile, prices),
+        check(alloc, &parts.track, parts.limit, profile, prices),
         is_last,
     )
 }

@@ -60,6 +60,7 @@ impl Checker {
     }
 
     /// Ends the open block: what is said of it.
+    #[inline(always)]
     fn close(&mut self) -> Option<Verdict>
         ensures said { AnswersBlock self.old.block (said_text result) (is_bad result) }
         ensures closed { self.new ≡ record { block = []; refused = self.old.refused || is_bad result } }

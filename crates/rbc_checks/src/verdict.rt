@@ -89,6 +89,7 @@ fn told_as(checked: Result<(), OrMemory<Reason>>, certified: Verdict) -> Verdict
 /// # Errors
 ///
 /// `WriteFailed`, where the writer fails. Then a part of the text stands, from its start.
+#[inline(always)]
 pub fn print_said<W: Sink>(said: Option<Verdict>, writer: &mut W) -> Result<(), WriteFailed>
     requires { W.failed writer.old ≡ false }
     ensures { Prints (W.written writer.old) (W.written writer.new) (W.failed writer.new) (said_text said) result }

@@ -56,7 +56,7 @@ fn lowered<V: Level>(
 
 /// The least value where one stretch more stands in front, and what its floor loses up to `end`; `least` and `lost` are
 /// both from the stretch behind on.
-fn further<V: Level>(
+pub fn further<V: Level>(
     track: &Runs<V>,
     end: u32,
     least: V,

@@ -12,7 +12,7 @@ mod sums;
 mod table;
 mod total;
 
-pub use costs::{costs_to, least_of, totals_on};
+pub use costs::{costs_to, further, least_of, totals_on};
 pub use priced::Priced;
 pub use rbc_model::Memory;
 pub use rbc_stretches::{Stretch, is_at_most};

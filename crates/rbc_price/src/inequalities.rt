@@ -3,7 +3,7 @@
 //! Each pair of breaks belongs to the stretch that is the lowest between them, the last one if there are several. What
 //! one step costs over such pairs is lost by the floor of that stretch, and grows stretch by stretch: so it is found
 //! once for each pair, at the price of one stretch more, and is compared in all rows.
-ghost use Rattle.std.specs.Prelude.{◌≡◌, ◌↔◌, ℕ, ◌%◌, ◌<◌, ◌≤◌, length, IsTrue};
+ghost use Rattle.std.specs.Prelude.{◌≡◌, ◌↔◌, ℕ, ◌+◌, ◌%◌, ◌<◌, ◌≤◌, length, None, IsTrue};
 ghost use Rattle.rbc_model.specs.Scales.{unit_of};
 ghost use Rattle.rbc_model.specs.PriceChecks.{steps_of_use, first_too_high, unless_some};
 ghost use Rattle.rbc_table_laws.specs.PriceRows.{prices_of, AreWide, AreAsWideAs};
@@ -15,7 +15,7 @@ ghost use Rattle.rbc_price.specs.Costs.{IsCostAt, IsLowestStretch};
 use crate::columns::{Column, column_before, column_behind, first_column, metre_of};
 use crate::places::{Place, earlier};
 use crate::sound::is_sound;
-use rbc_costs::{Priced, is_at_most, price_at};
+use rbc_costs::{Priced, further, is_at_most, price_at};
 use rbc_model::Reason;
 use rbc_steps::{Level, Runs};
 use rbc_stretches::{least_on, price_on};
@@ -133,11 +133,79 @@ fn first_of_all<V: Level>(track: &Runs<V>, rows: &[Vec<u64>]) -> Option<Place>
     first
 }
 
+/// Whether no price is too high, for a step that costs so much from one break to another.
+fn are_low(rows: &[Vec<u64>], from: usize, to: usize, cost: u64) -> bool
+    requires on { from < to }
+    requires wide { AreAsWideAs to rows.now }
+    ensures { IsTrue result → IsFirstRow (prices_of rows.now) from to cost None }
+{
+    first_row(rows, from, to, cost).is_none()
+}
+
+/// Whether no price up to the break behind this column is too high: from break to break, back to the first one.
+fn is_sound_up_to<V: Level>(track: &Runs<V>, rows: &[Vec<u64>], last: Column) -> bool
+    requires whole { track.now.end % unit_of track.now.end ≡ 0 }
+    requires wide { AreWide (stretches_of track.now) rows.now }
+    requires last { IsColumn track.now last }
+    ensures { IsTrue result → IsFirst V.levels track.now (prices_of rows.now) (λ from to. to ≡ last.index + 1) None }
+{
+    let _end = track.end();
+    let mut from = last;
+    let mut least = least_on(track, last.stretch);
+    let mut cost = price_on(track, last.stretch, least.floor());
+    if !are_low(rows, last.index, last.index + 1, cost) {
+        return false;
+    }
+    while let Some(before) = column_before(track, from) {
+        let front = (before.stretch, least_on(track, before.stretch));
+        let lowest = further(track, last.stretch.to, least, cost, front);
+        least = lowest.0;
+        cost = lowest.1;
+        if !are_low(rows, before.index, last.index + 1, cost) {
+            return false;
+        }
+        from = before;
+    }
+    true
+}
+
+/// Whether no price is too high, column by column, which takes no memory.
+fn is_sound_by_pairs<V: Level>(track: &Runs<V>, rows: &[Vec<u64>]) -> bool
+    requires whole { track.now.end % unit_of track.now.end ≡ 0 }
+    requires wide { AreWide (stretches_of track.now) rows.now }
+    ensures { IsTrue result → IsFirst V.levels track.now (prices_of rows.now) (λ from to. Unit {0}) None }
+{
+    let _end = track.end();
+    let mut last = first_column(track);
+    if !is_sound_up_to(track, rows, last) {
+        return false;
+    }
+    while let Some(next) = column_behind(track, last) {
+        if !is_sound_up_to(track, rows, next) {
+            return false;
+        }
+        last = next;
+    }
+    true
+}
+
 /// Up to so many runs each pair of breaks is looked at by itself, which takes less than to make room for totals.
 const FEW_RUNS: usize = 4;
 
-/// A refusal at the first price that is too high. Most tables have none: so, over many runs, it is asked first, column by
-/// column, whether there is one, and looked for only then, or where there is no memory to ask.
+/// Whether no price is too high: where this says so, it is so.
+fn is_found_sound<V: Priced>(alloc: Global, track: &Runs<V>, rows: &[Vec<u64>]) -> bool
+    requires whole { track.now.end % unit_of track.now.end ≡ 0 }
+    requires wide { AreWide (stretches_of track.now) rows.now }
+    ensures { IsTrue result → IsFirst V.levels track.now (prices_of rows.now) (λ from to. Unit {0}) None }
+{
+    if track.runs().len() <= FEW_RUNS {
+        return is_sound_by_pairs(track, rows);
+    }
+    matches!(is_sound(alloc, track, rows), Ok(true))
+}
+
+/// A refusal at the first price that is too high. Most tables have none: so it is asked first, column by column, whether
+/// there is one, and looked for only then, or where there is no memory to ask.
 pub(crate) fn has_no_high_price<V: Priced>(
     alloc: Global,
     track: &Runs<V>,
@@ -148,9 +216,7 @@ pub(crate) fn has_no_high_price<V: Priced>(
     ensures { (limit : ℕ) → length rows.now ≡ steps_of_use V.levels limit track.now (prices_of rows.now)
         → result ≡ unless_some (first_too_high V.levels limit track.now (prices_of rows.now)) }
 {
-    if track.runs().len() > FEW_RUNS
-        && let Ok(true) = is_sound(alloc, track, rows)
-    {
+    if is_found_sound(alloc, track, rows) {
         return Ok(());
     }
     match first_of_all(track, rows) {

@@ -20,7 +20,7 @@ returns-in-None g c = λ limit count.
     ap unless_some (sym (none_too_high g.V.Level.levels limit c.args.track.now (prices_of c.args.rows.now) (length-map c.args.rows.now (λ row. row.items) ∙ count)
     (λ place high. c.in-None.ensures place tt high)))
 
-pub returns : goal.returns
-returns g c = λ limit count.
+pub returns-then-is_found_sound : goal.returns-then-is_found_sound
+returns-then-is_found_sound g c = λ limit count.
     ap unless_some (sym (none_too_high g.V.Level.levels limit c.args.track.now (prices_of c.args.rows.now) (length-map c.args.rows.now (λ row. row.items) ∙ count)
-    (λ place high. c.in-Ok-true.ensures c.in-Ok-true.field-0-test place tt high)))
+    (λ place high. c.is_found_sound.ensures c.if-is_found_sound.true place tt high)))
