@@ -89,19 +89,39 @@ pub(crate) fn serve<
 {
     let lent = Arc::try_clone(&track).map_err(Memory::from)?;
     let log = Record::new(alloc, track)?;
-    let seats = service.connections + service.workers;
-    let blank = Blank::new(seats);
-    open::<Brand, I, O, G, C, P, W, T>(
-        rt,
-        alloc,
-        port,
-        &lent,
-        log,
-        seats,
-        blank,
-        service.connections,
-        writer,
-    )
+    let opening = Opening::new(log, service);
+    open::<Brand, I, O, G, C, P, W, T>(rt, alloc, port, &lent, opening, writer)
+}
+
+/// What a desk is opened with.
+pub(crate) struct Opening<H> {
+    /// The history that it goes on from.
+    pub(crate) history: H,
+    /// How many seats it has, 2 to 16: one for each connection and each worker.
+    pub(crate) seats: usize,
+    /// How many of them serve connections, at least one, and fewer than there are.
+    pub(crate) connections: usize,
+    /// The blank of its ledger.
+    pub(crate) blank: Blank,
+}
+
+impl<H> Opening<H> {
+    /// Over the history, with the seats that are asked for.
+    pub(crate) fn new(history: H, service: &Service) -> Opening<H>
+        ensures history { result.history ≡ history }
+        ensures parts { result.blank.ledger.parts ≡ result.seats }
+        ensures some { 1 ≤ result.connections }
+        ensures workers { result.connections < result.seats }
+        ensures few { result.seats ≤ 16 }
+    {
+        let seats = service.connections + service.workers;
+        Opening {
+            history,
+            seats,
+            connections: service.connections,
+            blank: Blank::new(seats),
+        }
+    }
 }
 
 /// Serves connections at a desk over the record.
@@ -119,24 +139,27 @@ fn open<
     alloc: Global,
     port: P,
     track: &Track,
-    log: Record,
-    seats: usize,
-    blank: Blank,
-    connections: usize,
+    opening: Opening<Record>,
     writer: &mut W,
 ) -> Result<(), Failure>
     requires going { W.failed writer.old ≡ false }
-    requires track { track.now ≡ log.track }
-    requires opened { log ≡ L.opened }
-    requires name { blank.ledger.name ≡ L.name }
-    requires parts { blank.ledger.parts ≡ L.parts }
-    requires book { blank.journal ≡ L.book }
-    requires one_each { seats ≡ L.parts }
-    requires some { 1 ≤ connections }
-    requires workers { connections < seats }
-    requires few { seats ≤ 16 }
+    requires track { track.now ≡ opening.history.track }
+    requires opened { opening.history ≡ L.opened }
+    requires name { opening.blank.ledger.name ≡ L.name }
+    requires parts { opening.blank.ledger.parts ≡ L.parts }
+    requires book { opening.blank.journal ≡ L.book }
+    requires one_each { opening.seats ≡ L.parts }
+    requires some { 1 ≤ opening.connections }
+    requires workers { opening.connections < opening.seats }
+    requires few { opening.seats ≤ 16 }
 {
-    let (desk, seats) = Desk::<L>::new(rt, alloc, log, seats, blank)?;
+    let Opening {
+        history,
+        seats,
+        connections,
+        blank,
+    } = opening;
+    let (desk, seats) = Desk::<L>::new(rt, alloc, history, seats, blank)?;
     let Ok(pens) = no_pens(alloc, connections) else {
         desk.end(rt);
         return Err(Failure::Memory);

@@ -5,10 +5,11 @@ ghost use Rattle.rbc_pages.specs.Kept.{IsReady};
 
 use crate::command_line::Service;
 use crate::failure::Failure;
+use crate::serve::Opening;
 use rbc_pages::desk_journal::scribe::{self, ScribeName};
 use rbc_pages::desk_journal::{self, DeskJournal, Device, Opened, SeatTold, close};
 use rbc_pages::kept::Kept;
-use rbc_pages::kept::server::{Blank, Client, Clients, DeskName, Served, Staff, serve};
+use rbc_pages::kept::server::{Client, Clients, DeskName, Served, Staff, serve};
 use rbc_pages::{Sink, Source};
 use rbc_trackfile::Track;
 use std::alloc::Global;
@@ -46,21 +47,9 @@ pub(crate) fn serve_kept<
     requires ready { IsReady D.seen D.may_leave kept }
     requires track { track.now ≡ kept.history.track }
 {
-    let seats = service.connections + service.workers;
-    let blank = Blank::new(seats);
+    let opening = Opening::new(kept, service);
     let stamps = scribe::Blank::new();
-    open::<Brand, Brand, I, O, G, C, P, W, D, T>(
-        rt,
-        alloc,
-        port,
-        track,
-        kept,
-        seats,
-        blank,
-        stamps,
-        service.connections,
-        writer,
-    )
+    open::<Brand, Brand, I, O, G, C, P, W, D, T>(rt, alloc, port, track, opening, stamps, writer)
 }
 
 /// Serves connections at a desk over the record, each from a seat with its pen. At the end the journal is closed.
@@ -80,26 +69,29 @@ fn open<
     alloc: Global,
     port: P,
     track: &Track,
-    kept: Kept<D>,
-    seats: usize,
-    blank: Blank,
+    opening: Opening<Kept<D>>,
     stamps: scribe::Blank,
-    connections: usize,
     writer: &mut W,
 ) -> Result<(), Failure>
     requires going { W.failed writer.old ≡ false }
-    requires ready { IsReady D.seen D.may_leave kept }
-    requires track { track.now ≡ kept.history.track }
-    requires opened { kept.history ≡ L.opened }
-    requires name { blank.ledger.name ≡ L.name }
-    requires parts { blank.ledger.parts ≡ L.parts }
-    requires book { blank.journal ≡ L.book }
+    requires ready { IsReady D.seen D.may_leave opening.history }
+    requires track { track.now ≡ opening.history.history.track }
+    requires opened { opening.history.history ≡ L.opened }
+    requires name { opening.blank.ledger.name ≡ L.name }
+    requires parts { opening.blank.ledger.parts ≡ L.parts }
+    requires book { opening.blank.journal ≡ L.book }
     requires stamps { stamps ≡ N.book }
-    requires one_each { seats ≡ L.parts }
-    requires some { 1 ≤ connections }
-    requires workers { connections < seats }
-    requires few { seats ≤ 16 }
+    requires one_each { opening.seats ≡ L.parts }
+    requires some { 1 ≤ opening.connections }
+    requires workers { opening.connections < opening.seats }
+    requires few { opening.seats ≤ 16 }
 {
+    let Opening {
+        history: kept,
+        seats,
+        connections,
+        blank,
+    } = opening;
     let opened = desk_journal::open::<L, D, N, T>(rt, alloc, kept, seats, blank, stamps);
     let Opened {
         desk,

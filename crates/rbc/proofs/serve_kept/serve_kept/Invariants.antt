@@ -2,13 +2,13 @@ use Rattle.rbc.proofs.serve_kept.serve_kept.Given as goal
 
 -- the desk is named by its blank, and opened with the record that the journal tells
 abbrev pub ghosts-open-L-DeskName : goal.ghosts-open-L-DeskName
-ghosts-open-L-DeskName g a = record { opened = a.kept.history }
+ghosts-open-L-DeskName g a = record { opened = a.opening.history.history }
 
 abbrev pub ghosts-open-L-HistoryName : goal.ghosts-open-L-HistoryName
-ghosts-open-L-HistoryName g a = record { book = a.blank.journal }
+ghosts-open-L-HistoryName g a = record { book = a.opening.blank.journal }
 
 abbrev pub ghosts-open-L-Ledger : goal.ghosts-open-L-Ledger
-ghosts-open-L-Ledger g a = record { name = a.blank.ledger.name; parts = a.blank.ledger.parts }
+ghosts-open-L-Ledger g a = record { name = a.opening.blank.ledger.name; parts = a.opening.blank.ledger.parts }
 
 -- the scribe by its stamps
 abbrev pub ghosts-open-N-ScribeName : goal.ghosts-open-N-ScribeName
