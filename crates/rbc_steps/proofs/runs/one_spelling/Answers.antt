@@ -13,4 +13,4 @@ returns g c =
     let ends = c.requires.ends in
     function_of c.args.one.now.end c.args.one.now c.args.other.now ends
     (one_spelling g.V.Level.levels level.lawful c.args.one.now.end c.args.one.now.steps c.args.other.now.steps
-    c.runs.ensures.track (subst (λ n. IsTrackFunction g.V.Level.levels n c.args.other.now.steps) (sym ends) c.runs-2.ensures.track) c.requires.levels)
+    c.known.ensures.track (subst (λ n. IsTrackFunction g.V.Level.levels n c.args.other.now.steps) (sym ends) c.known-2.ensures.track) c.requires.levels)
