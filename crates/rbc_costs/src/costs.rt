@@ -19,7 +19,7 @@ pub fn least_of<V: Level>(track: &Runs<V>, stretches: &[(Stretch, V)], from: usi
     ensures { IsLowest V.levels track.now (slice_index (breaks_for (unit_of track.now.end) track.now) from)
         (slice_index (breaks_for (unit_of track.now.end) track.now) to) result }
 {
-    let _runs = track.runs();
+    track.known();
     let mut least = stretches[to - 1].1;
     for i in (from..to - 1).rev() {
         let here = stretches[i].1;
@@ -47,7 +47,7 @@ fn lowered<V: Level>(
     ensures least { IsLowest V.levels track.now front.0.from last.to result.0 }
     ensures lost { IsLostByFloor V.levels track.now last.from last.to result.0 result.1 }
 {
-    let _runs = track.runs();
+    track.known();
     if is_at_most(least, front.1) {
         return (least, lost);
     }
@@ -71,7 +71,7 @@ pub fn further<V: Level>(
     ensures least { IsLowest V.levels track.now front.0.from end result.0 }
     ensures lost { IsLostByFloor V.levels track.now front.0.from end result.0 result.1 }
 {
-    let _runs = track.runs();
+    track.known();
     if is_at_most(least, front.1) {
         return (least, lost + price_on(track, front.0, least.floor()));
     }
@@ -95,7 +95,7 @@ pub fn costs_to<V: Level>(track: &Runs<V>, stretches: &[(Stretch, V)], to: usize
     ensures bound { (i : ℕ) → i < to
         → slice_index costs.new i ≤ slice_index (breaks_for (unit_of track.now.end) track.now) to * MOST_PRICE }
 {
-    let _runs = track.runs();
+    track.known();
     let last = stretches[to - 1].0;
     let mut least = stretches[to - 1].1;
     let mut lost = price_on(track, last, least.floor());
@@ -125,7 +125,7 @@ fn costs_on<V: Level>(track: &Runs<V>, stretches: &[(Stretch, V)], to: usize, co
     ensures bound { (i : ℕ) → i < to
         → slice_index costs.new i ≤ slice_index (breaks_for (unit_of track.now.end) track.now) to * MOST_PRICE }
 {
-    let _runs = track.runs();
+    track.known();
     let last = stretches[to - 1].0;
     let new = stretches[to - 1].1;
     let mut price = price_on(track, last, new.floor());

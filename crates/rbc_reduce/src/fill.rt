@@ -56,7 +56,7 @@ fn fill_rows<V: Level, N: Total>(
     ensures filled { OnOk result (AreFilled (cost_of_step V.levels (unit_of track.now.end) track.now)
         (length rows.old.items) (row_in N.number rows.new.items) (length stretches.now)) }
 {
-    let _runs = track.runs();
+    track.known();
     for last in 0..stretches.len() {
         totals_on(track, stretches, last + 1, costs, totals);
         add_column(rows, &totals[..last + 1])?;
@@ -152,7 +152,7 @@ pub(crate) fn fill<V: Priced>(
     ensures wide { IfOk result (λ rows. AreWide (length stretches.now) rows.items) }
     ensures small { IfOk result (λ rows. (j : ℕ) → AreSmall (price_in rows.items j)) }
 {
-    let _runs = track.runs();
+    track.known();
     let count = limit.min(stretches.len());
     if stretches.len() <= FEW {
         return filled_of_few(alloc, track, stretches, count);

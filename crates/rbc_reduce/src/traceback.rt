@@ -74,7 +74,7 @@ pub(crate) fn steps_of<V: Level>(
     ensures { IfOk result
         (λ steps. IsReadOff V.levels (unit_of track.now.end) limit track.now.end track.now.steps (prices_of rows.now) steps.items) }
 {
-    let _runs = track.runs();
+    track.known();
     let mut to = stretches.len();
     let mut costs = vec![in alloc; 0; to]?;
     let mut steps = Vec::with_capacity(alloc, limit)?;

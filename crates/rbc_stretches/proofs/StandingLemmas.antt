@@ -1,5 +1,5 @@
 -- Stretches that stand on a track, and the edges of its runs.
-use Rattle.std.proofs.Common.{◌≡◌, ap, sym, ◌∙◌, arith, ℕ, ◌+◌, ◌-◌, ◌%◌, ◌<◌, ◌≤◌, ◌⊎◌, inl, inr, min, length, get_or, Some}
+use Rattle.std.proofs.Common.{◌≡◌, ap, sym, ◌∙◌, arith, ℕ, zero, suc, ◌+◌, ◌-◌, ◌%◌, ◌<◌, ◌≤◌, ◌⊎◌, inl, inr, min, length, get_or, Some}
 use Rattle.std.specs.List.{slice_get}
 use Rattle.rbc_model.specs.Levels.{Levels, IsLawful}
 use Rattle.rbc_model.specs.Profiles.{StepFunction, IsTrackFunction}
@@ -34,6 +34,21 @@ module _ {V : Type 0} (levels : Levels V) (lawful : IsLawful levels) (track : St
 
   pub edges_rise : (i : ℕ) → i < length track.steps → edge i < edge (i + 1)
   edges_rise = edges_are.rise
+
+  -- so there are no more runs than metres
+  edge_at_least : (i : ℕ) → i ≤ length track.steps → i ≤ edge i
+  edge_at_least zero h = omega arith
+  edge_at_least (suc i) h =
+      let before = edge_at_least i (omega arith) in
+      let up = edges_rise i (omega arith) in
+      let same : edge (suc i) ≡ edge (i + 1) = ap edge (omega arith) in
+      omega arith
+
+  pub runs_to_end : length track.steps ≤ track.end
+  runs_to_end =
+      let last = edges_are.last in
+      let all = edge_at_least (length track.steps) (omega arith) in
+      omega arith
 
   -- the part of a run from a place up to where the run stops, or up to another place
   pub part_of_run : (r : ℕ) (run : ℕ × V) (from to : ℕ) → slice_get track.steps r ≡ Some run → edge r ≤ from → from < edge (r + 1) → from < to

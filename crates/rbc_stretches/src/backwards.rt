@@ -17,7 +17,7 @@ fn run_up_to<V: Level>(track: &Runs<V>, last: usize, metre: u32) -> usize
     ensures low { slice_index (breaks_in track.now) result ≤ metre }
     ensures high { metre < slice_index (breaks_in track.now) (result + 1) }
 {
-    let _runs = track.runs();
+    track.known();
     let mut run = last;
     while metre < edge(track, run) {
         run -= 1;
@@ -45,8 +45,7 @@ pub fn stretch_before<V: Level>(track: &Runs<V>, unit: u32, stretch: Stretch) ->
     ensures before { (i : ℕ) (next : Stretch) → IsStretch unit track.now (i + 1) stretch → result ≡ Some next → IsStretch unit track.now i next }
     ensures first { (i : ℕ) → IsStretch unit track.now i stretch → result ≡ None → i ≡ 0 }
 {
-    let _runs = track.runs();
-    let _end = track.end();
+    track.known();
     if stretch.from == 0 {
         return None;
     }

@@ -27,7 +27,7 @@ pub(crate) fn run_from<V: Level>(track: &Runs<V>, first: usize, metre: u32) -> u
     ensures low { slice_index (breaks_in track.now) result ≤ metre }
     ensures high { metre < slice_index (breaks_in track.now) (result + 1) }
 {
-    let _runs = track.runs();
+    track.known();
     let mut run = first;
     while edge(track, run + 1) <= metre {
         run += 1;

@@ -22,7 +22,7 @@ pub fn first_stretch<V: Level>(track: &Runs<V>, unit: u32) -> Stretch
     requires whole { track.now.end % unit ≡ 0 }
     ensures { IsStretch unit track.now 0 result }
 {
-    let _end = track.end();
+    track.known();
     Stretch {
         from: 0,
         to: break_behind(unit, 0, edge(track, 1)),
@@ -39,9 +39,8 @@ pub fn stretch_behind<V: Level>(track: &Runs<V>, unit: u32, stretch: Stretch) ->
     ensures behind { (i : ℕ) (next : Stretch) → IsStretch unit track.now i stretch → result ≡ Some next → IsStretch unit track.now (i + 1) next }
     ensures last { (i : ℕ) → IsStretch unit track.now i stretch → result ≡ None → i + 2 ≡ length (breaks_for unit track.now) }
 {
-    let _runs = track.runs();
-    let end = track.end();
-    if stretch.to >= end {
+    track.known();
+    if stretch.to >= track.end() {
         return None;
     }
     let first = run_from(track, stretch.first, stretch.to);

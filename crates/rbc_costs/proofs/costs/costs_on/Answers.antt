@@ -39,14 +39,14 @@ price_on-price-requires-clause-given_in_range g c κs within =
     let level = g.met.V.Level g.world.𝓛 g.world.𝓜 g.world.𝓡 ((λ s x. x), (λ x. x), (λ x. x), λ x. x) in
     let there = (goal.at.price_on-price-requires-clause-given_in_range g c).After-index-stretches-to-2 in
     let last = slice_get-get_or c.args.stretches.now (c.args.to - 1) c.index-stretches-to.result (omega arith) in
-    (flat_given g.V.Level.levels (unit_of c.args.track.now.end) c.args.track.now c.args.stretches.now c.requires.stretches level.lawful c.runs-runs.ensures.track (c.args.to - 1) c.args.to _ last (omega arith) c.requires.inside _ c.floor.result (last_lowest g there) c.floor.ensures).0
+    (flat_given g.V.Level.levels (unit_of c.args.track.now.end) c.args.track.now c.args.stretches.now c.requires.stretches level.lawful c.known.ensures.track (c.args.to - 1) c.args.to _ last (omega arith) c.requires.inside _ c.floor.result (last_lowest g there) c.floor.ensures).0
 
 pub price_on-price-requires-clause-below : goal.price_on-price-requires-clause-below
 price_on-price-requires-clause-below g c κs within =
     let level = g.met.V.Level g.world.𝓛 g.world.𝓜 g.world.𝓡 ((λ s x. x), (λ x. x), (λ x. x), λ x. x) in
     let there = (goal.at.price_on-price-requires-clause-below g c).After-index-stretches-to-2 in
     let last = slice_get-get_or c.args.stretches.now (c.args.to - 1) c.index-stretches-to.result (omega arith) in
-    (flat_given g.V.Level.levels (unit_of c.args.track.now.end) c.args.track.now c.args.stretches.now c.requires.stretches level.lawful c.runs-runs.ensures.track (c.args.to - 1) c.args.to _ last (omega arith) c.requires.inside _ c.floor.result (last_lowest g there) c.floor.ensures).1
+    (flat_given g.V.Level.levels (unit_of c.args.track.now.end) c.args.track.now c.args.stretches.now c.requires.stretches level.lawful c.known.ensures.track (c.args.to - 1) c.args.to _ last (omega arith) c.requires.inside _ c.floor.result (last_lowest g there) c.floor.ensures).1
 
 pub loop-i-init : goal.loop-i-init
 loop-i-init g c =
@@ -58,7 +58,7 @@ loop-i-init g c =
     let from = subst (λ k. IsLostByFloor g.V.Level.levels c.args.track.now k (get_or c.args.stretches.now (c.args.to - 1) c.index-stretches-to.result).0.to (get_or c.args.stretches.now (c.args.to - 1) c.index-stretches-to-2.result).1 c.price_on-price.result) (last_from g there) lost in
     let by = subst (λ k. IsLostByFloor g.V.Level.levels c.args.track.now (get_or (breaks_for (unit_of c.args.track.now.end) c.args.track.now) (c.args.to - 1) 0) k (get_or c.args.stretches.now (c.args.to - 1) c.index-stretches-to-2.result).1 c.price_on-price.result) (last_to g there) from in
     let bound = by.bound in
-    let cost = cost_of_floor g.V.Level.levels (unit_of c.args.track.now.end) c.args.track.now c.args.stretches.now c.requires.stretches level.lawful c.runs-runs.ensures.track (c.args.to - 1) c.args.to c.requires.inside _ _ lowest by in (
+    let cost = cost_of_floor g.V.Level.levels (unit_of c.args.track.now.end) c.args.track.now c.args.stretches.now c.requires.stretches level.lawful c.known.ensures.track (c.args.to - 1) c.args.to c.requires.inside _ _ lowest by in (
       lowest,
       lost,
       (λ e. by),
@@ -122,7 +122,7 @@ room_here g c = omega (arith, length-set {A = ℕ})
 flat_here : (g : Over) (c : After-is_at_most g) → c.is_at_most.result ≡ true → IsLowest g.V.Level.levels c.args.track.now (get_or (breaks_for (unit_of c.args.track.now.end) c.args.track.now) (c.loop-i.i - 1) 0) (get_or (breaks_for (unit_of c.args.track.now.end) c.args.track.now) c.args.to 0) (get_or c.args.stretches.now (c.args.to - 1) c.index-stretches-to-2.result).1
 flat_here g c flat =
     let level = g.met.V.Level g.world.𝓛 g.world.𝓜 g.world.𝓡 ((λ s x. x), (λ x. x), (λ x. x), λ x. x) in
-    flat_lowest g.V.Level.levels (unit_of c.args.track.now.end) c.args.track.now c.args.stretches.now c.requires.stretches level.lawful c.runs-runs.ensures.track (c.loop-i.i - 1) (c.args.to - 1) c.args.to (omega arith) (omega arith) c.requires.inside _ _ (lowest_now g c) (lowest_new g c) (sym c.is_at_most.ensures ∙ flat)
+    flat_lowest g.V.Level.levels (unit_of c.args.track.now.end) c.args.track.now c.args.stretches.now c.requires.stretches level.lawful c.known.ensures.track (c.loop-i.i - 1) (c.args.to - 1) c.args.to (omega arith) (omega arith) c.requires.inside _ _ (lowest_now g c) (lowest_new g c) (sym c.is_at_most.ensures ∙ flat)
 
 -- what its floor lost so far
 flat_lost : (g : Over) (c : After-is_at_most g) → c.is_at_most.result ≡ true → IsLostByFloor g.V.Level.levels c.args.track.now (get_or (breaks_for (unit_of c.args.track.now.end) c.args.track.now) (c.loop-i.i - 1 + 1) 0) (get_or (breaks_for (unit_of c.args.track.now.end) c.args.track.now) c.args.to 0) (get_or c.args.stretches.now (c.args.to - 1) c.index-stretches-to-2.result).1 c.loop-i.price
@@ -131,8 +131,8 @@ flat_lost g c flat =
     let end = near g.V.Level.levels (unit_of c.args.track.now.end) c.args.track.now c.args.stretches.now c.requires.stretches c.args.to c.requires.inside in
     let next : c.loop-i.i ≡ c.loop-i.i - 1 + 1 = omega arith in
     let up = rises g.V.Level.levels (unit_of c.args.track.now.end) c.args.track.now c.args.stretches.now c.requires.stretches (c.loop-i.i - 1) c.loop-i.i (omega arith) (omega arith) in
-    let range = least_range g.V.Level.levels level.lawful c.args.track.now c.runs-runs.ensures.track _ _ _ end (lowest_new g c) in
-    let before = flat_before g.V.Level.levels level.lawful c.args.track.now c.runs-runs.ensures.track _ _ _ _ c.loop-i.least _ end (lowest_now g c) c.loop-i.invariant.0 up range (sym c.is_at_most.ensures ∙ flat) in
+    let range = least_range g.V.Level.levels level.lawful c.args.track.now c.known.ensures.track _ _ _ end (lowest_new g c) in
+    let before = flat_before g.V.Level.levels level.lawful c.args.track.now c.known.ensures.track _ _ _ _ c.loop-i.least _ end (lowest_now g c) c.loop-i.invariant.0 up range (sym c.is_at_most.ensures ∙ flat) in
     subst (λ k. IsLostByFloor g.V.Level.levels c.args.track.now (get_or (breaks_for (unit_of c.args.track.now.end) c.args.track.now) k 0) (get_or (breaks_for (unit_of c.args.track.now.end) c.args.track.now) c.args.to 0) (get_or c.args.stretches.now (c.args.to - 1) c.index-stretches-to-2.result).1 c.loop-i.price) next (c.loop-i.invariant.2 before)
 
 pub price_on-price-requires-then-is_at_most-clause-stretch : goal.price_on-price-requires-then-is_at_most-clause-stretch
@@ -144,25 +144,25 @@ price_on-price-requires-then-is_at_most-clause-given_in_range g c κs within =
     let level = g.met.V.Level g.world.𝓛 g.world.𝓜 g.world.𝓡 ((λ s x. x), (λ x. x), (λ x. x), λ x. x) in
     let there = (goal.at.price_on-price-requires-then-is_at_most-clause-given_in_range g c).After-is_at_most in
     let here = slice_get-get_or c.args.stretches.now (c.loop-i.i - 1) c.index-stretches-i-then-is_at_most.result (omega arith) in
-    (flat_given g.V.Level.levels (unit_of c.args.track.now.end) c.args.track.now c.args.stretches.now c.requires.stretches level.lawful c.runs-runs.ensures.track (c.loop-i.i - 1) c.args.to _ here (omega arith) c.requires.inside _ c.floor-then-is_at_most.result (flat_here g there c.if-is_at_most.true) c.floor-then-is_at_most.ensures).0
+    (flat_given g.V.Level.levels (unit_of c.args.track.now.end) c.args.track.now c.args.stretches.now c.requires.stretches level.lawful c.known.ensures.track (c.loop-i.i - 1) c.args.to _ here (omega arith) c.requires.inside _ c.floor-then-is_at_most.result (flat_here g there c.if-is_at_most.true) c.floor-then-is_at_most.ensures).0
 
 pub price_on-price-requires-then-is_at_most-clause-below : goal.price_on-price-requires-then-is_at_most-clause-below
 price_on-price-requires-then-is_at_most-clause-below g c κs within =
     let level = g.met.V.Level g.world.𝓛 g.world.𝓜 g.world.𝓡 ((λ s x. x), (λ x. x), (λ x. x), λ x. x) in
     let there = (goal.at.price_on-price-requires-then-is_at_most-clause-below g c).After-is_at_most in
     let here = slice_get-get_or c.args.stretches.now (c.loop-i.i - 1) c.index-stretches-i-then-is_at_most.result (omega arith) in
-    (flat_given g.V.Level.levels (unit_of c.args.track.now.end) c.args.track.now c.args.stretches.now c.requires.stretches level.lawful c.runs-runs.ensures.track (c.loop-i.i - 1) c.args.to _ here (omega arith) c.requires.inside _ c.floor-then-is_at_most.result (flat_here g there c.if-is_at_most.true) c.floor-then-is_at_most.ensures).1
+    (flat_given g.V.Level.levels (unit_of c.args.track.now.end) c.args.track.now c.args.stretches.now c.requires.stretches level.lawful c.known.ensures.track (c.loop-i.i - 1) c.args.to _ here (omega arith) c.requires.inside _ c.floor-then-is_at_most.result (flat_here g there c.if-is_at_most.true) c.floor-then-is_at_most.ensures).1
 
 pub overflow_add-price : goal.overflow_add-price
 overflow_add-price g c =
     let level = g.met.V.Level g.world.𝓛 g.world.𝓜 g.world.𝓡 ((λ s x. x), (λ x. x), (λ x. x), λ x. x) in
     let there = (goal.at.overflow_add-price g c).After-is_at_most in
     let here = slice_get-get_or c.args.stretches.now (c.loop-i.i - 1) c.index-stretches-i-then-is_at_most.result (omega arith) in
-    let by = flat_more g.V.Level.levels (unit_of c.args.track.now.end) c.args.track.now c.args.stretches.now c.requires.stretches level.lawful c.runs-runs.ensures.track (c.loop-i.i - 1) c.args.to _ here _ c.floor-then-is_at_most.result c.loop-i.price c.price_on-price-then-is_at_most.result c.floor-then-is_at_most.ensures
+    let by = flat_more g.V.Level.levels (unit_of c.args.track.now.end) c.args.track.now c.args.stretches.now c.requires.stretches level.lawful c.known.ensures.track (c.loop-i.i - 1) c.args.to _ here _ c.floor-then-is_at_most.result c.loop-i.price c.price_on-price-then-is_at_most.result c.floor-then-is_at_most.ensures
     c.price_on-price-then-is_at_most.ensures.price c.price_on-price-then-is_at_most.ensures.bound (flat_lost g there c.if-is_at_most.true) in
     let bound = by.bound in
     let end = near g.V.Level.levels (unit_of c.args.track.now.end) c.args.track.now c.args.stretches.now c.requires.stretches c.args.to c.requires.inside in
-    let limit = c.runs-runs.ensures.within_limit in
+    let limit = c.known.ensures.within_limit in
     omega arith
 
 pub loop-i-preserved-then-is_at_most : goal.loop-i-preserved-then-is_at_most
@@ -171,10 +171,10 @@ loop-i-preserved-then-is_at_most g c =
     let there = (goal.at.loop-i-preserved-then-is_at_most g c).After-is_at_most in
     let i = c.loop-i.invariant in
     let here = slice_get-get_or c.args.stretches.now (c.loop-i.i - 1) c.index-stretches-i-then-is_at_most.result (omega arith) in
-    let by = flat_more g.V.Level.levels (unit_of c.args.track.now.end) c.args.track.now c.args.stretches.now c.requires.stretches level.lawful c.runs-runs.ensures.track (c.loop-i.i - 1) c.args.to _ here _ c.floor-then-is_at_most.result c.loop-i.price c.price_on-price-then-is_at_most.result c.floor-then-is_at_most.ensures
+    let by = flat_more g.V.Level.levels (unit_of c.args.track.now.end) c.args.track.now c.args.stretches.now c.requires.stretches level.lawful c.known.ensures.track (c.loop-i.i - 1) c.args.to _ here _ c.floor-then-is_at_most.result c.loop-i.price c.price_on-price-then-is_at_most.result c.floor-then-is_at_most.ensures
     c.price_on-price-then-is_at_most.ensures.price c.price_on-price-then-is_at_most.ensures.bound (flat_lost g there c.if-is_at_most.true) in
     let bound = by.bound in
-    let cost = cost_of_floor g.V.Level.levels (unit_of c.args.track.now.end) c.args.track.now c.args.stretches.now c.requires.stretches level.lawful c.runs-runs.ensures.track (c.loop-i.i - 1) c.args.to c.requires.inside _ _ (flat_here g there c.if-is_at_most.true) by in (
+    let cost = cost_of_floor g.V.Level.levels (unit_of c.args.track.now.end) c.args.track.now c.args.stretches.now c.requires.stretches level.lawful c.known.ensures.track (c.loop-i.i - 1) c.args.to c.requires.inside _ _ (flat_here g there c.if-is_at_most.true) by in (
       lowest_now g there,
       c.lowered-lowest.ensures.lost,
       (λ e. by),
@@ -194,7 +194,7 @@ overflow_add-costs g c =
     let from = last_from g at.After-index-stretches-to-2 in
     let to = last_to g at.After-index-stretches-to-2 in
     let end = near g.V.Level.levels (unit_of c.args.track.now.end) c.args.track.now c.args.stretches.now c.requires.stretches c.args.to c.requires.inside in
-    let limit = c.runs-runs.ensures.within_limit in
+    let limit = c.known.ensures.within_limit in
     omega arith
 
 pub loop-i-preserved : goal.loop-i-preserved
@@ -211,7 +211,7 @@ loop-i-preserved g c =
     let old_is = i.5 (c.loop-i.i - 1) (omega arith) in
     let old : get_or c.loop-i.costs (c.loop-i.i - 1) 0 ≡ cost_of_step g.V.Level.levels (unit_of c.args.track.now.end) c.args.track.now (c.loop-i.i - 1) (c.args.to - 1) = old_is ∙ c.requires.costs (c.loop-i.i - 1) (omega arith) in
     let above : g.V.Level.levels.at_most (get_or c.args.stretches.now (c.args.to - 1) c.index-stretches-to-2.result).1 c.lowered-lowest.result.0 ≡ false = sym c.is_at_most.ensures ∙ c.if-is_at_most.false in
-    let cost = cost_of_fallen g.V.Level.levels (unit_of c.args.track.now.end) c.args.track.now c.args.stretches.now c.requires.stretches level.lawful c.runs-runs.ensures.track (c.loop-i.i - 1) (c.args.to - 1) c.args.to (omega arith) (omega arith) c.requires.inside _ _ _ _ (lowest_now g there) (lowest_new g there) above old by in (
+    let cost = cost_of_fallen g.V.Level.levels (unit_of c.args.track.now.end) c.args.track.now c.args.stretches.now c.requires.stretches level.lawful c.known.ensures.track (c.loop-i.i - 1) (c.args.to - 1) c.args.to (omega arith) (omega arith) c.requires.inside _ _ _ _ (lowest_now g there) (lowest_new g there) above old by in (
       lowest_now g there,
       lost,
       (λ e. absurd (cc (e, above))),

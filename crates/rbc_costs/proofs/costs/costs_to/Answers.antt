@@ -37,14 +37,14 @@ price_on-lost-requires-clause-given_in_range g c κs within =
     let level = g.met.V.Level g.world.𝓛 g.world.𝓜 g.world.𝓡 ((λ s x. x), (λ x. x), (λ x. x), λ x. x) in
     let there = (goal.at.price_on-lost-requires-clause-given_in_range g c).After-index-stretches-to-2 in
     let last = slice_get-get_or c.args.stretches.now (c.args.to - 1) c.index-stretches-to.result (omega arith) in
-    (flat_given g.V.Level.levels (unit_of c.args.track.now.end) c.args.track.now c.args.stretches.now c.requires.stretches level.lawful c.runs-runs.ensures.track (c.args.to - 1) c.args.to _ last (omega arith) c.requires.inside _ c.floor.result (last_lowest g there) c.floor.ensures).0
+    (flat_given g.V.Level.levels (unit_of c.args.track.now.end) c.args.track.now c.args.stretches.now c.requires.stretches level.lawful c.known.ensures.track (c.args.to - 1) c.args.to _ last (omega arith) c.requires.inside _ c.floor.result (last_lowest g there) c.floor.ensures).0
 
 pub price_on-lost-requires-clause-below : goal.price_on-lost-requires-clause-below
 price_on-lost-requires-clause-below g c κs within =
     let level = g.met.V.Level g.world.𝓛 g.world.𝓜 g.world.𝓡 ((λ s x. x), (λ x. x), (λ x. x), λ x. x) in
     let there = (goal.at.price_on-lost-requires-clause-below g c).After-index-stretches-to-2 in
     let last = slice_get-get_or c.args.stretches.now (c.args.to - 1) c.index-stretches-to.result (omega arith) in
-    (flat_given g.V.Level.levels (unit_of c.args.track.now.end) c.args.track.now c.args.stretches.now c.requires.stretches level.lawful c.runs-runs.ensures.track (c.args.to - 1) c.args.to _ last (omega arith) c.requires.inside _ c.floor.result (last_lowest g there) c.floor.ensures).1
+    (flat_given g.V.Level.levels (unit_of c.args.track.now.end) c.args.track.now c.args.stretches.now c.requires.stretches level.lawful c.known.ensures.track (c.args.to - 1) c.args.to _ last (omega arith) c.requires.inside _ c.floor.result (last_lowest g there) c.floor.ensures).1
 
 pub loop-i-init : goal.loop-i-init
 loop-i-init g c =
@@ -56,7 +56,7 @@ loop-i-init g c =
     let from = subst (λ k. IsLostByFloor g.V.Level.levels c.args.track.now k (get_or c.args.stretches.now (c.args.to - 1) c.index-stretches-to.result).0.to (get_or c.args.stretches.now (c.args.to - 1) c.index-stretches-to-2.result).1 c.price_on-lost.result) (last_from g there) lost in
     let by = subst (λ k. IsLostByFloor g.V.Level.levels c.args.track.now (get_or (breaks_for (unit_of c.args.track.now.end) c.args.track.now) (c.args.to - 1) 0) k (get_or c.args.stretches.now (c.args.to - 1) c.index-stretches-to-2.result).1 c.price_on-lost.result) (last_to g there) from in
     let bound = by.bound in
-    let cost = cost_of_floor g.V.Level.levels (unit_of c.args.track.now.end) c.args.track.now c.args.stretches.now c.requires.stretches level.lawful c.runs-runs.ensures.track (c.args.to - 1) c.args.to c.requires.inside _ _ lowest by in (
+    let cost = cost_of_floor g.V.Level.levels (unit_of c.args.track.now.end) c.args.track.now c.args.stretches.now c.requires.stretches level.lawful c.known.ensures.track (c.args.to - 1) c.args.to c.requires.inside _ _ lowest by in (
       lowest,
       by,
       written_more c.args.costs.now (c.args.to - 1) c.args.to _ (λ k. cost_of_step g.V.Level.levels (unit_of c.args.track.now.end) c.args.track.now k c.args.to) (omega arith) cost (λ k low high. absurd (omega arith)),
@@ -109,7 +109,7 @@ loop-i-preserved g c =
     let lost = subst (λ k. IsLostByFloor g.V.Level.levels c.args.track.now (get_or (breaks_for (unit_of c.args.track.now.end) c.args.track.now) (c.loop-i.i - 1) 0) k c.further-lowest.result.0 c.further-lowest.result.1) last lost_from in
     let bound = lost.bound in
     let room : c.loop-i.i - 1 < length c.loop-i.costs = omega (arith, length-set {A = ℕ}) in
-    let cost = cost_of_floor g.V.Level.levels (unit_of c.args.track.now.end) c.args.track.now c.args.stretches.now c.requires.stretches level.lawful c.runs-runs.ensures.track (c.loop-i.i - 1) c.args.to c.requires.inside _ _ lowest lost in (
+    let cost = cost_of_floor g.V.Level.levels (unit_of c.args.track.now.end) c.args.track.now c.args.stretches.now c.requires.stretches level.lawful c.known.ensures.track (c.loop-i.i - 1) c.args.to c.requires.inside _ _ lowest lost in (
       lowest,
       lost,
       written_more c.loop-i.costs (c.loop-i.i - 1) c.args.to _ (λ k. cost_of_step g.V.Level.levels (unit_of c.args.track.now.end) c.args.track.now k c.args.to) room cost (λ k low high. i.2 k (omega arith) high),

@@ -21,7 +21,7 @@ loop-i-preserved-then-not-is_at_most g c =
     let end = near g.V.Level.levels (unit_of c.args.track.now.end) c.args.track.now c.args.stretches.now c.requires.stretches c.args.to c.requires.inside in
     let next : c.loop-i.i ≡ c.loop-i.i - 1 + 1 = omega arith in
     let before = subst (λ k. IsLowest g.V.Level.levels c.args.track.now (get_or (breaks_for (unit_of c.args.track.now.end) c.args.track.now) k 0) (get_or (breaks_for (unit_of c.args.track.now.end) c.args.track.now) c.args.to 0) c.loop-i.least) next c.loop-i.invariant.1 in
-    (omega arith, lower_in_front g.V.Level.levels level.lawful c.args.track.now c.runs-runs.ensures.track _ _ _ _ c.loop-i.least _ end here before (fallen g.V.Level.levels c.loop-i.least _ (sym c.is_at_most.ensures ∙ c.if-not-is_at_most.true)))
+    (omega arith, lower_in_front g.V.Level.levels level.lawful c.args.track.now c.known.ensures.track _ _ _ _ c.loop-i.least _ end here before (fallen g.V.Level.levels c.loop-i.least _ (sym c.is_at_most.ensures ∙ c.if-not-is_at_most.true)))
 
 pub loop-i-preserved : goal.loop-i-preserved
 loop-i-preserved g c =
@@ -31,7 +31,7 @@ loop-i-preserved g c =
     let end = near g.V.Level.levels (unit_of c.args.track.now.end) c.args.track.now c.args.stretches.now c.requires.stretches c.args.to c.requires.inside in
     let next : c.loop-i.i ≡ c.loop-i.i - 1 + 1 = omega arith in
     let before = subst (λ k. IsLowest g.V.Level.levels c.args.track.now (get_or (breaks_for (unit_of c.args.track.now.end) c.args.track.now) k 0) (get_or (breaks_for (unit_of c.args.track.now.end) c.args.track.now) c.args.to 0) c.loop-i.least) next c.loop-i.invariant.1 in
-    (omega arith, lower_in_front g.V.Level.levels level.lawful c.args.track.now c.runs-runs.ensures.track _ _ _ _ c.loop-i.least _ end here before (kept g.V.Level.levels c.loop-i.least _ (sym c.is_at_most.ensures ∙ c.if-not-is_at_most.false)))
+    (omega arith, lower_in_front g.V.Level.levels level.lawful c.args.track.now c.known.ensures.track _ _ _ _ c.loop-i.least _ end here before (kept g.V.Level.levels c.loop-i.least _ (sym c.is_at_most.ensures ∙ c.if-not-is_at_most.false)))
 
 pub returns : goal.returns
 returns g c =

@@ -32,7 +32,7 @@ cheap_here : (g : Over) (c : After-min-count g) (most total : ℕ) → ArePrices
 cheap_here g c most total low room i to h inside =
     let level = g.met.V.Level g.world.𝓛 g.world.𝓜 g.world.𝓡 ((λ s x. x), (λ x. x), (λ x. x), λ x. x) in
     let count = c.requires.stretches.count in
-    costs_bounded g.V.Level.levels level.lawful c.args.track.now c.runs-runs.ensures.track most low (unit_of c.args.track.now.end) c.requires.stretches.breaks c.runs-runs.ensures.within_limit total room i to h (omega arith)
+    costs_bounded g.V.Level.levels level.lawful c.args.track.now c.known.ensures.track most low (unit_of c.args.track.now.end) c.requires.stretches.breaks c.known.ensures.within_limit total room i to h (omega arith)
 
 cheap_of_any : (g : Over) (c : After-min-count g) (i to : ℕ) → i < to → to ≤ length c.args.stretches.now → cost_of_step g.V.Level.levels (unit_of c.args.track.now.end) c.args.track.now i to ≤ 100000000000
 cheap_of_any g c =

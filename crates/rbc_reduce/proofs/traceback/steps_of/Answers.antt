@@ -17,7 +17,7 @@ use Rattle.rbc_model.proofs.ScaleLemmas.{some_unit}
 pub fewest-count-requires-clause-some : goal.fewest-count-requires-clause-some
 fewest-count-requires-clause-some g c =
     let level = g.met.V.Level g.world.𝓛 g.world.𝓜 g.world.𝓡 ((λ s x. x), (λ x. x), (λ x. x), λ x. x) in
-    some_row g.V.Level.levels level.lawful c.args.track.now c.runs-runs.ensures.track (unit_of c.args.track.now.end) (some_unit c.args.track.now.end) c.requires.whole (breaks_for (unit_of c.args.track.now.end) c.args.track.now) c.requires.stretches.breaks c.args.limit c.args.rows.now c.requires.table c.requires.some
+    some_row g.V.Level.levels level.lawful c.args.track.now c.known.ensures.track (unit_of c.args.track.now.end) (some_unit c.args.track.now.end) c.requires.whole (breaks_for (unit_of c.args.track.now.end) c.args.track.now) c.requires.stretches.breaks c.args.limit c.args.rows.now c.requires.table c.requires.some
 
 pub loop-before-init : goal.loop-before-init
 loop-before-init g c =
@@ -26,7 +26,7 @@ loop-before-init g c =
     let columns : length c.args.stretches.now ≡ length (breaks_for (unit_of c.args.track.now.end) c.args.track.now) - 1 = omega arith in
     let price = rw columns at c.fewest-count.ensures.price in
     let first = rw columns at c.fewest-count.ensures.first in
-    let begun = begun g.V.Level.levels level.lawful c.args.track.now c.runs-runs.ensures.track (unit_of c.args.track.now.end) (some_unit c.args.track.now.end) c.requires.whole (breaks_for (unit_of c.args.track.now.end) c.args.track.now) c.requires.stretches.breaks c.args.limit c.args.rows.now c.requires.table
+    let begun = begun g.V.Level.levels level.lawful c.args.track.now c.known.ensures.track (unit_of c.args.track.now.end) (some_unit c.args.track.now.end) c.requires.whole (breaks_for (unit_of c.args.track.now.end) c.args.track.now) c.requires.stretches.breaks c.args.limit c.args.rows.now c.requires.table
     c.fewest-count.result c.fewest-count.ensures.some c.fewest-count.ensures.inside price first (length c.args.stretches.now) columns in
     (omega (arith, c.in_ok-costs.ensures.len), omega arith, rw c.in_ok-steps.ensures.items begun.0, begun.1)
 
@@ -39,7 +39,7 @@ on_here g c =
 some_here : (g : Over) (c : After-as_mut_slice g) → 0 < c.loop-before.to
 some_here g c =
     let level = g.met.V.Level g.world.𝓛 g.world.𝓜 g.world.𝓡 ((λ s x. x), (λ x. x), (λ x. x), λ x. x) in
-    some_column g.V.Level.levels level.lawful c.args.track.now c.runs-runs.ensures.track (unit_of c.args.track.now.end) (some_unit c.args.track.now.end) c.requires.whole (breaks_for (unit_of c.args.track.now.end) c.args.track.now) c.requires.stretches.breaks c.args.limit c.args.rows.now c.requires.table (c.loop-before.before - 1) c.loop-before.to
+    some_column g.V.Level.levels level.lawful c.args.track.now c.known.ensures.track (unit_of c.args.track.now.end) (some_unit c.args.track.now.end) c.requires.whole (breaks_for (unit_of c.args.track.now.end) c.args.track.now) c.requires.stretches.breaks c.args.limit c.args.rows.now c.requires.table (c.loop-before.before - 1) c.loop-before.to
     (on_here g c)
 
 pub costs_to-requires-clause-some : goal.costs_to-requires-clause-some
@@ -67,7 +67,7 @@ first_break-from-requires-clause-small_costs g c i h =
     let same = ap (λ xs. get_or xs i 0) (handed g (goal.at.first_break-from-requires-clause-small_costs g c).After-deref) in
     let low = c.costs_to.ensures.bound i h in
     let end = near g.V.Level.levels (unit_of c.args.track.now.end) c.args.track.now c.args.stretches.now c.requires.stretches c.loop-before.to c.loop-before.invariant.1 in
-    let limit = c.runs-runs.ensures.within_limit in
+    let limit = c.known.ensures.within_limit in
     omega arith
 
 pub first_break-from-requires-clause-some : goal.first_break-from-requires-clause-some
@@ -75,7 +75,7 @@ first_break-from-requires-clause-some g c =
     let level = g.met.V.Level g.world.𝓛 g.world.𝓜 g.world.𝓡 ((λ s x. x), (λ x. x), (λ x. x), λ x. x) in
     let at = goal.at.first_break-from-requires-clause-some g c in
     let next : c.loop-before.before - 1 + 1 ≡ suc (c.loop-before.before - 1) = omega arith in
-    let some = some_break g.V.Level.levels level.lawful c.args.track.now c.runs-runs.ensures.track (unit_of c.args.track.now.end) (some_unit c.args.track.now.end) c.requires.whole (breaks_for (unit_of c.args.track.now.end) c.args.track.now) c.requires.stretches.breaks c.args.limit c.args.rows.now c.requires.table
+    let some = some_break g.V.Level.levels level.lawful c.args.track.now c.known.ensures.track (unit_of c.args.track.now.end) (some_unit c.args.track.now.end) c.requires.whole (breaks_for (unit_of c.args.track.now.end) c.args.track.now) c.requires.stretches.breaks c.args.limit c.args.rows.now c.requires.table
     (c.loop-before.before - 1) c.loop-before.to (omega arith) (omega (arith, c.loop-before.invariant.1, c.requires.stretches.count)) (on_here g at.After-as_mut_slice) in
     let cost = cost_here g at.After-deref some.0 some.1 in
     rw next (some.0, some.1, ap (λ k. price_in c.args.rows.now (c.loop-before.before - 1) some.0 + k) cost ∙ some.2)
@@ -100,7 +100,7 @@ loop-before-preserved g c =
     λ k h e. c.first_break-from.ensures.first k h (rw next (ap (λ x. price_in c.args.rows.now (c.loop-before.before - 1) k + x) (column k (omega arith)) ∙ e)) in
     let traced = subst (λ k. IsTracedTo g.V.Level.levels (unit_of c.args.track.now.end) c.args.limit c.args.track.now.end c.args.track.now.steps (prices_of c.args.rows.now) c.fewest-count.result
     (stretch_count g.V.Level.levels (unit_of c.args.track.now.end) c.args.limit c.args.track.now.end c.args.track.now.steps) c.loop-before.steps.items k c.loop-before.to) row i.2 in
-    let back = one_back g.V.Level.levels level.lawful c.args.track.now c.runs-runs.ensures.track (unit_of c.args.track.now.end) (some_unit c.args.track.now.end) c.requires.whole (breaks_for (unit_of c.args.track.now.end) c.args.track.now) c.requires.stretches.breaks c.args.limit c.args.rows.now c.requires.table
+    let back = one_back g.V.Level.levels level.lawful c.args.track.now c.known.ensures.track (unit_of c.args.track.now.end) (some_unit c.args.track.now.end) c.requires.whole (breaks_for (unit_of c.args.track.now.end) c.args.track.now) c.requires.stretches.breaks c.args.limit c.args.rows.now c.requires.table
     c.fewest-count.result c.loop-before.steps.items (c.loop-before.before - 1) c.loop-before.to c.first_break-from.result _ c.least_of-least.result c.floor.result (omega arith) (omega (arith, i.1, c.requires.stretches.count))
     (on_here g at.After-as_mut_slice) traced inside adds_up first c.least_of-least.ensures start c.floor.ensures in
     (ap length (with_items_is c.loop-before.costs c.costs_to.new.costs (omega arith)) ∙ omega (arith, i.0), omega (arith, inside, i.1), rw more back.0, back.1)
@@ -116,5 +116,5 @@ returns g c =
     let none : c.loop-before.before ≡ 0 = omega arith in
     let traced = rw none at i.2 in
     let on = rw none at i.3 in
-    rw c.reverse.ensures.items (read_off g.V.Level.levels level.lawful c.args.track.now c.runs-runs.ensures.track (unit_of c.args.track.now.end) (some_unit c.args.track.now.end) c.requires.whole (breaks_for (unit_of c.args.track.now.end) c.args.track.now) c.requires.stretches.breaks c.args.limit c.args.rows.now c.requires.table
+    rw c.reverse.ensures.items (read_off g.V.Level.levels level.lawful c.args.track.now c.known.ensures.track (unit_of c.args.track.now.end) (some_unit c.args.track.now.end) c.requires.whole (breaks_for (unit_of c.args.track.now.end) c.args.track.now) c.requires.stretches.breaks c.args.limit c.args.rows.now c.requires.table
     c.fewest-count.result c.fewest-count.ensures.some c.fewest-count.ensures.inside price first c.loop-before.steps.items c.loop-before.to traced on)
