@@ -15,7 +15,6 @@ use Rattle.rbc_table_laws.proofs.ReadOffLemmas.{read_of_trace}
 use Rattle.rbc_table_laws.proofs.TableLawLemmas.{searches_are_found}
 use Rattle.rbc_table_laws.proofs.StretchLemmas.{stretches_for, breaks_to_end, least_is}
 use Rattle.rbc_reduce.specs.Rows.{price_in}
-use Rattle.rbc_model.proofs.ScaleLemmas.{some_unit}
 
 module _ {V : Type 0} (levels : Levels V) (lawful : IsLawful levels) (track : StepFunction V) (function : IsTrackFunction levels track.end track.steps)
     (unit : ℕ) (some_unit : 0 < unit) (whole_end : track.end % unit ≡ 0) (breaks : List ℕ) (are : AreBreaksFor unit track breaks) (limit : ℕ) (rows : List (Vec ℕ)) (greatest : IsGreatestSoundTable levels unit limit track.end track.steps (prices_of rows)) where
