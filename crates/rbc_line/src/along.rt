@@ -93,23 +93,31 @@ fn push_falling<V: TrackLevel>(
     Ok(())
 }
 
-/// Puts the levels of a leg's metres from `low` up to `high` behind the rows, which tell of `told` metres.
+/// Some metres of a leg: those from `low` up to `high`, counted from where the leg begins.
+#[derive(Clone, Copy)]
+struct LegPart {
+    leg: Leg,
+    low: u32,
+    high: u32,
+}
+
+/// Puts the levels of a part of a leg behind the rows, which tell of `told` metres.
 fn push_leg<V: TrackLevel>(
     rows: &mut Vec<(u32, V)>,
     told: u32,
     track: &Track,
-    leg: &Leg,
-    low: u32,
-    high: u32,
+    part: LegPart,
 ) -> Result<(), Memory>
-    requires of_track { leg.now.section < length track.now.sections }
-    requires some { low < high }
-    requires on_leg { high ≤ metres_of track.now leg.now.section }
-    requires fits { told + (high - low) < 2 ^ 32 }
+    requires of_track { part.leg.section < length track.now.sections }
+    requires some { part.low < part.high }
+    requires on_leg { part.high ≤ metres_of track.now part.leg.section }
+    requires fits { told + (part.high - part.low) < 2 ^ 32 }
     ensures { (level : ℕ → Option V) → Tells rows.old.items told level
-        → ((x : ℕ) → low ≤ x → x < high → level (told + (x - low)) ≡ level_on V.steps_of V.met track.now leg.now x)
-        → OnOk result (Tells rows.new.items (told + (high - low)) level) }
+        → ((x : ℕ) → part.low ≤ x → x < part.high
+        → level (told + (x - part.low)) ≡ level_on V.steps_of V.met track.now part.leg x)
+        → OnOk result (Tells rows.new.items (told + (part.high - part.low)) level) }
 {
+    let LegPart { leg, low, high } = part;
     let section = track.section_at(leg.section);
     let runs = V::runs_of(section).runs();
     match leg.direction {
@@ -146,14 +154,12 @@ fn rows_along<V: TrackLevel>(
         let first = from.max(begin);
         let last = to.min(end);
         if first < last {
-            push_leg(
-                &mut rows,
-                first - from,
-                track,
-                leg,
-                first - begin,
-                last - begin,
-            )?;
+            let part = LegPart {
+                leg: *leg,
+                low: first - begin,
+                high: last - begin,
+            };
+            push_leg(&mut rows, first - from, track, part)?;
         }
         begin = end;
     }
