@@ -16,7 +16,9 @@ use rbc_packet::{Encoded, write_profile};
 use rbc_reduce::{Priced, Reduced, reduce};
 use rbc_steps::{Grade, Runs, Speed};
 use rbc_streams::{Sink, WriteFailed};
-use rbc_words::{Spelled, StepsLine, StepsRequest, parse_steps, print_certified, print_refusal};
+use rbc_words::{
+    Basis, Spelled, StepsLine, StepsRequest, parse_steps, print_certified, print_refusal,
+};
 use std::alloc::Global;
 
 /// Writes the answer to a line.
@@ -109,12 +111,15 @@ fn print_chosen<V: Spelled + Encoded + Priced, W: Sink>(
     let Ok(packet) = write_profile(alloc, &chosen.profile, true) else {
         return print_refusal(StepsRefusal::Memory, writer);
     };
-    print_certified(
+    let basis = Basis {
         limit,
         track,
+        prices: chosen.prices.as_slice(),
+    };
+    print_certified(
         &chosen.profile,
         chosen.loss,
-        chosen.prices.as_slice(),
+        &basis,
         packet.as_slice(),
         writer,
     )

@@ -13,8 +13,8 @@ use Rattle.rbc_model.specs.Histories.{Grants}
 use Rattle.rbc_model.specs.Tracks.{Track}
 use Rattle.rbc_model.specs.Views.{View}
 use Rattle.rbc_model.specs.Words.{line_of, hex_of}
-use Rattle.rbc_words.specs.Replies.{track_text}
-use Rattle.rbc_replies.specs.declared.replies.Basis.{Basis}
+use Rattle.rbc_words.specs.Replies.{certificate_lines}
+use Rattle.rbc_words.specs.declared.steps_reply.Basis.{Basis}
 use Rattle.rbc_replies.specs.declared.replies.Granted.{Granted}
 use Rattle.rbc_words.specs.PriceText.{prices_of, prices_text}
 use Rattle.rbc_replies.specs.Certificates.{certificate_text, IsBasisOf}
@@ -23,17 +23,12 @@ use Rattle.rbc_replies.specs.Replies.{grant_line, grant_text}
 -- the lines of a certificate
 pub certificate_text-is : {V : Type 0} (kind : Kind V) (levels : Levels V) (profile : StepFunction V) (basis : Basis V) (lost : ℕ)
     → kind.levels ≡ levels → basis.track.now.end ≡ profile.end → lost ≡ loss levels profile.end (value_at basis.track.now.steps) profile.steps
-    → certificate_text kind profile.end profile.steps basis
-    ≡ track_text kind basis.limit basis.track.now ++ (profile_line kind profile.steps lost ++ prices_text basis.prices.now)
+    → certificate_lines kind profile lost basis ≡ certificate_text kind profile.end profile.steps basis
 certificate_text-is {V} kind levels profile basis lost same_levels same_end same_loss =
-    let track : ℕ → List ℕ = λ end. track_line kind (record { limit = basis.limit; runs = basis.track.now.steps; end = end }) in
-    let shown : ℕ → List ℕ = λ l. profile_line kind profile.steps l in
-    let prices = prices_text basis.prices.now in
-    let all = loss kind.levels profile.end (value_at basis.track.now.steps) profile.steps in
-    append_assoc (track profile.end) (shown all) prices
-    ∙ ap (λ end. track end ++ (shown all ++ prices)) (sym same_end)
-    ∙ ap (λ l. track basis.track.now.end ++ (shown l ++ prices))
-    (ap (λ (ls : Levels V). loss ls profile.end (value_at basis.track.now.steps) profile.steps) same_levels ∙ sym same_loss)
+    let lines : ℕ → ℕ → List ℕ = λ end l.
+    track_line kind (record { limit = basis.limit; runs = basis.track.now.steps; end = end }) ++ profile_line kind profile.steps l ++ prices_text basis.prices.now in
+    ap (λ end. lines end lost) same_end
+    ∙ ap (lines profile.end) (same_loss ∙ ap (λ (ls : Levels V). loss ls profile.end (value_at basis.track.now.steps) profile.steps) (sym same_levels))
 
 -- the profile that is handed over can be chosen for the track, if the one that it equals can
 pub basis_of : {V : Type 0} (levels : Levels V) (profile track : StepFunction V) (steps : List (ℕ × V)) (end : ℕ)

@@ -6,7 +6,7 @@ use Rattle.rbc_model.specs.Messages.{Authority}
 use Rattle.rbc_model.specs.Profiles.{StepFunction, value_at, is_within}
 use Rattle.rbc_model.specs.StepsReply.{certificate}
 use Rattle.rbc_words.specs.PriceText.{prices_of}
-use Rattle.rbc_replies.specs.declared.replies.Basis.{Basis}
+use Rattle.rbc_words.specs.declared.steps_reply.Basis.{Basis}
 
 -- the certificate of a profile with this end and these steps
 abbrev pub certificate_text : {V : Type 0} → Kind V → ℕ → List (ℕ × V) → Basis V → List ℕ

@@ -4,10 +4,9 @@ ghost use Rattle.std.specs.Prelude.{◌≡◌, false};
 ghost use Rattle.rbc_model.specs.Sessions.{Prints};
 ghost use Rattle.rbc_replies.specs.Certificates.{certificate_text, IsBasisOf};
 
-use crate::Basis;
 use rbc_steps::Profile;
 use rbc_streams::{Sink, WriteFailed};
-use rbc_words::{Spelled, print_profile, print_table, print_track};
+use rbc_words::{Basis, Spelled};
 
 /// Writes the certificate of a profile.
 pub(crate) fn print_certificate<V: Spelled, W: Sink>(
@@ -20,7 +19,5 @@ pub(crate) fn print_certificate<V: Spelled, W: Sink>(
     ensures { Prints (W.written writer.old) (W.written writer.new) (W.failed writer.new)
         (certificate_text V.kind profile.now.end profile.now.steps basis.now) result }
 {
-    print_track(basis.limit, basis.track, writer)?;
-    print_profile(profile, profile.loss(basis.track), writer)?;
-    print_table(basis.prices, writer)
+    rbc_words::print_certificate(profile, profile.loss(basis.track), basis, writer)
 }

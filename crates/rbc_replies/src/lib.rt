@@ -7,4 +7,5 @@ mod replies;
 
 pub use printing::print;
 pub use rbc_words as words;
-pub use replies::{Basis, Granted, SessionRefusal, SessionReply};
+pub use rbc_words::Basis;
+pub use replies::{Granted, SessionRefusal, SessionReply};

@@ -7,9 +7,9 @@ ghost use Rattle.rbc_replies.specs.Certificates.{IsBasisOf, speeds_of, grades_of
 
 use rbc_model::{LineFault, Obstacle, Refusal, TrainId};
 use rbc_packet::Authority;
-use rbc_steps::{Grade, Runs, Speed};
+use rbc_steps::{Grade, Speed};
 use rbc_track::Name;
-use rbc_words::Spelled;
+use rbc_words::Basis;
 
 /// Why a line of a session is refused.
 #[derive(Clone, Copy, Debug, PartialEq, Eq)]
@@ -24,17 +24,6 @@ pub enum SessionRefusal {
     Full,
     /// Memory was refused in its treatment.
     Memory,
-}
-
-/// What a profile was chosen for, and the table that shows that none loses less.
-#[derive(Clone, Copy)]
-pub struct Basis<'reply, V: Spelled> {
-    /// How many steps the profile may have, 1 to 31.
-    pub limit: usize,
-    /// The track, from the train's group to the end of its authority.
-    pub track: &'reply Runs<V>,
-    /// The rows of the table of prices. A table without rows is not printed.
-    pub prices: &'reply [Vec<u64>],
 }
 
 /// What a train is granted. The message is the authority's, and the profiles can be chosen for what they were chosen for.
@@ -52,9 +41,9 @@ pub struct Granted<'reply> {
     pub authority: &'reply Authority,
     /// Message 3, which gives the authority.
     pub message: &'reply [u8],
-    /// What the profile of speeds was chosen for.
+    /// What the profile of speeds was chosen for: a track from the train's group to the end of its authority.
     pub speeds: Basis<'reply, Speed>,
-    /// What the profile of gradients was chosen for.
+    /// What the profile of gradients was chosen for, over the same metres.
     pub grades: Basis<'reply, Grade>,
     pub ghost told: { message.now ≡ message_bytes authority.now },
     pub ghost speeds_fit: { IsBasisOf speed_levels (speeds_of authority.now) speeds.track.now },

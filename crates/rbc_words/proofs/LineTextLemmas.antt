@@ -3,7 +3,6 @@ use Rattle.std.proofs.Common.{◌≡◌, ℕ, List, [], ◌∷◌, ◌++◌, ref
 use Rattle.std.proofs.lemmas.Bool.{eqb-true}
 use Rattle.std.proofs.lemmas.List.{at_drop_all}
 use Rattle.std.specs.Prelude.{codes, decimal}
-use Rattle.std.specs.Global.{Vec}
 use Rattle.std.specs.List.{flat_map, join_with_byte}
 use Rattle.std.proofs.lemmas.Grind.{flat_map-append}
 use Rattle.rbc_model.specs.declared.refusals.LineFault.TheVariants.{Overlong, NotText, Command, Words, Number, Name}
@@ -14,7 +13,8 @@ use Rattle.rbc_model.specs.Profiles.{StepFunction}
 use Rattle.rbc_model.specs.StepsReply.{profile_line, packet_lines, refusal_reply, refusal_words, run_words}
 use Rattle.rbc_model.specs.Words.{line_of, hex_of}
 use Rattle.rbc_words.specs.PriceText.{prices_text}
-use Rattle.rbc_words.specs.Replies.{runs_text, track_text, certified_text}
+use Rattle.rbc_words.specs.declared.steps_reply.Basis.{Basis}
+use Rattle.rbc_words.specs.Replies.{runs_text, track_text, certificate_lines}
 use Rattle.rbc_words.proofs.SpacedLemmas.{join_spaced}
 
 -- a word behind a space
@@ -57,15 +57,12 @@ profile_line-is kind steps runs loss same =
     line_of_runs kind steps (codes "steps") (codes "loss") (decimal loss)
     ∙ ap (λ rs. codes "steps" ++ (runs_text kind rs ++ (codes " loss " ++ (decimal loss ++ 10 ∷ [])))) (sym same)
 
--- the lines of a certificate, and of its packet
-pub certified_text-is : {V : Type 0} (kind : Kind V) (limit : ℕ) (track profile : StepFunction V) (loss : ℕ) (rows : List (Vec ℕ)) (packet : List ℕ)
-    → certified_text kind limit track profile loss rows packet
-    ≡ track_text kind limit track ++ (profile_line kind profile.steps loss ++ (prices_text rows ++ packet_lines packet))
-certified_text-is kind limit track profile loss rows packet =
-    let whole = track_text kind limit track in
-    let steps = profile_line kind profile.steps loss in
-    let prices = prices_text rows in
-    append_assoc (whole ++ steps) prices (packet_lines packet) ∙ append_assoc whole steps (prices ++ packet_lines packet)
+-- the lines of a certificate, each before those behind it
+pub certificate_lines-is : {V : Type 0} (kind : Kind V) (profile : StepFunction V) (loss : ℕ) (basis : Basis V)
+    → certificate_lines kind profile loss basis
+    ≡ track_text kind basis.limit basis.track.now ++ (profile_line kind profile.steps loss ++ prices_text basis.prices.now)
+certificate_lines-is kind profile loss basis =
+    append_assoc (track_text kind basis.limit basis.track.now) (profile_line kind profile.steps loss) (prices_text basis.prices.now)
 
 -- the pieces of a run
 pub run_text-is : {V : Type 0} (kind : Kind V) (start number : ℕ) (value : V) → number ≡ start

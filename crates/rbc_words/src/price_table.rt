@@ -9,11 +9,7 @@ use crate::gathered::Gathered;
 use rbc_streams::{Sink, WriteFailed, put};
 
 /// Writes a table of prices, a line for each row, counted from 1.
-///
-/// # Errors
-///
-/// `WriteFailed`, where the writer fails. Then a part of the text stands, from its start.
-pub fn print_table<W: Sink>(rows: &[Vec<u64>], writer: &mut W) -> Result<(), WriteFailed>
+pub(crate) fn print_table<W: Sink>(rows: &[Vec<u64>], writer: &mut W) -> Result<(), WriteFailed>
     requires { W.failed writer.old ≡ false }
     ensures { Prints (W.written writer.old) (W.written writer.new) (W.failed writer.new)
         (prices_text rows.now) result }

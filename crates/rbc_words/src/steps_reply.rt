@@ -5,10 +5,11 @@ ghost use Rattle.rbc_model.specs.Sessions.{Prints};
 ghost use Rattle.rbc_model.specs.Words.{line_of};
 ghost use Rattle.rbc_model.specs.StepsReply.{fault_words, refusal_words, refusal_reply};
 ghost use Rattle.rbc_model.specs.StepsReply.{profile_line, packet_lines};
-ghost use Rattle.rbc_words.specs.Replies.{runs_text, track_text, certified_text};
+ghost use Rattle.rbc_words.specs.Replies.{runs_text, track_text, certificate_lines, certified_text};
 
 use crate::gathered::Gathered;
-use crate::{Spelled, print_hex, print_table};
+use crate::price_table::print_table;
+use crate::{Spelled, print_hex};
 use rbc_model::{LineFault, StepsRefusal};
 use rbc_steps::{Profile, Runs};
 use rbc_streams::{Sink, WriteFailed, put};
@@ -79,37 +80,60 @@ pub fn print_last<W: Sink>(name: &[u8], number: u64, writer: &mut W) -> Result<(
     put(writer, text.bytes())
 }
 
-/// Writes a certificate and its packet: a track with the limit of steps, a profile of it, what that loses, the prices that
-/// show that none loses less, a row for each number of steps from 1, and the packet that holds the profile.
+/// What a profile was chosen for, and the table that shows that none loses less.
+#[derive(Clone, Copy)]
+pub struct Basis<'reply, V: Spelled> {
+    /// How many steps the profile may have, 1 to 31.
+    pub limit: usize,
+    /// The track.
+    pub track: &'reply Runs<V>,
+    /// The rows of the table of prices, one for each number of steps from 1. A table without rows is not printed.
+    pub prices: &'reply [Vec<u64>],
+}
+
+/// Writes the certificate of a profile: its track, the profile with what it loses, summed over all metres (km/h, or per
+/// mille), and the prices.
+///
+/// # Errors
+///
+/// `WriteFailed`, where the writer fails. Then a part of the text stands, from its start.
+pub fn print_certificate<V: Spelled, W: Sink>(
+    profile: &Profile<V>,
+    loss: u64,
+    basis: &Basis<V>,
+    writer: &mut W,
+) -> Result<(), WriteFailed>
+    requires { W.failed writer.old ≡ false }
+    ensures { Prints (W.written writer.old) (W.written writer.new) (W.failed writer.new)
+        (certificate_lines V.kind profile.now loss basis.now) result }
+{
+    print_track(basis.limit, basis.track, writer)?;
+    print_profile(profile, loss, writer)?;
+    print_table(basis.prices, writer)
+}
+
+/// Writes the certificate of a profile, and the packet that holds the profile.
 ///
 /// # Errors
 ///
 /// `WriteFailed`, where the writer fails. Then a part of the text stands, from its start.
 pub fn print_certified<V: Spelled, W: Sink>(
-    limit: usize,
-    track: &Runs<V>,
     profile: &Profile<V>,
     loss: u64,
-    prices: &[Vec<u64>],
+    basis: &Basis<V>,
     packet: &[u8],
     writer: &mut W,
 ) -> Result<(), WriteFailed>
     requires { W.failed writer.old ≡ false }
     ensures { Prints (W.written writer.old) (W.written writer.new) (W.failed writer.new)
-        (certified_text V.kind limit track.now profile.now loss prices.now packet.now) result }
+        (certified_text V.kind profile.now loss basis.now packet.now) result }
 {
-    print_track(limit, track, writer)?;
-    print_profile(profile, loss, writer)?;
-    print_table(prices, writer)?;
+    print_certificate(profile, loss, basis, writer)?;
     print_packet(packet, writer)
 }
 
 /// Writes the line of a track, with the limit of steps.
-///
-/// # Errors
-///
-/// `WriteFailed`, where the writer fails. Then a part of the text stands, from its start.
-pub fn print_track<V: Spelled, W: Sink>(
+fn print_track<V: Spelled, W: Sink>(
     limit: usize,
     track: &Runs<V>,
     writer: &mut W,
@@ -155,12 +179,8 @@ fn gather_command<V: Spelled>(limit: usize, text: &mut Gathered)
     text.text(V::command());
 }
 
-/// Writes the line of a profile, with what it loses, summed over all metres: km/h, or per mille.
-///
-/// # Errors
-///
-/// `WriteFailed`, where the writer fails. Then a part of the text stands, from its start.
-pub fn print_profile<V: Spelled, W: Sink>(
+/// Writes the line of a profile, with what it loses.
+fn print_profile<V: Spelled, W: Sink>(
     profile: &Profile<V>,
     loss: u64,
     writer: &mut W,

@@ -33,7 +33,7 @@ returns g c =
     let track = c.args.track.now in
     let reduced = c.in-Ok.chosen in
     let is = rw c.in-Ok.is at c.requires.chosen in (
-      certified_text g.V.Spelled.kind c.args.limit track reduced.profile reduced.loss c.as_slice.result.now c.as_slice-2.result.now,
+      certified_text g.V.Spelled.kind reduced.profile reduced.loss (record { limit = c.args.limit; track = c.args.track; prices = c.as_slice.result }) c.as_slice-2.result.now,
       λ runs end made.
           let given = subst (λ n. is_expressible Far n ≡ true) (end_of g.V.Level.levels end runs track made) c.requires.expressible in
           rw (c.as_slice.ensures.value, c.as_slice-2.ensures.value)
