@@ -42,27 +42,31 @@ fn is_locked(locks: &Locks, before: Option<Leg>, leg: &Leg) -> bool
     }
 }
 
-/// A leg that begins at a place, behind another if there is one.
-fn part_of(
-    track: &Track,
-    locks: &Locks,
+/// Where a leg of a way begins.
+#[derive(Clone, Copy)]
+struct LegStart {
+    /// The leg before, if there is one.
     before: Option<Leg>,
+    /// How many pixels from the top the leg's name stands.
     height: u64,
+    /// The place.
     begin: u32,
-    leg: &Leg,
-) -> Part
+}
+
+/// A leg that begins here.
+fn part_of(track: &Track, locks: &Locks, start: LegStart, leg: &Leg) -> Part
     requires of_track { leg.now.section < length track.now.sections }
-    requires fits { begin + metres_of track.now leg.now.section < 2 ^ 32 }
-    ensures { result ≡ part_of track.now locks.now before height begin leg.now }
+    requires fits { start.begin + metres_of track.now leg.now.section < 2 ^ 32 }
+    ensures { result ≡ part_of track.now locks.now start.before start.height start.begin leg.now }
 {
     let metres = track.metres_of(leg);
     Part {
         leg: *leg,
-        height,
-        begin,
-        end: begin + metres,
+        height: start.height,
+        begin: start.begin,
+        end: start.begin + metres,
         metres,
-        locked: is_locked(locks, before, leg),
+        locked: is_locked(locks, start.before, leg),
     }
 }
 
@@ -74,6 +78,17 @@ fn next_height(height: u64) -> u64
         height + 18
     } else {
         FIRST_HEIGHT
+    }
+}
+
+/// Where the leg behind another begins.
+fn start_behind(part: &Part) -> LegStart
+    ensures { result ≡ record { before = Some part.now.leg; height = next_height part.now.height; begin = part.now.end } }
+{
+    LegStart {
+        before: Some(part.leg),
+        height: next_height(part.height),
+        begin: part.end,
     }
 }
 
@@ -89,14 +104,15 @@ pub(crate) fn parts_of(alloc: Global, locks: &Locks, way: &Line) -> Result<Vec<P
     let legs = way.legs();
     way.known();
     let mut parts = Vec::new(alloc);
-    let mut before = None;
-    let mut height = FIRST_HEIGHT;
-    let mut begin = 0;
+    let mut start = LegStart {
+        before: None,
+        height: FIRST_HEIGHT,
+        begin: 0,
+    };
     for leg in legs {
-        parts.push(part_of(track, locks, before, height, begin, leg))?;
-        before = Some(*leg);
-        height = next_height(height);
-        begin += track.metres_of(leg);
+        let part = part_of(track, locks, start, leg);
+        start = start_behind(&part);
+        parts.push(part)?;
     }
     Ok(parts)
 }
