@@ -37,17 +37,20 @@ impl Printed<()> for Shape<'_> {
             }
             Shape::Stair(look, chart, places) => print_stair(look, *chart, places, writer),
             Shape::Label(look, place, measure, height, unit) => {
-                print_label(
-                    look,
-                    *place,
-                    b"",
-                    Atom::Value(*measure, *height),
-                    unit,
-                    writer,
-                )
+                let caption = Caption {
+                    before: b"",
+                    number: Atom::Value(*measure, *height),
+                    after: unit,
+                };
+                print_label(look, *place, caption, writer)
             }
             Shape::Count(look, place, before, number, after) => {
-                print_label(look, *place, before, Atom::Number(*number), after, writer)
+                let caption = Caption {
+                    before,
+                    number: Atom::Number(*number),
+                    after,
+                };
+                print_label(look, *place, caption, writer)
             }
         }
     }
@@ -122,18 +125,24 @@ fn print_stair<'a, W: Sink>(
     print_pieces(&stair, writer)
 }
 
-/// Writes a number at a point, with the texts before and behind it.
-fn print_label<'a, W: Sink>(
-    look: &'a [u8],
-    place: Point,
+/// A number, with the texts before and behind it.
+#[derive(Clone, Copy)]
+struct Caption<'a> {
     before: &'a [u8],
     number: Atom<'a>,
     after: &'a [u8],
+}
+
+/// Writes a caption at a point.
+fn print_label<'a, W: Sink>(
+    look: &'a [u8],
+    place: Point,
+    caption: Caption<'a>,
     writer: &mut W,
 ) -> Result<(), WriteFailed>
     requires { W.failed writer.old ≡ false }
     ensures { Prints (W.written writer.old) (W.written writer.new) (W.failed writer.new)
-        (label_text look.now place before.now (atom_text number.entry) after.now) result }
+        (label_text look.now place caption.entry.before.now (atom_text caption.entry.number) caption.entry.after.now) result }
 {
     let text = [
         Atom::Text(b"<text class='"),
@@ -143,9 +152,9 @@ fn print_label<'a, W: Sink>(
         Atom::Text(b"' y='"),
         Atom::Number(place.y),
         Atom::Text(b"'>"),
-        Atom::Text(before),
-        number,
-        Atom::Text(after),
+        Atom::Text(caption.before),
+        caption.number,
+        Atom::Text(caption.after),
         Atom::Text(b"</text>\n"),
     ];
     print_atoms(&text, writer)
