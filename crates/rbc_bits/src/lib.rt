@@ -1,4 +1,4 @@
-//! Fields of so many bits each, written in a row and read from one.
+//! Fields, each a number of bits, written in a row and read from one.
 #![tactic(auto)]
 
 mod reader;

@@ -1,4 +1,4 @@
-//! Fields of so many bits each, read from bytes.
+//! Fields, each a number of bits, read from bytes.
 
 ghost use Rattle.std.specs.Prelude.{◌≡◌, ℕ, ◌^◌, ◌<◌, ◌≤◌, ◌++◌, length, take, drop, nat_lt, if◌then◌else◌, IfOk, OnOk, OnErr};
 ghost use Rattle.rbc_model.specs.Bits.{bits_of, number_of, byte_bits};
@@ -45,7 +45,7 @@ impl<'a> BitReader<'a> {
         }
     }
 
-    /// The value of the next field, of so many bits, 0 to 32.
+    /// The value of the next field, which is `width` bits wide, 0 to 32.
     ///
     /// # Errors
     ///

@@ -1,4 +1,4 @@
-//! Fields of so many bits each, written into bytes.
+//! Fields, each a number of bits, written into bytes.
 
 ghost use Rattle.std.specs.Prelude.{◌≡◌, ℕ, ◌+◌, ◌^◌, ◌<◌, ◌≤◌, [], ◌++◌, IfOk, OnOk, OnErr};
 ghost use Rattle.rbc_model.specs.Bits.{bits_of, padded_bits, bytes_of};
@@ -32,7 +32,7 @@ impl Model for BitWriter {
 }
 
 impl BitWriter {
-    /// No bits, with room for so many.
+    /// No bits, with room for `bits` of them.
     ///
     /// # Errors
     ///
@@ -47,7 +47,7 @@ impl BitWriter {
         })
     }
 
-    /// Writes a value in a field of so many bits, 0 to 32.
+    /// Writes a value in a field that is `width` bits wide, 0 to 32.
     ///
     /// # Errors
     ///

@@ -51,7 +51,7 @@ fn leg_place(line: &Line, section: SectionId) -> Option<LegPlace>
     leg_among(line.track(), line.legs(), section)
 }
 
-/// How many metres of a leg in this direction, which has so many, a train runs along before the metre of this offset.
+/// How many metres of a leg in this direction, `metres` long, a train runs along before the metre of this offset.
 fn metres_until(direction: Direction, metres: u32, offset: u32) -> u64
     ensures until { result ≡ metres_until direction metres offset }
     ensures at_most { result < 2 ^ 32 }

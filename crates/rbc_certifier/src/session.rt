@@ -82,7 +82,7 @@ pub fn steps<R: Source, W: Sink>(
     requires reader { R.failed reader.old ≡ false }
     requires writer { W.failed writer.old ≡ false }
 
-    // A read or write fault is answered just where the reader or the writer failed.
+    // A read or write fault is answered exactly where the reader or the writer failed.
     ensures read { (result ≡ Err SessionFault.Read) ↔ IsTrue (R.failed reader.new) }
     ensures write { (result ≡ Err SessionFault.Write) ↔ IsTrue (W.failed writer.new) }
 

@@ -66,7 +66,7 @@ fn drop_legs_behind(walk: &mut Walk<'_>, told: Leg, rear: u32)
 }
 
 /// Goes back along the locks as far as needed to have the train's rear. Tells whether they lead there. The group
-/// stands so many metres before the line's end.
+/// stands `beyond` metres before the line's end.
 fn has_rear(walk: &mut Walk<'_>, group: &BaliseGroup, report: &Report, beyond: u32) -> bool
     requires told { has_leg walk.old.line.legs (leg_told group.now report.now) ≡ true }
     requires beyond { origin_on walk.old.line.track group.now report.now walk.old.line.legs + beyond
@@ -90,8 +90,8 @@ fn has_rear(walk: &mut Walk<'_>, group: &BaliseGroup, report: &Report, beyond: u
     has_rear_from(walk.length() - beyond, report)
 }
 
-/// Whether the locks lead on from the line to the metre before the train's front. The group stands so many metres
-/// before the line's end.
+/// Whether the locks lead on from the line to the metre before the train's front. The group stands `beyond`
+/// metres before the line's end.
 fn has_front(walk: &mut Walk<'_>, group: &BaliseGroup, report: &Report, beyond: u32) -> bool
     requires told { has_leg walk.old.line.legs (leg_told group.now report.now) ≡ true }
     requires beyond { origin_on walk.old.line.track group.now report.now walk.old.line.legs + beyond
@@ -112,8 +112,8 @@ fn has_front(walk: &mut Walk<'_>, group: &BaliseGroup, report: &Report, beyond: 
     front <= walk.length()
 }
 
-/// Why the report isn't placed, if it isn't, on its way from a line that has the leg told. The group stands so many
-/// metres before the line's end.
+/// Why the report isn't placed, if it isn't, on its way from a line that has the leg told. The group stands
+/// `beyond` metres before the line's end.
 fn refusal_from(
     walk: &mut Walk<'_>,
     group: &BaliseGroup,

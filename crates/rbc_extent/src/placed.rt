@@ -8,7 +8,7 @@ use rbc_line::Line;
 use std::marker::Model;
 
 /// Where a report places its train: its line, the place on it of the balise group that the report counts from (the
-/// origin), and its extent from the min safe rear end to the front. A place is so many metres from the line's start.
+/// origin), and its extent from the min safe rear end to the front. Places are in metres from the line's start.
 #[derive(Drop)]
 pub struct Placed {
     line: Line,

@@ -16,9 +16,9 @@ use rbc_model::{Leg, SectionId};
 use rbc_track::Track;
 use std::marker::Model;
 
-/// A line of which only its known legs stand anywhere: behind them it has one leg more, and so many that are locked
-/// one behind the other from there on; before them so many that the first one is locked behind. It takes no memory,
-/// and is slow: whether a section stands on it is found by walking along it.
+/// A line of which only its known legs stand anywhere. Behind them it has one leg more, and a number of legs that are
+/// locked one behind the other from there on; before them, a number of legs that the first one is locked behind. It
+/// takes no memory, and is slow: whether a section stands on it is found by walking along it.
 #[derive(Drop)]
 pub(crate) struct Walk<'a> {
     track: &'a Track,
@@ -63,7 +63,7 @@ fn head(known: &[Leg], turn: Leg) -> Leg
     }
 }
 
-/// Whether one of so many legs behind the leg is of the section.
+/// Whether one of the `count` legs behind the leg is of the section.
 fn has_ahead(locks: &Locks, leg: Leg, count: usize, section: SectionId) -> bool
     ensures { result ≡ has_section (legs_ahead locks.now leg count) section }
 {
@@ -80,7 +80,7 @@ fn has_ahead(locks: &Locks, leg: Leg, count: usize, section: SectionId) -> bool
     false
 }
 
-/// Whether one of so many legs before the leg is of the section.
+/// Whether one of the `count` legs before the leg is of the section.
 fn has_behind(locks: &Locks, leg: Leg, count: usize, section: SectionId) -> bool
     ensures { result ≡ has_section (legs_behind locks.now leg count) section }
 {

@@ -42,11 +42,11 @@ pub struct Found {
 pub enum Place {
     /// A field with its value.
     Field(FieldName),
-    /// A field of which only so many bits are there.
+    /// A field that is cut short, with how many of its bits are there.
     Missing(FieldName),
     /// The filling behind the last field, with its value.
     Filling,
-    /// So many bits behind the last field, eight or more.
+    /// What stands behind the last field, with how many bits it has: eight or more.
     Behind,
 }
 

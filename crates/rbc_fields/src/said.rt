@@ -23,9 +23,9 @@ pub enum Said {
     Nominal(bool),
     /// The end, in metres from the group.
     End(u64),
-    /// From so many metres behind the group on, a gradient in per mille, below 0 where it falls.
+    /// From this distance behind the group on, in metres, a gradient in per mille, below 0 where it falls.
     Grade(u64, i64),
-    /// From so many metres behind the group on, a speed in km/h.
+    /// From this distance behind the group on, in metres, a speed in km/h.
     Speed(u64, u64),
 }
 
@@ -103,7 +103,7 @@ fn speed_said(walk: &Walk, row: Row, fives: u32) -> Option<Said>
     }
 }
 
-/// So many units of the scale that is told, in metres.
+/// A number of units of the scale that is told, in metres.
 fn metres(walk: &Walk, units: u32) -> u64
     ensures { result ≡ unit_told walk.now * units }
 {

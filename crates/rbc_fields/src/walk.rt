@@ -46,7 +46,7 @@ pub struct Walk {
 }
 
 impl Walk {
-    /// At the first field of a message in so many bytes.
+    /// At the first field of a message of this length, in bytes.
     pub fn over_message(bytes: usize) -> Walk
         ensures { result ≡ at_row Header false bytes }
     {
@@ -344,7 +344,7 @@ fn is_from_to(low: u32, high: u32, value: u32) -> bool
     (low..=high).contains(&value)
 }
 
-/// How many bits the packet of the row has with so many steps.
+/// How many bits the packet of the row has with this number of steps.
 fn packet_bits(row: Row, steps: u32) -> u64
     ensures { result ≡ packet_bits row steps }
 {

@@ -10,7 +10,7 @@ pub struct Losses {
 }
 
 /// The tables of prices that show that no profiles lose less: in each a row for each number of steps from 1, and in a
-/// row what so many steps lose at least up to each break of the track, from the first break behind 0.
+/// row the least that this number of steps loses up to each break of the track, from the first break behind 0.
 #[derive(Drop)]
 pub struct PriceTables {
     /// Of the speeds.

@@ -94,7 +94,7 @@ impl<D: Device> Journal<D> {
         Ok(())
     }
 
-    /// Makes room to stage a line of so many bytes. The file is not asked for anything.
+    /// Makes room to stage a line of this length, in bytes. The file is not asked for anything.
     ///
     /// # Errors
     /// `Full` or `Memory`. Nothing changes.

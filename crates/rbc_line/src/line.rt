@@ -17,8 +17,8 @@ use std::alloc::Global;
 use std::marker::Model;
 use std::sync::Arc;
 
-/// The legs that a train runs along, in order: at least one, each linked to the next, and no section twice. A place
-/// on a line is so many metres from its start. A line shares the track that it is of.
+/// The legs that a train runs along, in order: at least one, each linked to the next, and no section twice. Places
+/// on a line are in metres from its start. A line shares the track that it is of.
 #[derive(Drop)]
 pub struct Line {
     track: Arc<Track>,
@@ -218,7 +218,7 @@ impl Line {
         Ok(())
     }
 
-    /// Drops so many legs at the line's start. It takes no memory.
+    /// Drops the first `count` legs of the line. It takes no memory.
     pub fn cut_front(&mut self, count: usize)
         requires { count < length self.old.legs }
         ensures { self.new ≡ record self.old { legs = drop count self.old.legs } }
@@ -229,7 +229,7 @@ impl Line {
         self.legs.truncate(left);
     }
 
-    /// Drops so many legs at the line's end. It takes no memory.
+    /// Drops the last `count` legs of the line. It takes no memory.
     pub fn cut_back(&mut self, count: usize)
         requires { count < length self.old.legs }
         ensures { self.new ≡ record self.old { legs = take (length self.old.legs - count) self.old.legs } }

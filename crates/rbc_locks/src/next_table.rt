@@ -31,7 +31,7 @@ impl Model for NextTable {
 }
 
 impl NextTable {
-    /// No leg of so many sections has a next one.
+    /// The table of a track with this number of sections, where no leg has a next one.
     pub(crate) fn new(alloc: Global, sections: usize) -> Result<NextTable, Memory>
         ensures { IfOk result (λ table. table ≡ replicate sections no_next) }
     {

@@ -22,7 +22,7 @@ fn is_in_tens(distance: u32) -> bool
     (FIRST_END_IN_TENS..=FARTHEST_END_IN_TENS).contains(&distance) && distance % TEN_METRES == 0
 }
 
-/// Whether a message can give an authority an end so many metres from its balise group.
+/// Whether a message can give an authority an end at this distance from its balise group, in metres.
 pub fn is_expressible(format: Format, distance: u32) -> bool
     ensures { result ≡ is_expressible format distance }
 {

@@ -27,7 +27,7 @@ pub trait Encoded: Level {
         ensures number { result ≡ layout.number }
         ensures fits { result < 2 ^ width_of NID_PACKET };
 
-    /// How many bits the packet has with so many steps, at most 31 (L_PACKET).
+    /// How many bits the packet has with this number of steps, at most 31 (L_PACKET).
     fn packet_bits(steps: u32) -> u32
         requires { steps ≤ MOST_STEPS }
         ensures bits { result ≡ layout.bits steps }

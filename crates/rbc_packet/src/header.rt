@@ -55,7 +55,7 @@ pub(crate) fn message_length(authority: &Authority) -> u32
     (HEADER_BITS + AUTHORITY_BITS + gradients + speeds).div_ceil(8)
 }
 
-/// Reads the header of a message in so many bytes.
+/// Reads the header of a message of this length, in bytes.
 ///
 /// # Errors
 ///

@@ -102,7 +102,7 @@ fn put_head<V: Encoded>(bits: &mut BitWriter, head: &Head, first: V) -> Result<(
     put_fields(bits, &[(FieldName::N_ITER, head.steps)])
 }
 
-/// A later step: so many units on, this value.
+/// A later step: its distance from the step before, in units, and its value.
 fn put_step<V: Encoded>(bits: &mut BitWriter, distance: u32, value: V) -> Result<(), Memory>
     requires { distance < 2 ^ 15 }
     ensures { OnOk result (bits.new ≡ bits.old
@@ -112,7 +112,7 @@ fn put_step<V: Encoded>(bits: &mut BitWriter, distance: u32, value: V) -> Result
     value.put_value(bits)
 }
 
-/// The end element: so many units on, the profile ends.
+/// The end element: the distance of the profile's end from the last step, in units.
 fn put_end<V: Encoded>(bits: &mut BitWriter, distance: u32) -> Result<(), Memory>
     requires { distance < 2 ^ 15 }
     ensures { OnOk result (bits.new ≡ bits.old
@@ -146,8 +146,8 @@ pub(crate) fn read_profile<V: Encoded>(
     read_steps(bits, first, count as usize, frame.end)
 }
 
-/// Reads the later ones of so many steps, and the end element: the profile of them up to the end, in metres, whose first
-/// value is read already.
+/// Reads the later ones of a number of steps, and the end element: the profile of them up to the end, in metres, whose
+/// first value is read already.
 fn read_steps<V: Encoded>(
     bits: &mut BitReader,
     first: V,

@@ -56,7 +56,7 @@ impl Display for Caller {
 pub(crate) enum News {
     /// It began.
     Began,
-    /// It ended after so many lines.
+    /// It ended after this number of lines.
     Ended(u64, Parting),
 }
 

@@ -276,7 +276,7 @@ fn thrown(rt: &(impl Abort + AllocGlobal), seed: u32) -> (Vec<(u32, i16)>, u32) 
     (runs, start)
 }
 
-/// The least that so many steps lose on the track of the numbers, wherever they are cut.
+/// The least that this number of steps loses on the track of the numbers, wherever they are cut.
 fn least_loss<V: Kind>(
     rt: &(impl Abort + AllocGlobal),
     runs: &[(u32, i16)],

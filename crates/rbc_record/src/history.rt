@@ -114,7 +114,7 @@ impl Record {
         self.entries.len() as u64
     }
 
-    /// The entry before which so many others stand. None from the version on.
+    /// The entry at this place, counted from 0. None from the version on.
     pub fn entry(&self, place: u64) -> Option<&Entry>
         ensures { option_map entry_of (option_copied result) ≡ slice_get self.now.entries place }
     {

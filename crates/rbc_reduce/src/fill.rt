@@ -14,8 +14,8 @@ use rbc_model::Memory;
 use rbc_steps::{Level, Runs};
 use std::alloc::Global;
 
-/// Up to so many stretches a table is filled in totals of 64 bits: narrower ones would save less than it takes to widen
-/// them. And what one step costs from each of so few breaks is kept in place.
+/// With at most this number of stretches a table is filled in totals of 64 bits: narrower ones would save less than it
+/// takes to widen them. And what one step costs from each of their breaks is kept in place.
 const FEW: usize = 16;
 
 /// The numbers of totals.
@@ -64,7 +64,7 @@ fn fill_rows<V: Level, N: Total>(
     Ok(())
 }
 
-/// So many rows of prices up to each break but the first.
+/// `count` rows of prices up to each break but the first.
 fn filled<V: Level, N: Total>(
     alloc: Global,
     track: &Runs<V>,

@@ -20,8 +20,8 @@ pub struct Reduced<V: Level> {
     pub profile: Profile<V>,
     /// The sum over the metres of what the profile loses there.
     pub loss: u64,
-    /// The table of prices that shows that no profile loses less: a row for each number of steps from 1, and in it what
-    /// so many steps lose at least up to each break of the track, from the first break behind 0.
+    /// The table of prices that shows that no profile loses less: a row for each number of steps from 1, and in it the
+    /// least that this number of steps loses up to each break of the track, from the first break behind 0.
     pub prices: Vec<Vec<u64>>,
 }
 

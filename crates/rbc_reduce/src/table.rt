@@ -99,7 +99,7 @@ pub(crate) fn add_column<N: Total>(rows: &mut Vec<Vec<N>>, costs: &[N]) -> Resul
     add_price(rows, 0, costs[0])
 }
 
-/// So many rows without prices, with room for so many.
+/// `count` rows without prices, each with room for `width` of them.
 pub(crate) fn empty_rows<N: Total>(
     alloc: Global,
     count: usize,

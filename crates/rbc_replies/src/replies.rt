@@ -55,12 +55,12 @@ pub struct Granted<'reply> {
 pub enum SessionReply<'reply> {
     /// The line has no reply.
     Nothing,
-    /// The event is accepted, and the history has so many entries with it.
+    /// The event is accepted, and the history has this number of entries with it.
     Accepted(u64),
     /// The train is granted an authority.
     Granted(Granted<'reply>),
-    /// This train may run no further: this stands in its way, so many metres from its group (negative: before the
-    /// group), in a history of so many entries.
+    /// This train may run no further: this stands in its way, at this distance from its group in metres (negative:
+    /// before the group), in a history of this number of entries.
     Blocked(TrainId, Obstacle, i64, u64),
     /// The line is refused.
     Refused(SessionRefusal),

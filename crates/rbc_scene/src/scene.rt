@@ -46,8 +46,8 @@ impl Model for Scene {
     ghost invariant = { λ s. IsKept (scene_on s.locks s.book) };
 }
 
-/// The place so many metres beyond the train's group, if the train may give back what its authority has from
-/// there on.
+/// The place at this distance beyond the train's group, if the train may give back what its authority has from there
+/// on.
 fn end_cut(train: &Train, distance: Distance) -> Option<u32>
     ensures { result ≡ end_cut train.now.train distance }
 {
@@ -225,8 +225,8 @@ impl Scene {
         }
     }
 
-    /// A train gives back what its authority has from so many metres beyond its group on, but not what it stands
-    /// on or has run over. It takes no memory.
+    /// A train gives back what its authority has from this distance beyond its group on, but not what it stands on or
+    /// has run over. It takes no memory.
     ///
     /// # Errors
     ///
@@ -271,7 +271,7 @@ impl Scene {
     }
 
     /// A train is granted an authority, from the start of the one it has, or from its front where that lies behind, to
-    /// a place so many metres beyond its group. Its line is continued to have the last metre. Where the grant is
+    /// the place at this distance beyond its group. Its line is continued to have the last metre. Where the grant is
     /// refused, or memory is, nothing changes.
     ///
     /// # Errors
@@ -299,7 +299,7 @@ impl Scene {
         Ok(())
     }
 
-    /// The authority that the train is granted up to so many metres beyond its group.
+    /// The authority that the train is granted up to this distance beyond its group.
     fn granted(
         &self,
         alloc: Global,
@@ -321,8 +321,8 @@ impl Scene {
     }
 
     /// A train is granted an authority that is known to be accepted, along legs that its way is known to begin with, up to a
-    /// place so many metres beyond its group that they reach. No obstacle is searched. Where memory is refused nothing
-    /// changes.
+    /// place at this distance beyond its group, which they reach. No obstacle is searched. Where memory is refused
+    /// nothing changes.
     ///
     /// # Errors
     ///

@@ -35,8 +35,8 @@ struct Span {
     high: u32,
 }
 
-/// What the places from `from` up to `to` of a line, on which a leg of so many metres begins, are of a leg of the same
-/// section, in the same direction or not.
+/// What the places from `from` up to `to` of a line, on which a leg of this length begins at `begin`, are of a leg of
+/// the same section, in the same direction or not.
 fn span_met(same: bool, metres: u32, begin: u32, from: u32, to: u32) -> Span
     ensures { pair_of result ≡ span_met same metres begin from to }
 {

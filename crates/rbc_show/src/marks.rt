@@ -94,14 +94,14 @@ pub(crate) struct Canvas<'a> {
     pub(crate) chart: Chart,
 }
 
-/// The chart on which the places of so many metres stand.
+/// The chart on which the places of a way of this length stand, in metres.
 pub(crate) fn scale_of(metres: u32) -> Chart
     ensures { result ≡ scale_of metres }
 {
     Chart::new(Measure::Speed, metres, &[], &[])
 }
 
-/// A point where a place stands, so many pixels from the top.
+/// A point where a place stands, `y` pixels from the top.
 pub(crate) fn at(chart: Chart, place: u32, y: u64) -> Point
     ensures { result ≡ point_at (pixels_of chart place) y }
 {

@@ -228,7 +228,7 @@ pub fn show_scene<W: Sink>(
     ensures text { WritesText (W.written writer.old) (W.written writer.new)
         (scene_text title.now scene.now.track scene.now.scene) result }
 
-    // Without memory nothing is written. A write fault is answered just where the writer failed.
+    // Without memory nothing is written. A write fault is answered exactly where the writer failed.
     ensures memory { result ≡ Err NoMemory → writer.new ≡ writer.old }
     ensures write { result ≡ Err NoWrite → W.failed writer.new ≡ true }
     ensures going { OnOk result (W.failed writer.new ≡ false) }

@@ -13,7 +13,7 @@ use std::alloc::Global;
 /// How many pixels from the top the first name stands.
 const FIRST_HEIGHT: u64 = 20;
 
-/// A leg of a train's way. A place is so many metres from the start of the train's line.
+/// A leg of a train's way. Places are in metres from the start of the train's line.
 #[derive(Clone, Copy)]
 pub struct Part {
     /// The leg.

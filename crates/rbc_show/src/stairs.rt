@@ -13,7 +13,7 @@ use rbc_track::Track;
 use std::alloc::Global;
 use std::sync::Arc;
 
-/// The speeds and the gradients of a way: each from a place on. A place is so many metres from its start.
+/// The speeds and the gradients of a way: each from a place on. Places are in metres from its start.
 #[derive(Drop)]
 pub(crate) struct Stairs {
     /// The speeds.

@@ -14,7 +14,7 @@ use rbc_model::{GroupName, Memory, Obstacle};
 use rbc_scene::{Book, Locks, Scene, Train, reach};
 use std::alloc::Global;
 
-/// What is shown of a train. A place is so many metres from the start of its line.
+/// What is shown of a train. Places are in metres from the start of its line.
 #[derive(Drop)]
 pub(crate) struct Strip {
     /// The train's number.

@@ -92,7 +92,7 @@ pub(crate) fn stop<V: Level>(rows: &[(u32, V)], index: usize, end: u32) -> u32
     }
 }
 
-/// What is lost on so many metres of one level where a level that is no higher is given.
+/// What is lost on a number of metres of one level where a level that is no higher is given.
 fn loss_over<V: Level>(metres: u32, track: V, given: V) -> u64
     requires within_limit { metres ≤ LONGEST_TRACK }
     requires below { IsAtMost V.levels given track }
@@ -129,7 +129,7 @@ pub(crate) fn loss<V: Level>(runs: &[(u32, V)], steps: &[(u32, V)], end: u32) ->
     sum
 }
 
-/// Puts rows behind, each start moved on by so many metres. Where memory is refused the rows stay as they are.
+/// Puts rows behind, each start moved on by a number of metres. Where memory is refused the rows stay as they are.
 pub(crate) fn extend_moved<V: Level>(
     rows: &mut Vec<(u32, V)>,
     later: &[(u32, V)],

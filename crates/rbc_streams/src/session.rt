@@ -33,7 +33,7 @@ pub fn converse<C, A: Answers<C>, R: Source, W: Sink>(
     requires ready { A.ready (A.state answerer.old) }
     requires none_rests { A.rests (A.state answerer.old) ≡ 0 }
 
-    // A read or write fault is answered just where the reader failed, or the writer or what answers.
+    // A read or write fault is answered exactly where the reader failed, or the writer or what answers.
     ensures read { (result ≡ Err SessionFault.Read) ↔ IsTrue (R.failed reader.new) }
     ensures write { (result ≡ Err SessionFault.Write) ↔ IsTrue (A.broken (A.state answerer.new) || W.failed writer.new) }
 
@@ -81,7 +81,7 @@ pub fn answer_lines<C, A: Answers<C>, R: Source, W: Sink>(
     // Memory is refused to none that begins.
     ensures begins { result ≢ Err SessionFault.Memory }
 
-    // A read or write fault is answered just where the reader failed, or the writer or what answers.
+    // A read or write fault is answered exactly where the reader failed, or the writer or what answers.
     ensures read { (result ≡ Err SessionFault.Read) ↔ IsTrue (R.failed reader.new) }
     ensures write { (result ≡ Err SessionFault.Write) ↔ IsTrue (A.broken (A.state answerer.new) || W.failed writer.new) }
 

@@ -14,7 +14,7 @@ use crate::section_table::Sections;
 use rbc_model::{Link, OrMemory, TrackRefusal};
 use std::alloc::Global;
 
-/// Judges one more link of a track of so many sections, and puts it behind the others.
+/// Judges one more link of a track with this number of sections, and puts it behind the others.
 fn add(links: &mut Links, sections: usize, link: Link) -> Result<(), OrMemory<TrackRefusal>>
     ensures judged { (track : Track) → length track.sections ≡ sections
         → AnswersOrMemory result (unless (link_refusal track links.old link) (Ok tt)) }

@@ -121,8 +121,8 @@ impl Links {
         }
     }
 
-    /// Whether the link may stand behind these in a track of so many sections: its legs are of two of the sections,
-    /// and no link joins them yet.
+    /// Whether the link may stand behind these in a track with this number of sections: its legs are of two of the
+    /// sections, and no link joins them yet.
     pub(crate) fn is_good(&self, sections: usize, link: Link) -> bool
         ensures { (track : Track) → length track.sections ≡ sections → result ≡ is_good_link track self.now link }
     {

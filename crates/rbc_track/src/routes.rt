@@ -10,9 +10,9 @@ use crate::links::Links;
 use rbc_model::limits::MOST_LEGS;
 use rbc_model::{Leg, SectionId};
 
-/// Whether a track of these links and so many sections may have a route of these legs, entered from the leg `after`
-/// if there is one: it has 1 to 64 legs of the track's sections, none of one section with another, each linked to the
-/// next, and is entered from a leg that is linked to its first one and is none of its legs but perhaps the last.
+/// Whether a track of these links and this number of sections may have a route of these legs, entered from the leg
+/// `after` if there is one: it has 1 to 64 legs of the track's sections, none of one section with another, each linked
+/// to the next, and is entered from a leg that is linked to its first one and is none of its legs but perhaps the last.
 pub(crate) fn is_good_route(
     links: &Links,
     sections: usize,
@@ -34,7 +34,7 @@ pub(crate) fn is_good_route(
     }
 }
 
-/// Whether each leg is of one of so many sections.
+/// Whether each leg is of a section of a track with this number of sections.
 fn are_of(sections: usize, legs: &[Leg]) -> bool
     ensures { result ≡ list_all (λ leg. nat_lt leg.section sections) legs.now }
 {

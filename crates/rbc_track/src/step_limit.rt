@@ -27,7 +27,7 @@ impl Model for StepLimit {
 }
 
 impl StepLimit {
-    /// So many steps, if that is 1 to 31.
+    /// The limit of this number of steps, if that is 1 to 31.
     pub fn new(steps: usize) -> Option<StepLimit>
         ensures { result ≡ (if is_from_to 1 MOST_STEPS steps then Some steps else None) }
     {

@@ -135,7 +135,7 @@ impl<'a> LegMet<'a> {
         Obstacle::Limit
     }
 
-    /// How many metres are clear, if so many lie before the limit and the search begins at `first`.
+    /// How many metres are clear, if `free` metres lie before the limit and the search begins at `first`.
     fn clear_of(&self, first: u32, free: u32) -> u32
         ensures clear { result
             ≡ clear_of self.now.stretches.now self.now.locked self.now.leg.direction self.now.metres first free }
@@ -147,7 +147,7 @@ impl<'a> LegMet<'a> {
     }
 }
 
-/// How many metres of a leg, which begins at `begin` and has so many, lie before the limit.
+/// How many metres of a leg, which begins at `begin` and is `metres` long, lie before the limit.
 fn free_of(train: &Train, begin: u32, metres: u32) -> u32
     ensures near { result ≡ free_of (train.now.train.origin + farthest train.now.track.format)
         (start_of train.now.train) begin metres }

@@ -43,7 +43,7 @@ pub(crate) enum Row {
 /// For each section of a track what trains have of it.
 pub(crate) type Stretches = Vec<Row>;
 
-/// What the places from `from` up to `to` are on a leg of so many metres that begins at `begin`.
+/// What the places from `from` up to `to` are on a leg that begins at `begin` and is `metres` long.
 fn span_on(metres: u32, begin: u32, from: u32, to: u32) -> Span
     ensures { result ≡ span_on metres begin from to }
 {
@@ -103,7 +103,7 @@ impl Row {
     }
 }
 
-/// What the train has of the section of a leg of its line that begins at `begin` and has so many metres.
+/// What the train has of the section of a leg of its line that begins at `begin` and is `metres` long.
 fn stretch_of(train: &Train, begin: u32, leg: Leg, metres: u32) -> Stretch
     requires { metres ≡ metres_of train.now.track leg.section }
     ensures { result ≡ stretch_of train.now.track train.now.train begin leg }
@@ -116,7 +116,7 @@ fn stretch_of(train: &Train, begin: u32, leg: Leg, metres: u32) -> Stretch
     }
 }
 
-/// A table of so many sections of which no train has a metre.
+/// The table of a track with this number of sections, of which no train has a metre.
 fn no_stretches(alloc: Global, sections: usize) -> Result<Stretches, Memory>
     ensures size { IfOk result (λ table. length table.items ≡ sections) }
     ensures empty { IfOk result (λ table. (section : ℕ) → stretches_at table.items section ≡ []) }

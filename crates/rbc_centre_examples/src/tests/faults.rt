@@ -18,7 +18,7 @@ impl Read for Broken {
     }
 }
 
-/// Takes so many bytes, and then fails.
+/// Takes bytes while it has room, and then fails.
 #[derive(Drop)]
 struct Room {
     taken: Vec<u8>,
@@ -66,7 +66,7 @@ fn lines_before_a_read_fault_are_treated(rt: HostRuntime) {
     }
 }
 
-// How a session ends whose writer takes so many bytes: the record has the entries of the lines that were treated.
+// How a session ends whose writer takes `room` bytes: the record has the entries of the lines that were treated.
 fn ends_at_a_write_fault<R: Read + Drop>(
     rt: &(impl Threads + Abort + AllocGlobal + Sync),
     lines: R,

@@ -30,7 +30,7 @@ fn is_refused(
     assert!(rt; refused == Some(OrMemory::Refused(fault)));
 }
 
-/// The train gives back what lies beyond so many metres from its group.
+/// The train gives back what lies farther from its group than this end, in metres.
 fn give_back(rt: &(impl Abort + AllocGlobal), history: &mut Record, train: u32, end: u32) {
     let told = history.apply(
         rt.alloc(),

@@ -51,7 +51,7 @@ impl Calls for Noted {
     }
 }
 
-/// The image after a call, of which so many bytes were written as asked, and others as this byte, or not at all.
+/// The image after a call, of which a number of bytes were written as asked, and others as this byte, or not at all.
 fn apply(
     image: &mut Vec<u8>,
     call: &Call,

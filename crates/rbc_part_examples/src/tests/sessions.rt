@@ -115,7 +115,7 @@ impl Read for Giver<'_> {
     }
 }
 
-/// Takes so many bytes, one by one.
+/// Takes bytes one by one, up to a limit.
 #[derive(Drop)]
 struct Taker {
     signals: Signals,

@@ -42,7 +42,7 @@ fn lost_by_one<V: Level>(values: &[V]) -> u64 {
     sum
 }
 
-/// The least that at most so many steps lose on these metres.
+/// The least that at most this number of steps loses on these metres.
 pub(crate) fn least_loss<V: Level>(values: &[V], steps: usize) -> u64 {
     if values.is_empty() {
         return 0;
