@@ -2,6 +2,7 @@ pub mod Courses
 pub mod Findings
 pub mod PlacedTrains
 pub mod PlacingSteps
+pub mod Situations
 pub mod TrainsOnTracks
 pub mod Walks
 pub use Rattle.rbc_line.specs.OnTracks

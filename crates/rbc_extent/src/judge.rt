@@ -1,8 +1,10 @@
 //! Reports judged without memory. The line of a report is walked along and not built, which is slow. This is done where
 //! there was no memory for the line, so that a report that is not placed is refused all the same.
 
-ghost use Rattle.std.specs.Prelude.{◌≡◌, ◌+◌, ◌<◌, ◌≤◌, length, drop, min, None, Some, IfSome, IsTrue, true, false, is_some, option_map, if◌then◌else◌};
+ghost use Rattle.std.specs.Prelude.{◌≡◌, ◌+◌, ◌<◌, ◌≤◌, length, drop, min, None, Some, IsTrue, true, false, is_some, if◌then◌else◌};
+ghost use Rattle.std.specs.Arc.{arc_value};
 ghost use Rattle.std.specs.List.{position_or_len};
+ghost use Rattle.rbc_extent.specs.Situations.{legs_known};
 ghost use Rattle.rbc_extent.specs.PlacingSteps.{refusal_beyond, refusal_from};
 ghost use Rattle.rbc_extent.specs.Walks.{IsSameWay};
 ghost use Rattle.rbc_model.specs.Lines.{IsLine, has_leg, last_leg, legs_ending_by, line_length};
@@ -13,6 +15,7 @@ ghost use Rattle.rbc_model.specs.Tracks.{leg_eq};
 ghost use Rattle.rbc_scene_laws.specs.Good.{IsGoodLocks};
 
 use crate::counting::{has_rear_from, leg_told, metres_ahead, metres_beyond, origin_on, rear_from};
+use crate::situation::Situation;
 use crate::walk::Walk;
 use rbc_line::{Line, is_same_leg};
 use rbc_locks::Locks;
@@ -183,20 +186,16 @@ fn refusal_of_known(
 
 /// Why a report from this group isn't placed, if it isn't. It takes no memory.
 pub(crate) fn refusal(
-    track: &Track,
-    locks: &Locks,
-    known: Option<&Line>,
+    situation: &Situation<'_>,
     report: &Report,
     group: &BaliseGroup,
 ) -> Option<Refusal>
-    requires locks { IsGoodLocks track.now locks.now }
-    requires known { IfSome known (λ line. line.now.track ≡ track.now) }
-    requires group { IsTrue (is_good_group track.now group.now) }
-    ensures { result ≡ refusal_beyond track.now locks.now (option_map (λ line. line.now.legs) known.entry) report.now
-        group.now }
+    requires { IsTrue (is_good_group (arc_value situation.now.track.now) group.now) }
+    ensures { result ≡ refusal_beyond (arc_value situation.now.track.now) situation.now.locks.now
+        (legs_known situation.now) report.now group.now }
 {
-    match known {
-        Some(line) => refusal_of_known(locks, line, report, group),
-        None => refusal_of_new(track, locks, report, group),
+    match situation.known {
+        Some(line) => refusal_of_known(situation.locks, line, report, group),
+        None => refusal_of_new(situation.track, situation.locks, report, group),
     }
 }

@@ -13,6 +13,7 @@ mod judge;
 mod placed;
 mod placing;
 mod reporting;
+mod situation;
 mod through;
 mod train;
 mod walk;

@@ -12,13 +12,15 @@ ghost use Rattle.rbc_model.specs.declared.memory.OrMemory.TheVariants.{Refused};
 ghost use Rattle.rbc_model.specs.declared.refusals.Refusal.TheVariants.{Offline, UnknownGroup};
 ghost use Rattle.rbc_scene_laws.specs.Good.{IsGoodLocks};
 ghost use Rattle.rbc_extent.specs.Findings.{finding_view};
-ghost use Rattle.rbc_extent.specs.PlacingSteps.{finding, finding_from, locating_step};
+ghost use Rattle.rbc_extent.specs.Situations.{legs_known, finding_in, finding_from_group};
+ghost use Rattle.rbc_extent.specs.PlacingSteps.{locating_step};
 
 use crate::Placed;
 use crate::counting::{leg_told, metres_ahead, origin_on, rear_from};
 use crate::covering::{continuation, covering};
 use crate::finding::Finding;
 use crate::judge::refusal;
+use crate::situation::Situation;
 use rbc_line::Line;
 use rbc_locks::Locks;
 use rbc_model::{BaliseGroup, Leg, OrMemory, Refusal, Report};
@@ -58,7 +60,12 @@ pub fn place(
     ensures refused { IfErr (place (arc_value track.now) locks.now (option_map (λ line. line.now.legs) known.entry)
         report.now) (λ refusal. result ≡ Err (Refused refusal)) }
 {
-    let finding = find(alloc, track, locks, known, report)?;
+    let situation = Situation {
+        track,
+        locks,
+        known,
+    };
+    let finding = find(alloc, &situation, report)?;
     Ok(finding.placed)
 }
 
@@ -66,22 +73,16 @@ pub fn place(
 #[tactic(auto, unfolding(crate::specs::PlacingSteps::finding))]
 pub(crate) fn find(
     alloc: Global,
-    track: &Arc<Track>,
-    locks: &Locks,
-    known: Option<&Line>,
+    situation: &Situation<'_>,
     report: &Report,
 ) -> Result<Finding, OrMemory<Refusal>>
-    requires locks { IsGoodLocks (arc_value track.now) locks.now }
-    requires known { IfSome known (λ line. line.now.track ≡ arc_value track.now) }
-    ensures finding { AnswersAs finding_view result
-        (finding (arc_value track.now) locks.now (option_map (λ line. line.now.legs) known.entry) report.now) }
-    ensures track { IfOk result (λ f. f.placed.track ≡ arc_value track.now) }
-    ensures sound { IsSound (arc_value track.now) }
-    ensures refused { IfErr (finding (arc_value track.now) locks.now (option_map (λ line. line.now.legs) known.entry)
-        report.now) (λ refusal. result ≡ Err (Refused refusal)) }
+    ensures finding { AnswersAs finding_view result (finding_in situation.now report.now) }
+    ensures track { IfOk result (λ f. f.placed.track ≡ arc_value situation.now.track.now) }
+    ensures sound { IsSound (arc_value situation.now.track.now) }
+    ensures refused { IfErr (finding_in situation.now report.now) (λ refusal. result ≡ Err (Refused refusal)) }
 {
-    match group_of(track, report) {
-        Some(group) => find_or_refuse(alloc, track, locks, known, report, &group),
+    match group_of(situation.track, report) {
+        Some(group) => find_or_refuse(alloc, situation, report, &group),
         None => Err(OrMemory::Refused(Refusal::UnknownGroup)),
     }
 }
@@ -100,26 +101,20 @@ fn group_of(track: &Track, report: &Report) -> Option<BaliseGroup>
 /// What a report from this group comes to. Where memory is refused, it is judged without it.
 fn find_or_refuse(
     alloc: Global,
-    track: &Arc<Track>,
-    locks: &Locks,
-    known: Option<&Line>,
+    situation: &Situation<'_>,
     report: &Report,
     group: &BaliseGroup,
 ) -> Result<Finding, OrMemory<Refusal>>
-    requires locks { IsGoodLocks (arc_value track.now) locks.now }
-    requires known { IfSome known (λ line. line.now.track ≡ arc_value track.now) }
-    requires group { IsTrue (is_good_group (arc_value track.now) group.now) }
-    ensures finding { AnswersAs finding_view result (finding_from (arc_value track.now) locks.now
-        (option_map (λ line. line.now.legs) known.entry) report.now group.now) }
-    ensures track { IfOk result (λ f. f.placed.track ≡ arc_value track.now) }
-    ensures refused { IfErr (finding_from (arc_value track.now) locks.now
-        (option_map (λ line. line.now.legs) known.entry) report.now group.now)
+    requires { IsTrue (is_good_group (arc_value situation.now.track.now) group.now) }
+    ensures finding { AnswersAs finding_view result (finding_from_group situation.now report.now group.now) }
+    ensures track { IfOk result (λ f. f.placed.track ≡ arc_value situation.now.track.now) }
+    ensures refused { IfErr (finding_from_group situation.now report.now group.now)
         (λ refusal. result ≡ Err (Refused refusal)) }
 {
-    match find_from(alloc, track, locks, known, report, group) {
+    match find_from(alloc, situation, report, group) {
         Ok(finding) => Ok(finding),
         Err(OrMemory::Refused(refusal)) => Err(OrMemory::Refused(refusal)),
-        Err(OrMemory::Memory) => match refusal(track, locks, known, report, group) {
+        Err(OrMemory::Memory) => match refusal(situation, report, group) {
             Some(refusal) => Err(OrMemory::Refused(refusal)),
             None => Err(OrMemory::Memory),
         },
@@ -130,47 +125,33 @@ fn find_or_refuse(
 #[tactic(auto, unfolding(crate::specs::PlacingSteps::finding_from))]
 fn find_from(
     alloc: Global,
-    track: &Arc<Track>,
-    locks: &Locks,
-    known: Option<&Line>,
+    situation: &Situation<'_>,
     report: &Report,
     group: &BaliseGroup,
 ) -> Result<Finding, OrMemory<Refusal>>
-    requires locks { IsGoodLocks (arc_value track.now) locks.now }
-    requires known { IfSome known (λ line. line.now.track ≡ arc_value track.now) }
-    requires group { IsTrue (is_good_group (arc_value track.now) group.now) }
-    ensures finding { AnswersAs finding_view result (finding_from (arc_value track.now) locks.now
-        (option_map (λ line. line.now.legs) known.entry) report.now group.now) }
-    ensures track { IfOk result (λ f. f.placed.track ≡ arc_value track.now) }
+    requires { IsTrue (is_good_group (arc_value situation.now.track.now) group.now) }
+    ensures finding { AnswersAs finding_view result (finding_from_group situation.now report.now group.now) }
+    ensures track { IfOk result (λ f. f.placed.track ≡ arc_value situation.now.track.now) }
 {
-    let leg = leg_told(group, report);
-    let start = located(alloc, track, locks, known, leg)?;
+    let start = located(alloc, situation, leg_told(group, report))?;
     let old_origin = origin_on(&start, group, report);
-    let line = covering(alloc, locks, group, report, start)?;
+    let line = covering(alloc, situation.locks, group, report, start)?;
     let placed = placed_on(group, report, line)?;
     Ok(Finding { old_origin, placed })
 }
 
 /// The line that has the leg told: that of the leg alone, or the known one, continued as far as needed.
 #[tactic(auto, unfolding(crate::specs::PlacingSteps::locating_step))]
-fn located(
-    alloc: Global,
-    track: &Arc<Track>,
-    locks: &Locks,
-    known: Option<&Line>,
-    leg: Leg,
-) -> Result<Line, OrMemory<Refusal>>
-    requires locks { IsGoodLocks (arc_value track.now) locks.now }
-    requires known { IfSome known (λ line. line.now.track ≡ arc_value track.now) }
-    requires leg { leg.section < length (arc_value track.now).sections }
+fn located(alloc: Global, situation: &Situation<'_>, leg: Leg) -> Result<Line, OrMemory<Refusal>>
+    requires { leg.section < length (arc_value situation.now.track.now).sections }
     ensures line { AnswersAs (λ l. l.legs) result
-        (locating_step (arc_value track.now) locks.now leg (option_map (λ line. line.now.legs) known.entry)) }
-    ensures track { IfOk result (λ l. l.track ≡ arc_value track.now) }
+        (locating_step (arc_value situation.now.track.now) situation.now.locks.now leg (legs_known situation.now)) }
+    ensures track { IfOk result (λ l. l.track ≡ arc_value situation.now.track.now) }
     ensures has { IfOk result (λ l. has_leg l.legs leg ≡ true) }
 {
-    match known {
-        Some(line) => continuation(alloc, locks, line, leg),
-        None => Ok(Line::new(alloc, track, leg)?),
+    match situation.known {
+        Some(line) => continuation(alloc, situation.locks, line, leg),
+        None => Ok(Line::new(alloc, situation.track, leg)?),
     }
 }
 

@@ -13,6 +13,7 @@ ghost use Rattle.rbc_extent.specs.Findings.{authority_left, finding_view};
 use crate::Train;
 use crate::finding::Finding;
 use crate::placing::find;
+use crate::situation::Situation;
 use crate::train::Authority;
 use rbc_line::Line;
 use rbc_locks::Locks;
@@ -50,7 +51,12 @@ pub fn reported(
     ensures refused { IfErr (reported (arc_value track.now) locks.now (option_map (λ train. train.now.train) known.entry)
         report.now) (λ refusal. result ≡ Err (Refused refusal)) }
 {
-    let finding = find(alloc, track, locks, line_of(known), report)?;
+    let situation = Situation {
+        track,
+        locks,
+        known: line_of(known),
+    };
+    let finding = find(alloc, &situation, report)?;
     let authority = authority_left(known, &finding);
     Ok(Train::placed(finding.placed, report, authority))
 }

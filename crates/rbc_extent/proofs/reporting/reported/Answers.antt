@@ -1,4 +1,4 @@
-use Rattle.std.proofs.Common.{◌≡◌, ap, sym, ◌∙◌, subst, Option, Result, Ok, Err, IfErr}
+use Rattle.std.proofs.Common.{◌≡◌, ap, sym, ◌∙◌, subst, Option, Some, Result, Ok, Err, IfErr, IfSome}
 use Rattle.std.specs.Prelude.{option_map}
 use Rattle.std.specs.Arc.{arc_value}
 use Rattle.std.proofs.lemmas.Result.{err_from_is_err_and}
@@ -19,6 +19,16 @@ use Rattle.rbc_extent.proofs.LeavingLemmas.{good_after, reported-found, reported
 use Rattle.rbc_extent.proofs.OutcomeLemmas.{refuses-weaker, known_good, fails, gives, handed_on, nothing-told, refused-mapped, refused-told}
 use Rattle.rbc_extent.proofs.FindingLemmas.{place-finding}
 use Rattle.rbc_extent.proofs.reporting.reported.Goals as goal
+
+-- what holds of the known line, if there is one
+of_known : {X : Type 0} (track_of : X → Track) (track : Track) (o : Option X) → IfSome o (λ y. track_of y ≡ track) → (x : X) → o ≡ Some x → track_of x ≡ track
+of_known track_of track o h x e = let here : IfSome (Some x) (λ y. track_of y ≡ track) = subst (λ p. IfSome p (λ y. track_of y ≡ track)) e h in here
+
+pub invariant_of-situation : goal.invariant_of-situation
+invariant_of-situation c = record {
+  locks_lead = c.requires.locks;
+  of_track = of_known (λ line. line.now.track) (arc_value c.args.track.now) c.line_of.result (c.line_of.ensures.track (arc_value c.args.track.now) c.requires.known);
+}
 
 pub returns-in_err-finding-clause-reported : goal.returns-in_err-finding-clause-reported
 returns-in_err-finding-clause-reported c =
