@@ -43,7 +43,7 @@ pub(crate) fn has_leg(legs: &[Leg], leg: Leg) -> bool
     legs.iter().any(|other| is_same_leg(&leg, other))
 }
 
-/// The metre that a train meets with `before` metres of the leg behind it.
+/// The metre of the leg that a train meets after `before` metres of it.
 fn metre_of_leg(track: &Track, leg: &Leg, before: u32) -> Metre
     requires of_track { leg.now.section < length track.now.sections }
     requires on_leg { before < metres_of track.now leg.now.section }

@@ -53,7 +53,7 @@ pub(crate) fn read_packet_21(bits: &mut BitReader, frame: &Frame) -> Result<Prof
     read_profile(bits, frame)
 }
 
-/// Gradients stand in packet 21 as uphill or downhill (Q_GDIR) and a number of per mille (G_A), 0 to 254.
+/// Gradients stand in packet 21 as uphill or downhill (Q_GDIR) and how steep in per mille (G_A), 0 to 254.
 impl Encoded for Grade {
     ghost packet = { packet_21 };
 
@@ -130,7 +130,7 @@ const DOWNHILL: u32 = 0;
 struct Slope {
     /// Q_GDIR: 1 uphill, 0 downhill.
     direction: u32,
-    /// G_A: the gradient in per mille, uphill or downhill.
+    /// G_A: how steep, in per mille.
     per_mille: u32,
 }
 

@@ -102,7 +102,7 @@ fn put_head<V: Encoded>(bits: &mut BitWriter, head: &Head, first: V) -> Result<(
     put_fields(bits, &[(FieldName::N_ITER, head.steps)])
 }
 
-/// A later step: this value, at a distance in units behind the step before.
+/// A later step: its distance from the step before, in units, and its value.
 fn put_step<V: Encoded>(bits: &mut BitWriter, distance: u32, value: V) -> Result<(), Memory>
     requires { distance < 2 ^ 15 }
     ensures { OnOk result (bits.new ≡ bits.old
@@ -112,7 +112,7 @@ fn put_step<V: Encoded>(bits: &mut BitWriter, distance: u32, value: V) -> Result
     value.put_value(bits)
 }
 
-/// The end element: the profile ends at a distance in units behind the last step.
+/// The end element: the distance of the profile's end from the last step, in units.
 fn put_end<V: Encoded>(bits: &mut BitWriter, distance: u32) -> Result<(), Memory>
     requires { distance < 2 ^ 15 }
     ensures { OnOk result (bits.new ≡ bits.old

@@ -59,8 +59,8 @@ fn line_along(alloc: Global, train: &Train, legs: &[Leg], to: u32) -> Result<Lin
     Ok(cut_to(line, to))
 }
 
-/// The authority up to a safe end at a distance in metres beyond the train's group, on its line, which is continued
-/// along legs that its way begins with.
+/// The authority up to a safe end at this distance beyond the train's group, on its line, which is continued along
+/// legs that its way begins with.
 pub(crate) fn granted_along(
     alloc: Global,
     train: &Train,
@@ -87,8 +87,8 @@ pub(crate) fn granted_along(
     Ok(Granted { line, from, to })
 }
 
-/// The authority that the train is granted up to a distance in metres beyond its group, if that is a safe end that a
-/// message can give.
+/// The authority that the train is granted up to this distance beyond its group, if that is a safe end that a message
+/// can give.
 pub(crate) fn granted_to(
     alloc: Global,
     locks: &Locks,

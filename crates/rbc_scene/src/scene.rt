@@ -271,8 +271,8 @@ impl Scene {
     }
 
     /// A train is granted an authority, from the start of the one it has, or from its front where that lies behind, to
-    /// a place at a distance in metres beyond its group. Its line is continued to have the last metre. Where the grant
-    /// is refused, or memory is, nothing changes.
+    /// the place at this distance beyond its group. Its line is continued to have the last metre. Where the grant is
+    /// refused, or memory is, nothing changes.
     ///
     /// # Errors
     ///
@@ -299,7 +299,7 @@ impl Scene {
         Ok(())
     }
 
-    /// The authority that the train is granted up to a distance in metres beyond its group.
+    /// The authority that the train is granted up to this distance beyond its group.
     fn granted(
         &self,
         alloc: Global,
@@ -321,8 +321,8 @@ impl Scene {
     }
 
     /// A train is granted an authority that is known to be accepted, along legs that its way is known to begin with, up to a
-    /// place beyond its group that they reach, told in metres from there. No obstacle is searched. Where memory is
-    /// refused nothing changes.
+    /// place at this distance beyond its group, which they reach. No obstacle is searched. Where memory is refused
+    /// nothing changes.
     ///
     /// # Errors
     ///

@@ -94,7 +94,7 @@ pub(crate) struct Canvas<'a> {
     pub(crate) chart: Chart,
 }
 
-/// The chart on which the places of a way of this length in metres stand.
+/// The chart on which the places of a way of this length stand, in metres.
 pub(crate) fn scale_of(metres: u32) -> Chart
     ensures { result ≡ scale_of metres }
 {

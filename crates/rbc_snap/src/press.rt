@@ -129,7 +129,7 @@ fn copies(alloc: Global, sight: &Sight, log: &Record) -> Result<(Published, Publ
 }
 
 impl<J: HistoryName> Press<J> {
-    /// A press over the record, with a number of eyes. The journal is that of its history, in which nothing stands yet.
+    /// A press over the record, with `readers` eyes. The journal is that of its history, in which nothing stands yet.
     ///
     /// # Errors
     ///

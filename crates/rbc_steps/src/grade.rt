@@ -25,7 +25,7 @@ impl Model for Grade {
 }
 
 impl Grade {
-    /// The gradient of this number of per mille, if that is -254 to 254.
+    /// The gradient with this value in per mille, if that is -254 to 254.
     pub fn new(per_mille: i16) -> Option<Grade>
         ensures valid { IsSome result ↔ IsInRange grade_levels per_mille }
         ensures value { IfSome result (λ g. g ≡ per_mille) }

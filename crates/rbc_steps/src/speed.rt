@@ -25,7 +25,7 @@ impl Model for Speed {
 }
 
 impl Speed {
-    /// The speed of this number of km/h, if that is 5 to 600.
+    /// The speed with this value in km/h, if that is 5 to 600.
     pub fn new(kmh: u16) -> Option<Speed>
         ensures valid { IsSome result ↔ IsInRange speed_levels kmh }
         ensures value { IfSome result (λ s. s ≡ kmh) }

@@ -248,7 +248,7 @@ impl LineReader {
     }
 }
 
-// How many of these bytes stand before their first line feed: all, if they have none. The first ones were searched.
+// How many of these bytes stand before their first line feed: all, if they have none. The first `searched` have none.
 fn bytes_ahead(bytes: &[u8], searched: usize) -> usize
     requires within { searched ≤ length bytes.now }
     requires none_yet { HasNoLineFeed (take searched bytes.now) }

@@ -38,7 +38,7 @@ impl From<Memory> for WholeFault {
     }
 }
 
-/// All bytes of a source up to its end, if they are no more than a limit.
+/// All bytes of a source up to its end, if they are no more than `most`.
 ///
 /// # Errors
 /// For each piece that is read, in this order: the reader failed; there are more bytes than were allowed; there is no

@@ -26,7 +26,7 @@ pub(crate) fn leg_eq(a: &Leg, b: &Leg) -> bool
     a == b
 }
 
-/// Whether the leg is of one of a number of sections.
+/// Whether the leg is of a section of a track with this number of sections.
 pub(crate) fn is_leg_of(sections: usize, leg: &Leg) -> bool
     ensures { result ≡ nat_lt leg.now.section sections }
 {

@@ -34,7 +34,7 @@ pub(crate) fn is_good_route(
     }
 }
 
-/// Whether each leg is of one of a number of sections.
+/// Whether each leg is of a section of a track with this number of sections.
 fn are_of(sections: usize, legs: &[Leg]) -> bool
     ensures { result ≡ list_all (λ leg. nat_lt leg.section sections) legs.now }
 {

@@ -65,7 +65,7 @@ impl<V: FileLevel> ListItem for (u32, V) {
 }
 
 impl<'a> FileEntry<'a> {
-    /// The levels at a key over a number of metres.
+    /// The levels at a key over this number of metres.
     #[tactic(auto, unfolding(crate::specs::Told::runs_told))]
     pub(crate) fn runs<V: FileLevel>(
         self,

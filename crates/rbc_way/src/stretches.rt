@@ -116,7 +116,7 @@ fn stretch_of(train: &Train, begin: u32, leg: Leg, metres: u32) -> Stretch
     }
 }
 
-/// A table of a number of sections of which no train has a metre.
+/// The table of a track with this number of sections, of which no train has a metre.
 fn no_stretches(alloc: Global, sections: usize) -> Result<Stretches, Memory>
     ensures size { IfOk result (λ table. length table.items ≡ sections) }
     ensures empty { IfOk result (λ table. (section : ℕ) → stretches_at table.items section ≡ []) }
