@@ -38,3 +38,9 @@ def link_crate(name, room, parts):
     for part in parts:
         if os.path.isdir(f"{ROOT}/crates/{name}/{part}"):
             shutil.copytree(f"{ROOT}/crates/{name}/{part}", f"{room}/crates/{name}/{part}", copy_function=os.link)
+
+
+def list_crates(names, room):
+    """Gives a tree the lines of crates.txt that are of these crates."""
+    with open(f"{ROOT}/crates.txt") as file, open(f"{room}/crates.txt", "w") as out:
+        out.writelines(line for line in file if line.split(":")[0].split(" ")[0] in names)
