@@ -1,4 +1,5 @@
 mod LineLemmas
+mod RowLemmas
 mod TableLemmas
 mod VerdictLemmas
 mod CheckingLemmas

@@ -5,7 +5,7 @@ ghost use Rattle.rbc_model.specs.CheckText.{CheckLine as Said, part_of, is_head,
 ghost use Rattle.rbc_checks.specs.Lines.{line_view, IsSaid};
 ghost use Rattle.rbc_checks.specs.Blocks.{block_lines};
 
-use crate::CheckLine;
+use crate::{CheckLine, Rows};
 use rbc_model::Part;
 use std::alloc::Global;
 use std::mem;
@@ -18,7 +18,7 @@ pub enum Block {
     /// A head.
     Head(CheckLine),
     /// A head, a profile, and the rows behind it.
-    Profile(CheckLine, CheckLine, Vec<CheckLine>),
+    Profile(CheckLine, CheckLine, Rows),
 }
 
 impl Block {
@@ -39,10 +39,12 @@ impl Block {
     {
         match self {
             Block::None => Some(Block::Head(line)),
-            Block::Head(head) => Some(Block::Profile(head, line, Vec::new(alloc))),
+            Block::Head(head) => Some(Block::Profile(head, line, Rows::new(alloc))),
             Block::Profile(head, profile, rows) => {
                 let mut rows = rows;
-                rows.push(line).ok()?;
+                if !rows.push(line) {
+                    return None;
+                }
                 Some(Block::Profile(head, profile, rows))
             }
         }
@@ -53,7 +55,7 @@ impl Block {
         ensures { result ≡ true → block_lines self.new ≡ block_lines self.old ++ line_view line ∷ [] }
     {
         if let Block::Profile(_, _, rows) = self {
-            return rows.push(line).is_ok();
+            return rows.push(line);
         }
         match mem::replace(self, Block::None).with_line(alloc, line) {
             Some(block) => {

@@ -8,12 +8,11 @@ ghost use Rattle.rbc_model.specs.PriceChecks.{price_check, last_price};
 ghost use Rattle.rbc_model.specs.Profiles.{profile_of};
 ghost use Rattle.rbc_table_laws.specs.PriceRows.{prices_of};
 ghost use Rattle.rbc_words.specs.StepsLines.{request_view};
-ghost use Rattle.rbc_checks.specs.Blocks.{lines_view};
 ghost use Rattle.rbc_checks.specs.Verdicts.{rows_verdict, steps_verdict, ArePartsOf};
 
-use crate::CheckLine;
+use crate::Rows;
 use crate::lines::ToldProfile;
-use crate::table::{Told, price_at, steps_of, table_of};
+use crate::table::{Told, price_at, steps_of};
 use rbc_model::scales::unit_of;
 use rbc_model::{OrMemory, ProfileFault, Reason};
 use rbc_price::{Priced, Prices, check, column_count};
@@ -41,10 +40,10 @@ pub(crate) fn certify_speeds(
     alloc: Global,
     request: StepsRequest<Speed>,
     profile: ToldProfile,
-    rows: Vec<CheckLine>,
+    rows: &Rows,
 ) -> Result<(), OrMemory<Reason>>
     ensures { AnswersOrMemory result (verdict_of speed_levels speed_of (request_view request)
-        profile.steps.items profile.loss (lines_view rows.items)) }
+        profile.steps.items profile.loss rows.now) }
 {
     let parts = parts_of(alloc, request, profile.steps.as_slice())?;
     // A profile is large, and stays where it is.
@@ -61,10 +60,10 @@ pub(crate) fn certify_grades(
     alloc: Global,
     request: StepsRequest<Grade>,
     profile: ToldProfile,
-    rows: Vec<CheckLine>,
+    rows: &Rows,
 ) -> Result<(), OrMemory<Reason>>
     ensures { AnswersOrMemory result (verdict_of grade_levels (λ value. Some value) (request_view request)
-        profile.steps.items profile.loss (lines_view rows.items)) }
+        profile.steps.items profile.loss rows.now) }
 {
     let parts = parts_of(alloc, request, profile.steps.as_slice())?;
     // A profile is large, and stays where it is.
@@ -110,11 +109,11 @@ fn certify<V: Priced>(
     parts: &Parts<V>,
     made: &Result<Profile<V>, ProfileFault>,
     loss: u64,
-    rows: Vec<CheckLine>,
+    rows: &Rows,
 ) -> Result<(), OrMemory<Reason>>
     requires { made.now ≡ profile_of V.levels parts.now.track.end parts.now.steps.items }
     ensures { AnswersOrMemory result (steps_verdict V.levels parts.now.limit parts.now.track parts.now.steps.items
-        loss (rows_of 1 (lines_view rows.items))) }
+        loss (rows_of 1 rows.now)) }
 {
     match made {
         Ok(profile) => certify_profile(alloc, parts, profile, loss, rows),
@@ -132,15 +131,15 @@ fn certify_profile<V: Priced>(
     parts: &Parts<V>,
     profile: &Profile<V>,
     loss: u64,
-    rows: Vec<CheckLine>,
+    rows: &Rows,
 ) -> Result<(), OrMemory<Reason>>
     ensures { AnswersOrMemory result (rows_verdict V.levels parts.now.limit parts.now.track profile.now
-        loss (rows_of 1 (lines_view rows.items))) }
+        loss (rows_of 1 rows.now)) }
 {
-    let Some(prices) = table_of(alloc, rows)? else {
+    let Some(prices) = rows.table() else {
         return Err(OrMemory::Refused(Reason::Shape));
     };
-    match check_told(alloc, parts, profile, &prices, loss) {
+    match check_told(alloc, parts, profile, prices, loss) {
         Ok(()) => Ok(()),
         Err(reason) => Err(OrMemory::Refused(reason)),
     }

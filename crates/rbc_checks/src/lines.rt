@@ -1,20 +1,20 @@
 //! A line of a text with certificates: what it says.
 
-ghost use Rattle.std.specs.Prelude.{◌≡◌, MatchResult, IfOk, Some, option_map};
+ghost use Rattle.std.specs.Prelude.{◌≡◌, MatchOption, IfOk, Some, false, option_map};
 ghost use Rattle.rbc_model.specs.declared.places.Format.TheVariants.{Far};
 ghost use Rattle.rbc_model.specs.declared.prices.Part.TheVariants.{Head, Profile, Row};
-ghost use Rattle.rbc_model.specs.CheckText.{check_line, words_said, head_line, SpeedHead, GradeHead};
+ghost use Rattle.rbc_model.specs.CheckText.{check_line, words_said, head_line, SpeedHead, GradeHead, Other};
 ghost use Rattle.rbc_model.specs.CheckText.{profile_line, profile_in, price_line, numbers_in, step_in_word};
 ghost use Rattle.rbc_model.specs.Kinds.{speed_kind, grade_kind};
 ghost use Rattle.rbc_model.specs.StepsText.{request_in};
-ghost use Rattle.rbc_model.specs.Words.{words_of};
-ghost use Rattle.rbc_checks.specs.Lines.{IsSaid, profile_view, numbers_view};
+ghost use Rattle.rbc_model.specs.Words.{words_of, is_blank};
+ghost use Rattle.rbc_checks.specs.Lines.{IsSaid, command_said, profile_view, numbers_view};
 
 use rbc_model::limits::LONGEST_TRACK;
 use rbc_model::{Memory, OrMemory, Part};
 use rbc_steps::{Grade, Speed};
 use rbc_words::{
-    StepsRequest, around, integer, is_blank, is_text, next_word, number, request_in, without_return,
+    StepsRequest, around, integer, is_text, next_word, number, request_in, without_return,
 };
 use std::alloc::Global;
 
@@ -62,23 +62,45 @@ pub fn parse_check(alloc: Global, line: &[u8]) -> Result<CheckLine, Part>
     ensures { IsSaid result (check_line Far line.now) }
 {
     let text = without_return(line);
-    if is_blank(text) || !is_text(text) {
-        return Ok(CheckLine::Other);
+    match command_in(text) {
+        Some((command, words)) if is_text(text) => command_said(alloc, command, words),
+        _ => Ok(CheckLine::Other),
     }
-    words_said(alloc, text)
 }
 
-/// What the words of a text say.
-fn words_said(alloc: Global, text: &[u8]) -> Result<CheckLine, Part>
-    ensures { IsSaid result (words_said Far (words_of text.now)) }
+/// What a line of a certificate begins with.
+#[derive(Clone, Copy, Debug, PartialEq, Eq)]
+enum Command {
+    Speed,
+    Grade,
+    Steps,
+    Prices,
+}
+
+/// The command that a text begins with, if it does, and the words behind it.
+fn command_in(text: &[u8]) -> Option<(Command, &[u8])>
+    ensures { MatchOption result (words_said Far (words_of text.now) ≡ Other)
+        (λ found. (is_blank (words_of text.now) ≡ false)
+        × (words_said Far (words_of text.now) ≡ command_said found.0 (words_of found.1.now))) }
 {
-    match next_word(text) {
-        None => Ok(CheckLine::Other),
-        Some((b"speed", words)) => speed_head(alloc, words),
-        Some((b"grade", words)) => grade_head(alloc, words),
-        Some((b"steps", words)) => told_profile(alloc, words),
-        Some((b"prices", words)) => told_row(alloc, words),
-        Some(_) => Ok(CheckLine::Other),
+    match next_word(text)? {
+        (b"speed", words) => Some((Command::Speed, words)),
+        (b"grade", words) => Some((Command::Grade, words)),
+        (b"steps", words) => Some((Command::Steps, words)),
+        (b"prices", words) => Some((Command::Prices, words)),
+        _ => None,
+    }
+}
+
+/// What the words behind a command say.
+fn command_said(alloc: Global, command: Command, words: &[u8]) -> Result<CheckLine, Part>
+    ensures { IsSaid result (command_said command (words_of words.now)) }
+{
+    match command {
+        Command::Speed => speed_head(alloc, words),
+        Command::Grade => grade_head(alloc, words),
+        Command::Steps => told_profile(alloc, words),
+        Command::Prices => told_row(alloc, words),
     }
 }
 

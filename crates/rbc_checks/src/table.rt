@@ -2,14 +2,11 @@
 
 ghost use Rattle.std.specs.Prelude.{◌≡◌, ℤ, Option, Some, option_map, IfOk, slice_index};
 ghost use Rattle.rbc_model.specs.Answers.{AnswersOrMemory};
-ghost use Rattle.rbc_model.specs.CheckText.{speed_of, steps_of, rows_of};
+ghost use Rattle.rbc_model.specs.CheckText.{speed_of, steps_of};
 ghost use Rattle.rbc_model.specs.PriceTables.{table_at};
 ghost use Rattle.rbc_table_laws.specs.PriceRows.{prices_of};
-ghost use Rattle.rbc_checks.specs.Blocks.{lines_view};
-ghost use Rattle.rbc_checks.specs.Lines.{line_view};
-ghost use Rattle.rbc_checks.specs.Tables.{value_in, row_in, prices_view, steps_view, table_view};
+ghost use Rattle.rbc_checks.specs.Tables.{value_in, steps_view};
 
-use crate::CheckLine;
 use rbc_model::Memory;
 use rbc_price::Prices;
 use rbc_steps::{Grade, Level, Speed};
@@ -58,30 +55,6 @@ pub(crate) fn steps_of<V: Told>(
         steps.push((step.0, value))?;
     }
     Ok(Some(steps))
-}
-
-/// The prices of rows, if these are told under the numbers from 1 on.
-pub(crate) fn table_of(alloc: Global, lines: Vec<CheckLine>) -> Result<Option<Prices>, Memory>
-    ensures { IfOk result (λ rows. option_map table_view rows ≡ rows_of 1 (lines_view lines.items)) }
-{
-    let mut rows = Vec::new(alloc);
-    for line in lines {
-        let Some(prices) = row_of(line, rows.len() as u64 + 1) else {
-            return Ok(None);
-        };
-        rows.push(prices)?;
-    }
-    Ok(Some(rows))
-}
-
-/// The prices of a row, if the line is one and is told under this number.
-fn row_of(line: CheckLine, number: u64) -> Option<Vec<u64>>
-    ensures { option_map prices_view result ≡ row_in number (line_view line) }
-{
-    match line {
-        CheckLine::Row(row) if row.number == number => Some(row.prices),
-        _ => None,
-    }
 }
 
 /// The price in the row of so many steps and in this column; nothing is lost by no steps, or up to break 0.

@@ -6,9 +6,9 @@ ghost use Rattle.rbc_model.specs.Sessions.{Prints};
 ghost use Rattle.rbc_checks.specs.Blocks.{block_lines};
 ghost use Rattle.rbc_checks.specs.Verdicts.{verdict_line, said_text, is_refusal, is_bad, told_as, Judges};
 
-use crate::CheckLine;
 use crate::block::Block;
 use crate::certify::{certify_grades, certify_speeds};
+use crate::{CheckLine, Rows};
 use rbc_model::{OrMemory, Reason};
 use rbc_streams::{Sink, WriteFailed, put};
 use rbc_words::{print_last, print_number};
@@ -46,13 +46,13 @@ pub fn judge(alloc: Global, block: Block) -> Option<Verdict>
     match block {
         Block::None => None,
         Block::Head(_) => Some(Verdict::Refused(Reason::Shape)),
-        Block::Profile(head, profile, rows) => Some(judge_parts(alloc, head, profile, rows)),
+        Block::Profile(head, profile, rows) => Some(judge_parts(alloc, head, profile, &rows)),
     }
 }
 
 /// What is said of a head, a line behind it, and rows.
-fn judge_parts(alloc: Global, head: CheckLine, profile: CheckLine, rows: Vec<CheckLine>) -> Verdict
-    ensures { Judges head profile rows.items result }
+fn judge_parts(alloc: Global, head: CheckLine, profile: CheckLine, rows: &Rows) -> Verdict
+    ensures { Judges head profile rows.now result }
 {
     match (head, profile) {
         (CheckLine::SpeedHead(track), CheckLine::Profile(profile)) => {
