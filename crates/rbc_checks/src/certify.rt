@@ -39,11 +39,11 @@ pub(crate) struct Parts<V: Level> {
 pub(crate) fn certify_speeds(
     alloc: Global,
     request: StepsRequest<Speed>,
-    profile: ToldProfile,
+    profile: &ToldProfile,
     rows: &Rows,
 ) -> Result<(), OrMemory<Reason>>
     ensures { AnswersOrMemory result (verdict_of speed_levels speed_of (request_view request)
-        profile.steps.items profile.loss rows.now) }
+        profile.now.steps.items profile.now.loss rows.now) }
 {
     let parts = parts_of(alloc, request, profile.steps.as_slice())?;
     // A profile is large, and stays where it is.
@@ -59,11 +59,11 @@ pub(crate) fn certify_speeds(
 pub(crate) fn certify_grades(
     alloc: Global,
     request: StepsRequest<Grade>,
-    profile: ToldProfile,
+    profile: &ToldProfile,
     rows: &Rows,
 ) -> Result<(), OrMemory<Reason>>
     ensures { AnswersOrMemory result (verdict_of grade_levels (λ value. Some value) (request_view request)
-        profile.steps.items profile.loss rows.now) }
+        profile.now.steps.items profile.now.loss rows.now) }
 {
     let parts = parts_of(alloc, request, profile.steps.as_slice())?;
     // A profile is large, and stays where it is.

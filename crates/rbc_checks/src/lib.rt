@@ -6,6 +6,7 @@ mod certify;
 mod checking;
 mod lines;
 mod rows;
+mod spare;
 mod table;
 mod verdict;
 
@@ -19,4 +20,5 @@ pub use rbc_words::{
     StepsRequest, integer, is_text, next_word, number, print_number, print_signed, without_return,
 };
 pub use rows::Rows;
+pub use spare::Spare;
 pub use verdict::{Verdict, judge, print_said};

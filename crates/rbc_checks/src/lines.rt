@@ -1,6 +1,6 @@
 //! A line of a text with certificates: what it says.
 
-ghost use Rattle.std.specs.Prelude.{◌≡◌, MatchOption, IfOk, Some, false, option_map};
+ghost use Rattle.std.specs.Prelude.{◌≡◌, [], MatchOption, IfOk, Some, false, option_map};
 ghost use Rattle.rbc_model.specs.declared.places.Format.TheVariants.{Far};
 ghost use Rattle.rbc_model.specs.declared.prices.Part.TheVariants.{Head, Profile, Row};
 ghost use Rattle.rbc_model.specs.CheckText.{check_line, words_said, head_line, SpeedHead, GradeHead, Other};
@@ -10,6 +10,7 @@ ghost use Rattle.rbc_model.specs.StepsText.{request_in};
 ghost use Rattle.rbc_model.specs.Words.{words_of, is_blank};
 ghost use Rattle.rbc_checks.specs.Lines.{IsSaid, command_said, profile_view, numbers_view};
 
+use crate::Spare;
 use rbc_model::limits::LONGEST_TRACK;
 use rbc_model::{Memory, OrMemory, Part};
 use rbc_steps::{Grade, Speed};
@@ -58,12 +59,12 @@ pub struct ToldRow {
 /// # Errors
 ///
 /// The part of a certificate that the line is, where there is no memory to keep what it says.
-pub fn parse_check(alloc: Global, line: &[u8]) -> Result<CheckLine, Part>
+pub fn parse_check(spare: &mut Spare, line: &[u8]) -> Result<CheckLine, Part>
     ensures { IsSaid result (check_line Far line.now) }
 {
     let text = without_return(line);
     match command_in(text) {
-        Some((command, words)) if is_text(text) => command_said(alloc, command, words),
+        Some((command, words)) if is_text(text) => command_said(spare, command, words),
         _ => Ok(CheckLine::Other),
     }
 }
@@ -93,14 +94,14 @@ fn command_in(text: &[u8]) -> Option<(Command, &[u8])>
 }
 
 /// What the words behind a command say.
-fn command_said(alloc: Global, command: Command, words: &[u8]) -> Result<CheckLine, Part>
+fn command_said(spare: &mut Spare, command: Command, words: &[u8]) -> Result<CheckLine, Part>
     ensures { IsSaid result (command_said command (words_of words.now)) }
 {
     match command {
-        Command::Speed => speed_head(alloc, words),
-        Command::Grade => grade_head(alloc, words),
-        Command::Steps => told_profile(alloc, words),
-        Command::Prices => told_row(alloc, words),
+        Command::Speed => speed_head(spare.alloc(), words),
+        Command::Grade => grade_head(spare.alloc(), words),
+        Command::Steps => told_profile(spare.steps(), words),
+        Command::Prices => told_row(spare.row(), words),
     }
 }
 
@@ -126,11 +127,12 @@ fn grade_head(alloc: Global, words: &[u8]) -> Result<CheckLine, Part>
     }
 }
 
-/// The profile in the words behind `steps`.
-fn told_profile(alloc: Global, words: &[u8]) -> Result<CheckLine, Part>
+/// The profile in the words behind `steps`, whose steps are put into an empty list.
+fn told_profile(steps: Vec<(u32, i64)>, words: &[u8]) -> Result<CheckLine, Part>
+    requires { steps.items ≡ [] }
     ensures { IsSaid result (profile_line (profile_in (words_of words.now))) }
 {
-    match profile_in(alloc, words) {
+    match profile_in(steps, words) {
         Ok(Some(profile)) => Ok(CheckLine::Profile(profile)),
         Ok(None) => Ok(CheckLine::Bad(Part::Profile)),
         Err(_) => Err(Part::Profile),
@@ -138,7 +140,8 @@ fn told_profile(alloc: Global, words: &[u8]) -> Result<CheckLine, Part>
 }
 
 /// Steps, the word `loss`, and the loss.
-fn profile_in(alloc: Global, words: &[u8]) -> Result<Option<ToldProfile>, Memory>
+fn profile_in(mut steps: Vec<(u32, i64)>, words: &[u8]) -> Result<Option<ToldProfile>, Memory>
+    requires { steps.items ≡ [] }
     ensures { IfOk result (λ found. option_map profile_view found ≡ profile_in (words_of words.now)) }
 {
     let Some((mut word, rest)) = next_word(words) else {
@@ -147,7 +150,6 @@ fn profile_in(alloc: Global, words: &[u8]) -> Result<Option<ToldProfile>, Memory
     let Some((mut next, mut rest)) = next_word(rest) else {
         return Ok(None);
     };
-    let mut steps = Vec::new(alloc);
     while let Some((last, more)) = next_word(rest) {
         let Some(step) = step_in_word(word) else {
             return Ok(None);
@@ -178,25 +180,26 @@ fn step_in_word(word: &[u8]) -> Option<(u32, i64)>
     Some((start as u32, integer(value)?))
 }
 
-/// The row of a price table in the words behind `prices`.
-fn told_row(alloc: Global, words: &[u8]) -> Result<CheckLine, Part>
+/// The row of a price table in the words behind `prices`, whose prices are put into an empty list.
+fn told_row(room: Vec<u64>, words: &[u8]) -> Result<CheckLine, Part>
+    requires { room.items ≡ [] }
     ensures { IsSaid result (price_line (numbers_in (words_of words.now))) }
 {
     let Some((first, rest)) = next_word(words) else {
         return Ok(CheckLine::Bad(Part::Row));
     };
-    match (number(first), numbers_in(alloc, rest)) {
+    match (number(first), numbers_in(room, rest)) {
         (Some(number), Ok(Some(prices))) => Ok(CheckLine::Row(ToldRow { number, prices })),
         (_, Err(_)) => Err(Part::Row),
         _ => Ok(CheckLine::Bad(Part::Row)),
     }
 }
 
-/// Words as numbers.
-fn numbers_in(alloc: Global, words: &[u8]) -> Result<Option<Vec<u64>>, Memory>
+/// Words as numbers, put into an empty list.
+fn numbers_in(mut numbers: Vec<u64>, words: &[u8]) -> Result<Option<Vec<u64>>, Memory>
+    requires { numbers.items ≡ [] }
     ensures { IfOk result (λ found. option_map numbers_view found ≡ numbers_in (words_of words.now)) }
 {
-    let mut numbers = Vec::new(alloc);
     let mut rest = words;
     while let Some((word, more)) = next_word(rest) {
         let Some(number) = number(word) else {

@@ -6,9 +6,8 @@ ghost use Rattle.rbc_table_laws.specs.PriceRows.{prices_of};
 ghost use Rattle.rbc_checks.specs.Lines.{line_view};
 ghost use Rattle.rbc_checks.specs.Rows.{row_lines, row_in};
 
-use crate::CheckLine;
+use crate::{CheckLine, Spare};
 use rbc_price::Prices;
-use std::alloc::Global;
 use std::marker::Model;
 
 /// The rows of a block, in the order in which they are told. Those under the numbers from 1 on make a table of prices;
@@ -34,16 +33,17 @@ impl Model for Rows {
 
 impl Rows {
     /// No row yet.
-    pub(crate) fn new(alloc: Global) -> Rows
+    pub(crate) fn new(spare: &mut Spare) -> Rows
         ensures { result ≡ [] }
     {
         Rows {
-            table: Vec::new(alloc),
-            others: Vec::new(alloc),
+            table: spare.table(),
+            others: Vec::new(spare.alloc()),
         }
     }
 
     /// Puts a line behind the rows, and answers whether there was memory for it.
+    #[inline(always)]
     pub(crate) fn push(&mut self, line: CheckLine) -> bool
         ensures { result ≡ true → self.new ≡ self.old ++ line_view line ∷ [] }
     {
@@ -65,6 +65,11 @@ impl Rows {
         } else {
             None
         }
+    }
+
+    /// The table, whatever stands behind it.
+    pub(crate) fn into_table(self) -> Prices {
+        self.table
     }
 
     /// The rows of the table, from number 1 on, and the lines behind them.

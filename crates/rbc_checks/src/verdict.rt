@@ -8,7 +8,8 @@ ghost use Rattle.rbc_checks.specs.Verdicts.{verdict_line, said_text, is_refusal,
 
 use crate::block::Block;
 use crate::certify::{certify_grades, certify_speeds};
-use crate::{CheckLine, Rows};
+use crate::lines::ToldProfile;
+use crate::{CheckLine, Rows, Spare};
 use rbc_model::{OrMemory, Reason};
 use rbc_streams::{Sink, WriteFailed, put};
 use rbc_words::{print_last, print_number};
@@ -40,35 +41,41 @@ impl Verdict {
 }
 
 /// What is said of a block; nothing, if none is open.
-pub fn judge(alloc: Global, block: Block) -> Option<Verdict>
+pub fn judge(spare: &mut Spare, block: Block) -> Option<Verdict>
     ensures { AnswersBlock (block_lines block) (said_text result) (is_bad result) }
 {
     match block {
         Block::None => None,
         Block::Head(_) => Some(Verdict::Refused(Reason::Shape)),
-        Block::Profile(head, profile, rows) => Some(judge_parts(alloc, head, profile, &rows)),
+        Block::Profile(head, profile, rows) => Some(judge_parts(spare, head, profile, rows)),
     }
 }
 
-/// What is said of a head, a line behind it, and rows.
-fn judge_parts(alloc: Global, head: CheckLine, profile: CheckLine, rows: &Rows) -> Verdict
-    ensures { Judges head profile rows.now result }
+/// What is said of a head, a line behind it, and rows, whose memory is used again.
+fn judge_parts(spare: &mut Spare, head: CheckLine, profile: CheckLine, rows: Rows) -> Verdict
+    ensures { Judges head profile rows result }
 {
-    match (head, profile) {
-        (CheckLine::SpeedHead(track), CheckLine::Profile(profile)) => {
-            let loss = profile.loss;
-            told_as(
-                certify_speeds(alloc, track, profile, rows),
-                Verdict::Speed(loss),
-            )
-        }
-        (CheckLine::GradeHead(track), CheckLine::Profile(profile)) => {
-            let loss = profile.loss;
-            told_as(
-                certify_grades(alloc, track, profile, rows),
-                Verdict::Grade(loss),
-            )
-        }
+    let CheckLine::Profile(profile) = profile else {
+        return Verdict::Refused(Reason::Shape);
+    };
+    let verdict = judge_profile(spare.alloc(), head, &profile, &rows);
+    spare.take(profile.steps, rows.into_table());
+    verdict
+}
+
+/// What is said of a head, a profile, and rows.
+fn judge_profile(alloc: Global, head: CheckLine, profile: &ToldProfile, rows: &Rows) -> Verdict
+    ensures { Judges head (CheckLine.Profile profile.now) rows.now result }
+{
+    match head {
+        CheckLine::SpeedHead(track) => told_as(
+            certify_speeds(alloc, track, profile, rows),
+            Verdict::Speed(profile.loss),
+        ),
+        CheckLine::GradeHead(track) => told_as(
+            certify_grades(alloc, track, profile, rows),
+            Verdict::Grade(profile.loss),
+        ),
         _ => Verdict::Refused(Reason::Shape),
     }
 }
