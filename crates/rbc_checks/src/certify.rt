@@ -1,6 +1,6 @@
 //! Whether a block certifies its profile.
 
-ghost use Rattle.std.specs.Prelude.{◌≡◌, ◌==◌, Some};
+ghost use Rattle.std.specs.Prelude.{◌≡◌, [], ◌==◌, Some};
 ghost use Rattle.rbc_model.specs.Answers.{AnswersOrMemory};
 ghost use Rattle.rbc_model.specs.CheckText.{verdict_of, with_loss, rows_of, speed_of};
 ghost use Rattle.rbc_model.specs.Levels.{speed_levels, grade_levels};
@@ -10,9 +10,9 @@ ghost use Rattle.rbc_table_laws.specs.PriceRows.{prices_of};
 ghost use Rattle.rbc_words.specs.StepsLines.{request_view};
 ghost use Rattle.rbc_checks.specs.Verdicts.{rows_verdict, steps_verdict, ArePartsOf};
 
-use crate::Rows;
 use crate::lines::ToldProfile;
 use crate::table::{Told, price_at, steps_of};
+use crate::{Rows, Spare};
 use rbc_model::scales::unit_of;
 use rbc_model::{OrMemory, ProfileFault, Reason};
 use rbc_price::{Priced, Prices, check, column_count};
@@ -37,7 +37,7 @@ pub(crate) struct Parts<V: Level> {
 ///   count from 1 are `Shape`. A loss that is not the last price is `NotAttained`.
 /// - `Memory`
 pub(crate) fn certify_speeds(
-    alloc: Global,
+    spare: &mut Spare,
     request: StepsRequest<Speed>,
     profile: &ToldProfile,
     rows: &Rows,
@@ -45,10 +45,12 @@ pub(crate) fn certify_speeds(
     ensures { AnswersOrMemory result (verdict_of speed_levels speed_of (request_view request)
         profile.now.steps.items profile.now.loss rows.now) }
 {
-    let parts = parts_of(alloc, request, profile.steps.as_slice())?;
+    let parts = parts_of(spare.speeds(), request, profile.steps.as_slice())?;
     // A profile is large, and stays where it is.
     let made = Profile::new(parts.steps.as_slice(), parts.track.end());
-    certify(alloc, &parts, &made, profile.loss, rows)
+    let certified = certify(spare.alloc(), &parts, &made, profile.loss, rows);
+    spare.keep_speeds(parts.steps);
+    certified
 }
 
 /// The same of a profile of gradients.
@@ -57,7 +59,7 @@ pub(crate) fn certify_speeds(
 ///
 /// As there.
 pub(crate) fn certify_grades(
-    alloc: Global,
+    spare: &mut Spare,
     request: StepsRequest<Grade>,
     profile: &ToldProfile,
     rows: &Rows,
@@ -65,30 +67,33 @@ pub(crate) fn certify_grades(
     ensures { AnswersOrMemory result (verdict_of grade_levels (λ value. Some value) (request_view request)
         profile.now.steps.items profile.now.loss rows.now) }
 {
-    let parts = parts_of(alloc, request, profile.steps.as_slice())?;
+    let parts = parts_of(spare.grades(), request, profile.steps.as_slice())?;
     // A profile is large, and stays where it is.
     let made = Profile::new(parts.steps.as_slice(), parts.track.end());
-    certify(alloc, &parts, &made, profile.loss, rows)
+    let certified = certify(spare.alloc(), &parts, &made, profile.loss, rows);
+    spare.keep_grades(parts.steps);
+    certified
 }
 
-/// The track of a request, and the steps told, as values of its kind.
+/// The track of a request, and the steps told, as values of its kind, which are put into an empty list.
 ///
 /// # Errors
 ///
 /// - `Refused`: `Shape`, where the runs make no track, or the kind has no such value.
 /// - `Memory`
 fn parts_of<V: Told>(
-    alloc: Global,
+    room: Vec<(u32, V)>,
     request: StepsRequest<V>,
     steps: &[(u32, i64)],
 ) -> Result<Parts<V>, OrMemory<Reason>>
+    requires { room.items ≡ [] }
     ensures { ArePartsOf V.levels V.value_of (request_view request) steps.now result }
 {
     let StepsRequest { limit, runs, end } = request;
     let Ok(track) = Runs::new(runs, end) else {
         return Err(OrMemory::Refused(Reason::Shape));
     };
-    let Some(steps) = steps_of::<V>(alloc, steps)? else {
+    let Some(steps) = steps_of::<V>(room, steps)? else {
         return Err(OrMemory::Refused(Reason::Shape));
     };
     Ok(Parts {

@@ -100,7 +100,7 @@ fn command_said(spare: &mut Spare, command: Command, words: &[u8]) -> Result<Che
     match command {
         Command::Speed => speed_head(spare.alloc(), words),
         Command::Grade => grade_head(spare.alloc(), words),
-        Command::Steps => told_profile(spare.steps(), words),
+        Command::Steps => told_profile(spare.told(), words),
         Command::Prices => told_row(spare.row(), words),
     }
 }

@@ -3,15 +3,18 @@
 ghost use Rattle.std.specs.Prelude.{◌≡◌, []};
 
 use rbc_price::Prices;
+use rbc_steps::{Grade, Speed};
 use std::alloc::Global;
 use std::mem;
 
 /// What the last block was read into. The next one is read into the same memory, so that as long as no block is larger
-/// than those before it none has to be asked for.
+/// than those before it little has to be asked for.
 #[derive(Drop)]
 pub struct Spare {
     alloc: Global,
-    steps: Vec<(u32, i64)>,
+    told: Vec<(u32, i64)>,
+    speeds: Vec<(u32, Speed)>,
+    grades: Vec<(u32, Grade)>,
     table: Prices,
     rows: Prices,
 }
@@ -21,7 +24,9 @@ impl Spare {
     pub fn new(alloc: Global) -> Spare {
         Spare {
             alloc,
-            steps: Vec::new(alloc),
+            told: Vec::new(alloc),
+            speeds: Vec::new(alloc),
+            grades: Vec::new(alloc),
             table: Vec::new(alloc),
             rows: Vec::new(alloc),
         }
@@ -32,22 +37,32 @@ impl Spare {
         self.alloc
     }
 
-    /// No steps, with room for some.
-    pub(crate) fn steps(&mut self) -> Vec<(u32, i64)>
+    /// No steps as they are told, with room for some.
+    pub(crate) fn told(&mut self) -> Vec<(u32, i64)>
         ensures { result.items ≡ [] }
     {
-        let mut steps = mem::replace(&mut self.steps, Vec::new(self.alloc));
-        steps.clear();
-        steps
+        emptied(self.alloc, &mut self.told)
+    }
+
+    /// No steps of speeds, with room for some.
+    pub(crate) fn speeds(&mut self) -> Vec<(u32, Speed)>
+        ensures { result.items ≡ [] }
+    {
+        emptied(self.alloc, &mut self.speeds)
+    }
+
+    /// No steps of gradients, with room for some.
+    pub(crate) fn grades(&mut self) -> Vec<(u32, Grade)>
+        ensures { result.items ≡ [] }
+    {
+        emptied(self.alloc, &mut self.grades)
     }
 
     /// No rows, with room for some.
     pub(crate) fn table(&mut self) -> Prices
         ensures { result.items ≡ [] }
     {
-        let mut table = mem::replace(&mut self.table, Vec::new(self.alloc));
-        table.clear();
-        table
+        emptied(self.alloc, &mut self.table)
     }
 
     /// No prices, with room for some.
@@ -63,9 +78,33 @@ impl Spare {
         }
     }
 
-    /// Takes what a block was read into, and is done with.
-    pub(crate) fn take(&mut self, steps: Vec<(u32, i64)>, table: Prices) {
-        self.steps = steps;
-        self.table = mem::replace(&mut self.rows, table);
+    /// Takes back the steps of a block as they were told.
+    pub(crate) fn keep_told(&mut self, told: Vec<(u32, i64)>) {
+        self.told = told;
     }
+
+    /// Takes back steps of speeds.
+    pub(crate) fn keep_speeds(&mut self, speeds: Vec<(u32, Speed)>) {
+        self.speeds = speeds;
+    }
+
+    /// Takes back steps of gradients.
+    pub(crate) fn keep_grades(&mut self, grades: Vec<(u32, Grade)>) {
+        self.grades = grades;
+    }
+
+    /// Takes back a table. Where there is no memory to keep its rows, they are let go.
+    pub(crate) fn keep_table(&mut self, mut table: Prices) {
+        let _ = self.rows.append(&mut table);
+        self.table = table;
+    }
+}
+
+/// Takes a list away, and empties it.
+fn emptied<T: Drop>(alloc: Global, list: &mut Vec<T>) -> Vec<T>
+    ensures { result.items ≡ [] }
+{
+    let mut emptied = mem::replace(list, Vec::new(alloc));
+    emptied.clear();
+    emptied
 }

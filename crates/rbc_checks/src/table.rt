@@ -1,6 +1,6 @@
 //! The profile and the price table of a block, as they are checked.
 
-ghost use Rattle.std.specs.Prelude.{◌≡◌, ℤ, Option, Some, option_map, IfOk, slice_index};
+ghost use Rattle.std.specs.Prelude.{◌≡◌, [], ℤ, Option, Some, option_map, IfOk, slice_index};
 ghost use Rattle.rbc_model.specs.Answers.{AnswersOrMemory};
 ghost use Rattle.rbc_model.specs.CheckText.{speed_of, steps_of};
 ghost use Rattle.rbc_model.specs.PriceTables.{table_at};
@@ -10,7 +10,6 @@ ghost use Rattle.rbc_checks.specs.Tables.{value_in, steps_view};
 use rbc_model::Memory;
 use rbc_price::Prices;
 use rbc_steps::{Grade, Level, Speed};
-use std::alloc::Global;
 
 /// A kind of level whose values are told as whole numbers.
 pub(crate) trait Told: Level {
@@ -40,14 +39,14 @@ impl Told for Grade {
     }
 }
 
-/// Steps (start, value), if the kind has each value.
+/// Steps (start, value), if the kind has each value, put into an empty list.
 pub(crate) fn steps_of<V: Told>(
-    alloc: Global,
+    mut steps: Vec<(u32, V)>,
     told: &[(u32, i64)],
 ) -> Result<Option<Vec<(u32, V)>>, Memory>
+    requires { steps.items ≡ [] }
     ensures { IfOk result (λ steps. option_map steps_view steps ≡ steps_of V.levels V.value_of told.now) }
 {
-    let mut steps = Vec::new(alloc);
     for step in told {
         let Some(value) = V::told(step.1) else {
             return Ok(None);

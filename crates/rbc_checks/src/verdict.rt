@@ -13,7 +13,6 @@ use crate::{CheckLine, Rows, Spare};
 use rbc_model::{OrMemory, Reason};
 use rbc_streams::{Sink, WriteFailed, put};
 use rbc_words::{print_last, print_number};
-use std::alloc::Global;
 
 /// What is said of a block.
 #[derive(Clone, Copy, Debug, PartialEq, Eq)]
@@ -58,22 +57,23 @@ fn judge_parts(spare: &mut Spare, head: CheckLine, profile: CheckLine, rows: Row
     let CheckLine::Profile(profile) = profile else {
         return Verdict::Refused(Reason::Shape);
     };
-    let verdict = judge_profile(spare.alloc(), head, &profile, &rows);
-    spare.take(profile.steps, rows.into_table());
+    let verdict = judge_profile(spare, head, &profile, &rows);
+    spare.keep_told(profile.steps);
+    spare.keep_table(rows.into_table());
     verdict
 }
 
 /// What is said of a head, a profile, and rows.
-fn judge_profile(alloc: Global, head: CheckLine, profile: &ToldProfile, rows: &Rows) -> Verdict
+fn judge_profile(spare: &mut Spare, head: CheckLine, profile: &ToldProfile, rows: &Rows) -> Verdict
     ensures { Judges head (CheckLine.Profile profile.now) rows.now result }
 {
     match head {
         CheckLine::SpeedHead(track) => told_as(
-            certify_speeds(alloc, track, profile, rows),
+            certify_speeds(spare, track, profile, rows),
             Verdict::Speed(profile.loss),
         ),
         CheckLine::GradeHead(track) => told_as(
-            certify_grades(alloc, track, profile, rows),
+            certify_grades(spare, track, profile, rows),
             Verdict::Grade(profile.loss),
         ),
         _ => Verdict::Refused(Reason::Shape),

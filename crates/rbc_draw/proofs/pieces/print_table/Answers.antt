@@ -1,4 +1,4 @@
-use Rattle.std.proofs.Common.{Ok, ap, arith, ◌+◌}
+use Rattle.std.proofs.Common.{Ok, ap, ◌+◌}
 use Rattle.rbc_checks.proofs.PrintingLemmas.{prints_nothing, prints_then, prints_stopped}
 use Rattle.rbc_draw.proofs.RowLemmas.{rows-next, rows-end}
 use Rattle.rbc_draw.proofs.pieces.print_table.Goals as goal

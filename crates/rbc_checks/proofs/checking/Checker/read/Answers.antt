@@ -1,4 +1,4 @@
-use Rattle.std.proofs.Common.{◌≡◌, ◌∷◌, ◌++◌, [], List, ℕ, Bool, true, false, Option, refl, sym, ◌∙◌, ap, subst}
+use Rattle.std.proofs.Common.{◌≡◌, ◌∷◌, ◌++◌, [], List, ℕ, Bool, true, false, Option, sym, ◌∙◌, ap, subst}
 use Rattle.rbc_model.specs.declared.places.Format.TheVariants.{Far}
 use Rattle.rbc_model.specs.declared.prices.Part.{Part}
 use Rattle.rbc_model.specs.CheckText.{Checking, CheckLine, LeavesOpen, AnswersShort, check_line, part_of, goes_on, is_head}
