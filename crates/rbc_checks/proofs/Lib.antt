@@ -1,4 +1,5 @@
 mod LineLemmas
+mod TextLemmas
 mod RowLemmas
 mod TableLemmas
 mod VerdictLemmas

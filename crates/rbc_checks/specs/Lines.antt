@@ -1,5 +1,7 @@
 -- What is read of a line of a text with certificates, as the grammar has it.
-use Rattle.std.specs.Prelude.{◌≡◌, ℕ, List, map, Some, Result, Ok, Err}
+use Rattle.std.specs.Prelude.{◌≡◌, ℕ, Bool, true, false, List, map, Some, Result, Ok, Err}
+use Rattle.std.specs.List.{list_all}
+use Rattle.rbc_model.specs.Words.{is_text}
 use Rattle.std.specs.Prelude.{ℤ}
 use Rattle.std.specs.Global.{Vec}
 use Rattle.rbc_model.specs.declared.prices.Part.{Part}
@@ -41,6 +43,16 @@ command_said Speed words = head_line SpeedHead (request_in speed_kind Far words)
 command_said Grade words = head_line GradeHead (request_in grade_kind Far words)
 command_said Steps words = profile_line (profile_in words)
 command_said Prices words = price_line (numbers_in words)
+
+-- each of the words is text
+abbrev pub are_text : List (List ℕ) → Bool
+are_text words = list_all is_text words
+
+-- the line is a part of a certificate, and in form
+abbrev pub is_in_form : CheckLine → Bool
+is_in_form (Bad part) = false
+is_in_form Other = false
+is_in_form line = true
 
 -- What was read is what the line says; or memory was refused for what it says, which is this part of a block.
 abbrev pub IsSaid : Result ReadLine Part → CheckLine → Type 0

@@ -1,14 +1,14 @@
 //! A line of a text with certificates: what it says.
 
-ghost use Rattle.std.specs.Prelude.{◌≡◌, [], MatchOption, IfOk, Some, false, option_map};
+ghost use Rattle.std.specs.Prelude.{◌≡◌, [], MatchOption, IfOk, Some, true, false, option_map};
 ghost use Rattle.rbc_model.specs.declared.places.Format.TheVariants.{Far};
 ghost use Rattle.rbc_model.specs.declared.prices.Part.TheVariants.{Head, Profile, Row};
-ghost use Rattle.rbc_model.specs.CheckText.{check_line, words_said, head_line, SpeedHead, GradeHead, Other};
+ghost use Rattle.rbc_model.specs.CheckText.{CheckLine as Said, check_line, words_said, head_line, SpeedHead, GradeHead, Other};
 ghost use Rattle.rbc_model.specs.CheckText.{profile_line, profile_in, price_line, numbers_in, step_in_word};
 ghost use Rattle.rbc_model.specs.Kinds.{speed_kind, grade_kind};
 ghost use Rattle.rbc_model.specs.StepsText.{request_in};
 ghost use Rattle.rbc_model.specs.Words.{words_of, is_blank};
-ghost use Rattle.rbc_checks.specs.Lines.{IsSaid, command_said, profile_view, numbers_view};
+ghost use Rattle.rbc_checks.specs.Lines.{IsSaid, are_text, command_said, is_in_form, profile_view, numbers_view};
 
 use crate::Spare;
 use rbc_model::limits::LONGEST_TRACK;
@@ -63,9 +63,27 @@ pub fn parse_check(spare: &mut Spare, line: &[u8]) -> Result<CheckLine, Part>
     ensures { IsSaid result (check_line Far line.now) }
 {
     let text = without_return(line);
-    match command_in(text) {
-        Some((command, words)) if is_text(text) => command_said(spare, command, words),
-        _ => Ok(CheckLine::Other),
+    let Some((command, words)) = command_in(text) else {
+        return Ok(CheckLine::Other);
+    };
+    let read = command_said(spare, command, words);
+    // All words of a line in form are text, and so is the line.
+    if is_in_form(&read) {
+        return read;
+    }
+    if !is_text(text) {
+        return Ok(CheckLine::Other);
+    }
+    read
+}
+
+/// Whether the line that was read is in form.
+fn is_in_form(read: &Result<CheckLine, Part>) -> bool
+    ensures { (said : Said) → IsSaid read.now said → result ≡ true → is_in_form said ≡ true }
+{
+    match read {
+        Ok(CheckLine::Bad(_) | CheckLine::Other) | Err(_) => false,
+        Ok(_) => true,
     }
 }
 
@@ -81,7 +99,7 @@ enum Command {
 /// The command that a text begins with, if it does, and the words behind it.
 fn command_in(text: &[u8]) -> Option<(Command, &[u8])>
     ensures { MatchOption result (words_said Far (words_of text.now) ≡ Other)
-        (λ found. (is_blank (words_of text.now) ≡ false)
+        (λ found. (is_blank (words_of text.now) ≡ false) × (are_text (words_of text.now) ≡ are_text (words_of found.1.now))
         × (words_said Far (words_of text.now) ≡ command_said found.0 (words_of found.1.now))) }
 {
     match next_word(text)? {
