@@ -1,4 +1,6 @@
 mod LineLemmas
+mod TextLemmas
+mod RowLemmas
 mod TableLemmas
 mod VerdictLemmas
 mod CheckingLemmas

@@ -1,17 +1,12 @@
 -- The block that is open, as the definitions have it.
-use Rattle.std.specs.Prelude.{List, [], ◌∷◌, map}
+use Rattle.std.specs.Prelude.{List, [], ◌∷◌}
 use Rattle.rbc_model.specs.CheckText.{CheckLine}
 use Rattle.rbc_checks.specs.Lines.{line_view}
-use Rattle.rbc_checks.specs.declared.lines.CheckLine.{CheckLine as ReadLine}
 use Rattle.rbc_checks.specs.declared.block.Block.{Block}
 use Rattle.rbc_checks.specs.declared.block.Block.TheVariants.{None, Head, Profile}
-
--- lines that were read
-abbrev pub lines_view : List ReadLine → List CheckLine
-lines_view lines = map line_view lines
 
 -- the lines of a block
 abbrev pub block_lines : Block → List CheckLine
 block_lines None = []
 block_lines (Head head) = line_view head ∷ []
-block_lines (Profile head profile rows) = line_view head ∷ line_view profile ∷ lines_view rows.items
+block_lines (Profile head profile rows) = line_view head ∷ line_view profile ∷ rows

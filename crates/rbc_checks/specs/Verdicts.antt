@@ -14,7 +14,6 @@ use Rattle.rbc_model.specs.CheckText.{CheckLine, AnswersBlock, refusal_text, mem
 use Rattle.rbc_model.specs.Kinds.{speed_kind, grade_kind}
 use Rattle.rbc_model.specs.Words.{line_of}
 use Rattle.rbc_checks.specs.Lines.{line_view}
-use Rattle.rbc_checks.specs.Blocks.{lines_view}
 use Rattle.rbc_checks.specs.declared.lines.CheckLine.{CheckLine as ReadLine}
 use Rattle.rbc_checks.specs.declared.certify.Parts.{Parts}
 use Rattle.rbc_checks.specs.declared.verdict.Verdict.{Verdict}
@@ -66,6 +65,6 @@ ArePartsOf levels value_of request words (Err fault) = (told : ℕ) (lines : Lis
     → RefusesOrMemory fault (verdict_of levels value_of request words told lines)
 
 -- the verdict on a head, a line behind it, and rows
-abbrev pub Judges : ReadLine → ReadLine → List ReadLine → Verdict → Type 0
+abbrev pub Judges : ReadLine → ReadLine → List CheckLine → Verdict → Type 0
 Judges head profile rows verdict =
-    AnswersBlock (line_view head ∷ line_view profile ∷ lines_view rows) (verdict_line verdict) (is_refusal verdict)
+    AnswersBlock (line_view head ∷ line_view profile ∷ rows) (verdict_line verdict) (is_refusal verdict)

@@ -5,9 +5,8 @@ ghost use Rattle.rbc_model.specs.CheckText.{CheckLine as Said, part_of, is_head,
 ghost use Rattle.rbc_checks.specs.Lines.{line_view, IsSaid};
 ghost use Rattle.rbc_checks.specs.Blocks.{block_lines};
 
-use crate::CheckLine;
+use crate::{CheckLine, Rows, Spare};
 use rbc_model::Part;
-use std::alloc::Global;
 use std::mem;
 
 /// The lines of the block that is open.
@@ -18,7 +17,7 @@ pub enum Block {
     /// A head.
     Head(CheckLine),
     /// A head, a profile, and the rows behind it.
-    Profile(CheckLine, CheckLine, Vec<CheckLine>),
+    Profile(CheckLine, CheckLine, Rows),
 }
 
 impl Block {
@@ -34,28 +33,31 @@ impl Block {
     }
 
     /// The block with one line more, or nothing where memory is refused.
-    pub fn with_line(self, alloc: Global, line: CheckLine) -> Option<Block>
+    #[inline(always)]
+    pub fn with_line(self, spare: &mut Spare, line: CheckLine) -> Option<Block>
         ensures { IfSome result (λ block. block_lines block ≡ block_lines self ++ line_view line ∷ []) }
     {
         match self {
             Block::None => Some(Block::Head(line)),
-            Block::Head(head) => Some(Block::Profile(head, line, Vec::new(alloc))),
+            Block::Head(head) => Some(Block::Profile(head, line, Rows::new(spare))),
             Block::Profile(head, profile, rows) => {
                 let mut rows = rows;
-                rows.push(line).ok()?;
+                if !rows.push(line) {
+                    return None;
+                }
                 Some(Block::Profile(head, profile, rows))
             }
         }
     }
 
     /// Puts a line behind the block, and answers whether there was memory for it.
-    pub fn add(&mut self, alloc: Global, line: CheckLine) -> bool
+    pub fn add(&mut self, spare: &mut Spare, line: CheckLine) -> bool
         ensures { result ≡ true → block_lines self.new ≡ block_lines self.old ++ line_view line ∷ [] }
     {
         if let Block::Profile(_, _, rows) = self {
-            return rows.push(line).is_ok();
+            return rows.push(line);
         }
-        match mem::replace(self, Block::None).with_line(alloc, line) {
+        match mem::replace(self, Block::None).with_line(spare, line) {
             Some(block) => {
                 *self = block;
                 true

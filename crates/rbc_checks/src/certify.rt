@@ -1,6 +1,6 @@
 //! Whether a block certifies its profile.
 
-ghost use Rattle.std.specs.Prelude.{◌≡◌, ◌==◌, Some};
+ghost use Rattle.std.specs.Prelude.{◌≡◌, [], ◌==◌, Some};
 ghost use Rattle.rbc_model.specs.Answers.{AnswersOrMemory};
 ghost use Rattle.rbc_model.specs.CheckText.{verdict_of, with_loss, rows_of, speed_of};
 ghost use Rattle.rbc_model.specs.Levels.{speed_levels, grade_levels};
@@ -8,12 +8,11 @@ ghost use Rattle.rbc_model.specs.PriceChecks.{price_check, last_price};
 ghost use Rattle.rbc_model.specs.Profiles.{profile_of};
 ghost use Rattle.rbc_table_laws.specs.PriceRows.{prices_of};
 ghost use Rattle.rbc_words.specs.StepsLines.{request_view};
-ghost use Rattle.rbc_checks.specs.Blocks.{lines_view};
 ghost use Rattle.rbc_checks.specs.Verdicts.{rows_verdict, steps_verdict, ArePartsOf};
 
-use crate::CheckLine;
 use crate::lines::ToldProfile;
-use crate::table::{Told, price_at, steps_of, table_of};
+use crate::table::{Told, price_at, steps_of};
+use crate::{Rows, Spare};
 use rbc_model::scales::unit_of;
 use rbc_model::{OrMemory, ProfileFault, Reason};
 use rbc_price::{Priced, Prices, check, column_count};
@@ -38,18 +37,20 @@ pub(crate) struct Parts<V: Level> {
 ///   count from 1 are `Shape`. A loss that is not the last price is `NotAttained`.
 /// - `Memory`
 pub(crate) fn certify_speeds(
-    alloc: Global,
+    spare: &mut Spare,
     request: StepsRequest<Speed>,
-    profile: ToldProfile,
-    rows: Vec<CheckLine>,
+    profile: &ToldProfile,
+    rows: &Rows,
 ) -> Result<(), OrMemory<Reason>>
     ensures { AnswersOrMemory result (verdict_of speed_levels speed_of (request_view request)
-        profile.steps.items profile.loss (lines_view rows.items)) }
+        profile.now.steps.items profile.now.loss rows.now) }
 {
-    let parts = parts_of(alloc, request, profile.steps.as_slice())?;
+    let parts = parts_of(spare.speeds(), request, profile.steps.as_slice())?;
     // A profile is large, and stays where it is.
     let made = Profile::new(parts.steps.as_slice(), parts.track.end());
-    certify(alloc, &parts, &made, profile.loss, rows)
+    let certified = certify(spare.alloc(), &parts, &made, profile.loss, rows);
+    spare.keep_speeds(parts.steps);
+    certified
 }
 
 /// The same of a profile of gradients.
@@ -58,38 +59,41 @@ pub(crate) fn certify_speeds(
 ///
 /// As there.
 pub(crate) fn certify_grades(
-    alloc: Global,
+    spare: &mut Spare,
     request: StepsRequest<Grade>,
-    profile: ToldProfile,
-    rows: Vec<CheckLine>,
+    profile: &ToldProfile,
+    rows: &Rows,
 ) -> Result<(), OrMemory<Reason>>
     ensures { AnswersOrMemory result (verdict_of grade_levels (λ value. Some value) (request_view request)
-        profile.steps.items profile.loss (lines_view rows.items)) }
+        profile.now.steps.items profile.now.loss rows.now) }
 {
-    let parts = parts_of(alloc, request, profile.steps.as_slice())?;
+    let parts = parts_of(spare.grades(), request, profile.steps.as_slice())?;
     // A profile is large, and stays where it is.
     let made = Profile::new(parts.steps.as_slice(), parts.track.end());
-    certify(alloc, &parts, &made, profile.loss, rows)
+    let certified = certify(spare.alloc(), &parts, &made, profile.loss, rows);
+    spare.keep_grades(parts.steps);
+    certified
 }
 
-/// The track of a request, and the steps told, as values of its kind.
+/// The track of a request, and the steps told, as values of its kind, which are put into an empty list.
 ///
 /// # Errors
 ///
 /// - `Refused`: `Shape`, where the runs make no track, or the kind has no such value.
 /// - `Memory`
 fn parts_of<V: Told>(
-    alloc: Global,
+    room: Vec<(u32, V)>,
     request: StepsRequest<V>,
     steps: &[(u32, i64)],
 ) -> Result<Parts<V>, OrMemory<Reason>>
+    requires { room.items ≡ [] }
     ensures { ArePartsOf V.levels V.value_of (request_view request) steps.now result }
 {
     let StepsRequest { limit, runs, end } = request;
     let Ok(track) = Runs::new(runs, end) else {
         return Err(OrMemory::Refused(Reason::Shape));
     };
-    let Some(steps) = steps_of::<V>(alloc, steps)? else {
+    let Some(steps) = steps_of::<V>(room, steps)? else {
         return Err(OrMemory::Refused(Reason::Shape));
     };
     Ok(Parts {
@@ -110,11 +114,11 @@ fn certify<V: Priced>(
     parts: &Parts<V>,
     made: &Result<Profile<V>, ProfileFault>,
     loss: u64,
-    rows: Vec<CheckLine>,
+    rows: &Rows,
 ) -> Result<(), OrMemory<Reason>>
     requires { made.now ≡ profile_of V.levels parts.now.track.end parts.now.steps.items }
     ensures { AnswersOrMemory result (steps_verdict V.levels parts.now.limit parts.now.track parts.now.steps.items
-        loss (rows_of 1 (lines_view rows.items))) }
+        loss (rows_of 1 rows.now)) }
 {
     match made {
         Ok(profile) => certify_profile(alloc, parts, profile, loss, rows),
@@ -132,15 +136,15 @@ fn certify_profile<V: Priced>(
     parts: &Parts<V>,
     profile: &Profile<V>,
     loss: u64,
-    rows: Vec<CheckLine>,
+    rows: &Rows,
 ) -> Result<(), OrMemory<Reason>>
     ensures { AnswersOrMemory result (rows_verdict V.levels parts.now.limit parts.now.track profile.now
-        loss (rows_of 1 (lines_view rows.items))) }
+        loss (rows_of 1 rows.now)) }
 {
-    let Some(prices) = table_of(alloc, rows)? else {
+    let Some(prices) = rows.table() else {
         return Err(OrMemory::Refused(Reason::Shape));
     };
-    match check_told(alloc, parts, profile, &prices, loss) {
+    match check_told(alloc, parts, profile, prices, loss) {
         Ok(()) => Ok(()),
         Err(reason) => Err(OrMemory::Refused(reason)),
     }

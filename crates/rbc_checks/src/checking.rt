@@ -12,7 +12,7 @@ ghost use Rattle.rbc_checks.specs.Replies.{reply_text, lost_text, Keeps};
 
 use crate::block::{Block, is_head, part_read};
 use crate::verdict::{Verdict, judge, print_said};
-use crate::{CheckLine, parse_check};
+use crate::{CheckLine, Spare, parse_check};
 use rbc_model::Part;
 use rbc_model::limits::LONGEST_CHECK_LINE;
 use rbc_streams::{Answers, SessionFault, Sink, Source, WriteFailed, converse, put};
@@ -21,10 +21,10 @@ use std::marker::Model;
 use std::mem;
 use std::thread::Threads;
 
-/// What is kept from line to line: the open block, and whether a block was refused so far.
+/// What is kept from line to line: the open block, whether a block was refused so far, and memory that is used again.
 #[derive(Drop)]
 struct Checker {
-    alloc: Global,
+    spare: Spare,
     block: Block,
     refused: bool,
 }
@@ -53,7 +53,7 @@ impl Checker {
         ensures { result ≡ unchecked }
     {
         Checker {
-            alloc,
+            spare: Spare::new(alloc),
             block: Block::None,
             refused: false,
         }
@@ -68,7 +68,7 @@ impl Checker {
         if matches!(self.block, Block::None) {
             return None;
         }
-        let said = judge(self.alloc, mem::replace(&mut self.block, Block::None));
+        let said = judge(&mut self.spare, mem::replace(&mut self.block, Block::None));
         self.refused = self.refused || said.is_some_and(Verdict::is_refusal);
         said
     }
@@ -78,7 +78,7 @@ impl Checker {
         ensures { Keeps self.old read result self.new }
     {
         if let Ok(line) = read
-            && self.block.add(self.alloc, line)
+            && self.block.add(&mut self.spare, line)
         {
             return false;
         }
@@ -91,7 +91,7 @@ impl Checker {
     fn read(&mut self, line: &[u8]) -> Reply
         ensures { AnswersShort Far self.old line.now (reply_text result) self.new }
     {
-        let read = parse_check(self.alloc, line);
+        let read = parse_check(&mut self.spare, line);
         let part = part_read(&read);
         if self.block.goes_on(part) {
             let lost = self.keep(read);

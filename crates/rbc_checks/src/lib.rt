@@ -5,6 +5,8 @@ mod block;
 mod certify;
 mod checking;
 mod lines;
+mod rows;
+mod spare;
 mod table;
 mod verdict;
 
@@ -17,4 +19,6 @@ pub use rbc_streams::{Answers, SessionFault, converse};
 pub use rbc_words::{
     StepsRequest, integer, is_text, next_word, number, print_number, print_signed, without_return,
 };
+pub use rows::Rows;
+pub use spare::Spare;
 pub use verdict::{Verdict, judge, print_said};

@@ -1,20 +1,21 @@
 //! A line of a text with certificates: what it says.
 
-ghost use Rattle.std.specs.Prelude.{◌≡◌, MatchResult, IfOk, Some, option_map};
+ghost use Rattle.std.specs.Prelude.{◌≡◌, [], MatchOption, IfOk, Some, true, false, option_map};
 ghost use Rattle.rbc_model.specs.declared.places.Format.TheVariants.{Far};
 ghost use Rattle.rbc_model.specs.declared.prices.Part.TheVariants.{Head, Profile, Row};
-ghost use Rattle.rbc_model.specs.CheckText.{check_line, words_said, head_line, SpeedHead, GradeHead};
+ghost use Rattle.rbc_model.specs.CheckText.{CheckLine as Said, check_line, words_said, head_line, SpeedHead, GradeHead, Other};
 ghost use Rattle.rbc_model.specs.CheckText.{profile_line, profile_in, price_line, numbers_in, step_in_word};
 ghost use Rattle.rbc_model.specs.Kinds.{speed_kind, grade_kind};
 ghost use Rattle.rbc_model.specs.StepsText.{request_in};
-ghost use Rattle.rbc_model.specs.Words.{words_of};
-ghost use Rattle.rbc_checks.specs.Lines.{IsSaid, profile_view, numbers_view};
+ghost use Rattle.rbc_model.specs.Words.{words_of, is_blank};
+ghost use Rattle.rbc_checks.specs.Lines.{IsSaid, are_text, command_said, is_in_form, profile_view, numbers_view};
 
+use crate::Spare;
 use rbc_model::limits::LONGEST_TRACK;
 use rbc_model::{Memory, OrMemory, Part};
 use rbc_steps::{Grade, Speed};
 use rbc_words::{
-    StepsRequest, around, integer, is_blank, is_text, next_word, number, request_in, without_return,
+    StepsRequest, around, integer, is_text, next_word, number, request_in, without_return,
 };
 use std::alloc::Global;
 
@@ -58,27 +59,67 @@ pub struct ToldRow {
 /// # Errors
 ///
 /// The part of a certificate that the line is, where there is no memory to keep what it says.
-pub fn parse_check(alloc: Global, line: &[u8]) -> Result<CheckLine, Part>
+pub fn parse_check(spare: &mut Spare, line: &[u8]) -> Result<CheckLine, Part>
     ensures { IsSaid result (check_line Far line.now) }
 {
     let text = without_return(line);
-    if is_blank(text) || !is_text(text) {
+    let Some((command, words)) = command_in(text) else {
+        return Ok(CheckLine::Other);
+    };
+    let read = command_said(spare, command, words);
+    // All words of a line in form are text, and so is the line.
+    if is_in_form(&read) {
+        return read;
+    }
+    if !is_text(text) {
         return Ok(CheckLine::Other);
     }
-    words_said(alloc, text)
+    read
 }
 
-/// What the words of a text say.
-fn words_said(alloc: Global, text: &[u8]) -> Result<CheckLine, Part>
-    ensures { IsSaid result (words_said Far (words_of text.now)) }
+/// Whether the line that was read is in form.
+fn is_in_form(read: &Result<CheckLine, Part>) -> bool
+    ensures { (said : Said) → IsSaid read.now said → result ≡ true → is_in_form said ≡ true }
 {
-    match next_word(text) {
-        None => Ok(CheckLine::Other),
-        Some((b"speed", words)) => speed_head(alloc, words),
-        Some((b"grade", words)) => grade_head(alloc, words),
-        Some((b"steps", words)) => told_profile(alloc, words),
-        Some((b"prices", words)) => told_row(alloc, words),
-        Some(_) => Ok(CheckLine::Other),
+    match read {
+        Ok(CheckLine::Bad(_) | CheckLine::Other) | Err(_) => false,
+        Ok(_) => true,
+    }
+}
+
+/// What a line of a certificate begins with.
+#[derive(Clone, Copy, Debug, PartialEq, Eq)]
+enum Command {
+    Speed,
+    Grade,
+    Steps,
+    Prices,
+}
+
+/// The command that a text begins with, if it does, and the words behind it.
+fn command_in(text: &[u8]) -> Option<(Command, &[u8])>
+    ensures { MatchOption result (words_said Far (words_of text.now) ≡ Other)
+        (λ found. (is_blank (words_of text.now) ≡ false) × (are_text (words_of text.now) ≡ are_text (words_of found.1.now))
+        × (words_said Far (words_of text.now) ≡ command_said found.0 (words_of found.1.now))) }
+{
+    match next_word(text)? {
+        (b"speed", words) => Some((Command::Speed, words)),
+        (b"grade", words) => Some((Command::Grade, words)),
+        (b"steps", words) => Some((Command::Steps, words)),
+        (b"prices", words) => Some((Command::Prices, words)),
+        _ => None,
+    }
+}
+
+/// What the words behind a command say.
+fn command_said(spare: &mut Spare, command: Command, words: &[u8]) -> Result<CheckLine, Part>
+    ensures { IsSaid result (command_said command (words_of words.now)) }
+{
+    match command {
+        Command::Speed => speed_head(spare.alloc(), words),
+        Command::Grade => grade_head(spare.alloc(), words),
+        Command::Steps => told_profile(spare.told(), words),
+        Command::Prices => told_row(spare.row(), words),
     }
 }
 
@@ -104,11 +145,12 @@ fn grade_head(alloc: Global, words: &[u8]) -> Result<CheckLine, Part>
     }
 }
 
-/// The profile in the words behind `steps`.
-fn told_profile(alloc: Global, words: &[u8]) -> Result<CheckLine, Part>
+/// The profile in the words behind `steps`, whose steps are put into an empty list.
+fn told_profile(steps: Vec<(u32, i64)>, words: &[u8]) -> Result<CheckLine, Part>
+    requires { steps.items ≡ [] }
     ensures { IsSaid result (profile_line (profile_in (words_of words.now))) }
 {
-    match profile_in(alloc, words) {
+    match profile_in(steps, words) {
         Ok(Some(profile)) => Ok(CheckLine::Profile(profile)),
         Ok(None) => Ok(CheckLine::Bad(Part::Profile)),
         Err(_) => Err(Part::Profile),
@@ -116,7 +158,8 @@ fn told_profile(alloc: Global, words: &[u8]) -> Result<CheckLine, Part>
 }
 
 /// Steps, the word `loss`, and the loss.
-fn profile_in(alloc: Global, words: &[u8]) -> Result<Option<ToldProfile>, Memory>
+fn profile_in(mut steps: Vec<(u32, i64)>, words: &[u8]) -> Result<Option<ToldProfile>, Memory>
+    requires { steps.items ≡ [] }
     ensures { IfOk result (λ found. option_map profile_view found ≡ profile_in (words_of words.now)) }
 {
     let Some((mut word, rest)) = next_word(words) else {
@@ -125,7 +168,6 @@ fn profile_in(alloc: Global, words: &[u8]) -> Result<Option<ToldProfile>, Memory
     let Some((mut next, mut rest)) = next_word(rest) else {
         return Ok(None);
     };
-    let mut steps = Vec::new(alloc);
     while let Some((last, more)) = next_word(rest) {
         let Some(step) = step_in_word(word) else {
             return Ok(None);
@@ -156,25 +198,26 @@ fn step_in_word(word: &[u8]) -> Option<(u32, i64)>
     Some((start as u32, integer(value)?))
 }
 
-/// The row of a price table in the words behind `prices`.
-fn told_row(alloc: Global, words: &[u8]) -> Result<CheckLine, Part>
+/// The row of a price table in the words behind `prices`, whose prices are put into an empty list.
+fn told_row(room: Vec<u64>, words: &[u8]) -> Result<CheckLine, Part>
+    requires { room.items ≡ [] }
     ensures { IsSaid result (price_line (numbers_in (words_of words.now))) }
 {
     let Some((first, rest)) = next_word(words) else {
         return Ok(CheckLine::Bad(Part::Row));
     };
-    match (number(first), numbers_in(alloc, rest)) {
+    match (number(first), numbers_in(room, rest)) {
         (Some(number), Ok(Some(prices))) => Ok(CheckLine::Row(ToldRow { number, prices })),
         (_, Err(_)) => Err(Part::Row),
         _ => Ok(CheckLine::Bad(Part::Row)),
     }
 }
 
-/// Words as numbers.
-fn numbers_in(alloc: Global, words: &[u8]) -> Result<Option<Vec<u64>>, Memory>
+/// Words as numbers, put into an empty list.
+fn numbers_in(mut numbers: Vec<u64>, words: &[u8]) -> Result<Option<Vec<u64>>, Memory>
+    requires { numbers.items ≡ [] }
     ensures { IfOk result (λ found. option_map numbers_view found ≡ numbers_in (words_of words.now)) }
 {
-    let mut numbers = Vec::new(alloc);
     let mut rest = words;
     while let Some((word, more)) = next_word(rest) {
         let Some(number) = number(word) else {

@@ -1,19 +1,15 @@
 //! The profile and the price table of a block, as they are checked.
 
-ghost use Rattle.std.specs.Prelude.{◌≡◌, ℤ, Option, Some, option_map, IfOk, slice_index};
+ghost use Rattle.std.specs.Prelude.{◌≡◌, [], ℤ, Option, Some, option_map, IfOk, slice_index};
 ghost use Rattle.rbc_model.specs.Answers.{AnswersOrMemory};
-ghost use Rattle.rbc_model.specs.CheckText.{speed_of, steps_of, rows_of};
+ghost use Rattle.rbc_model.specs.CheckText.{speed_of, steps_of};
 ghost use Rattle.rbc_model.specs.PriceTables.{table_at};
 ghost use Rattle.rbc_table_laws.specs.PriceRows.{prices_of};
-ghost use Rattle.rbc_checks.specs.Blocks.{lines_view};
-ghost use Rattle.rbc_checks.specs.Lines.{line_view};
-ghost use Rattle.rbc_checks.specs.Tables.{value_in, row_in, prices_view, steps_view, table_view};
+ghost use Rattle.rbc_checks.specs.Tables.{value_in, steps_view};
 
-use crate::CheckLine;
 use rbc_model::Memory;
 use rbc_price::Prices;
 use rbc_steps::{Grade, Level, Speed};
-use std::alloc::Global;
 
 /// A kind of level whose values are told as whole numbers.
 pub(crate) trait Told: Level {
@@ -43,14 +39,14 @@ impl Told for Grade {
     }
 }
 
-/// Steps (start, value), if the kind has each value.
+/// Steps (start, value), if the kind has each value, put into an empty list.
 pub(crate) fn steps_of<V: Told>(
-    alloc: Global,
+    mut steps: Vec<(u32, V)>,
     told: &[(u32, i64)],
 ) -> Result<Option<Vec<(u32, V)>>, Memory>
+    requires { steps.items ≡ [] }
     ensures { IfOk result (λ steps. option_map steps_view steps ≡ steps_of V.levels V.value_of told.now) }
 {
-    let mut steps = Vec::new(alloc);
     for step in told {
         let Some(value) = V::told(step.1) else {
             return Ok(None);
@@ -58,30 +54,6 @@ pub(crate) fn steps_of<V: Told>(
         steps.push((step.0, value))?;
     }
     Ok(Some(steps))
-}
-
-/// The prices of rows, if these are told under the numbers from 1 on.
-pub(crate) fn table_of(alloc: Global, lines: Vec<CheckLine>) -> Result<Option<Prices>, Memory>
-    ensures { IfOk result (λ rows. option_map table_view rows ≡ rows_of 1 (lines_view lines.items)) }
-{
-    let mut rows = Vec::new(alloc);
-    for line in lines {
-        let Some(prices) = row_of(line, rows.len() as u64 + 1) else {
-            return Ok(None);
-        };
-        rows.push(prices)?;
-    }
-    Ok(Some(rows))
-}
-
-/// The prices of a row, if the line is one and is told under this number.
-fn row_of(line: CheckLine, number: u64) -> Option<Vec<u64>>
-    ensures { option_map prices_view result ≡ row_in number (line_view line) }
-{
-    match line {
-        CheckLine::Row(row) if row.number == number => Some(row.prices),
-        _ => None,
-    }
 }
 
 /// The price in the row of so many steps and in this column; nothing is lost by no steps, or up to break 0.

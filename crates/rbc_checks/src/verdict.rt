@@ -6,13 +6,13 @@ ghost use Rattle.rbc_model.specs.Sessions.{Prints};
 ghost use Rattle.rbc_checks.specs.Blocks.{block_lines};
 ghost use Rattle.rbc_checks.specs.Verdicts.{verdict_line, said_text, is_refusal, is_bad, told_as, Judges};
 
-use crate::CheckLine;
 use crate::block::Block;
 use crate::certify::{certify_grades, certify_speeds};
+use crate::lines::ToldProfile;
+use crate::{CheckLine, Rows, Spare};
 use rbc_model::{OrMemory, Reason};
 use rbc_streams::{Sink, WriteFailed, put};
 use rbc_words::{print_last, print_number};
-use std::alloc::Global;
 
 /// What is said of a block.
 #[derive(Clone, Copy, Debug, PartialEq, Eq)]
@@ -40,35 +40,42 @@ impl Verdict {
 }
 
 /// What is said of a block; nothing, if none is open.
-pub fn judge(alloc: Global, block: Block) -> Option<Verdict>
+pub fn judge(spare: &mut Spare, block: Block) -> Option<Verdict>
     ensures { AnswersBlock (block_lines block) (said_text result) (is_bad result) }
 {
     match block {
         Block::None => None,
         Block::Head(_) => Some(Verdict::Refused(Reason::Shape)),
-        Block::Profile(head, profile, rows) => Some(judge_parts(alloc, head, profile, rows)),
+        Block::Profile(head, profile, rows) => Some(judge_parts(spare, head, profile, rows)),
     }
 }
 
-/// What is said of a head, a line behind it, and rows.
-fn judge_parts(alloc: Global, head: CheckLine, profile: CheckLine, rows: Vec<CheckLine>) -> Verdict
-    ensures { Judges head profile rows.items result }
+/// What is said of a head, a line behind it, and rows, whose memory is used again.
+fn judge_parts(spare: &mut Spare, head: CheckLine, profile: CheckLine, rows: Rows) -> Verdict
+    ensures { Judges head profile rows result }
 {
-    match (head, profile) {
-        (CheckLine::SpeedHead(track), CheckLine::Profile(profile)) => {
-            let loss = profile.loss;
-            told_as(
-                certify_speeds(alloc, track, profile, rows),
-                Verdict::Speed(loss),
-            )
-        }
-        (CheckLine::GradeHead(track), CheckLine::Profile(profile)) => {
-            let loss = profile.loss;
-            told_as(
-                certify_grades(alloc, track, profile, rows),
-                Verdict::Grade(loss),
-            )
-        }
+    let CheckLine::Profile(profile) = profile else {
+        return Verdict::Refused(Reason::Shape);
+    };
+    let verdict = judge_profile(spare, head, &profile, &rows);
+    spare.keep_told(profile.steps);
+    spare.keep_table(rows.into_table());
+    verdict
+}
+
+/// What is said of a head, a profile, and rows.
+fn judge_profile(spare: &mut Spare, head: CheckLine, profile: &ToldProfile, rows: &Rows) -> Verdict
+    ensures { Judges head (CheckLine.Profile profile.now) rows.now result }
+{
+    match head {
+        CheckLine::SpeedHead(track) => told_as(
+            certify_speeds(spare, track, profile, rows),
+            Verdict::Speed(profile.loss),
+        ),
+        CheckLine::GradeHead(track) => told_as(
+            certify_grades(spare, track, profile, rows),
+            Verdict::Grade(profile.loss),
+        ),
         _ => Verdict::Refused(Reason::Shape),
     }
 }

@@ -1,4 +1,5 @@
 mod EachLemmas
+mod RowLemmas
 mod FigureLemmas
 mod MarkLemmas
 mod PageLemmas

@@ -1,5 +1,5 @@
 -- A stair as a path, the strip of a grant, and the heading of a line, each by its parts.
-use Rattle.std.proofs.Common.{◌≡◌, ℕ, ◌+◌, Bool, true, List, [], ◌∷◌, ◌++◌, refl, sym, ap, ◌∙◌, codes, decimal}
+use Rattle.std.proofs.Common.{◌≡◌, ℕ, Bool, true, List, [], ◌∷◌, ◌++◌, refl, sym, ap, ◌∙◌, codes, decimal}
 use Rattle.std.specs.Prelude.{flat_map, pos}
 use Rattle.rbc_model.specs.Words.{without_return, words_of}
 use Rattle.rbc_draw.specs.declared.chart.Chart.{Chart}

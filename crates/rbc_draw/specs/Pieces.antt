@@ -2,7 +2,6 @@
 use Rattle.std.specs.Prelude.{ℕ, List, flat_map, decimal}
 use Rattle.std.specs.Fmt.{signed_decimal}
 use Rattle.rbc_model.specs.Words.{words_of}
-use Rattle.rbc_checks.specs.Blocks.{lines_view}
 use Rattle.rbc_draw.specs.declared.pieces.Atom.{Atom}
 use Rattle.rbc_draw.specs.declared.pieces.Atom.TheVariants.{Text as SmallText, Number as SmallNumber, Value, Signed, Escaped, Words, Prices}
 use Rattle.rbc_draw.specs.declared.pieces.Piece.{Piece}
@@ -25,4 +24,4 @@ piece_text (Text text) = text.now
 piece_text (Number number) = decimal number
 piece_text (Way chart places) = way_text (first_point chart) (corners chart places.now) (last_point chart)
 piece_text (Places measure places) = flat_map (place_text measure) places.now
-piece_text (Rows rows) = flat_map row_text (lines_view rows.now)
+piece_text (Rows rows) = flat_map row_text rows.now

@@ -1,6 +1,5 @@
 -- Shapes, figures and grants as they are held.
 use Rattle.rbc_model.specs.Words.{words_of}
-use Rattle.rbc_checks.specs.Blocks.{lines_view}
 use Rattle.rbc_draw.specs.declared.figure.Figure.{Figure as HeldFigure}
 use Rattle.rbc_draw.specs.declared.strip.Grant.{Grant as HeldGrant}
 use Rattle.rbc_draw.specs.declared.shapes.Shape.{Shape as HeldShape}
@@ -26,7 +25,7 @@ figure_view figure = record {
   track = figure.track.items;
   steps = figure.steps.items;
   loss = figure.loss;
-  rows = lines_view figure.rows.now;
+  rows = figure.rows.now;
 }
 
 -- a grant

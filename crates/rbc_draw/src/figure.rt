@@ -3,14 +3,14 @@
 ghost use Rattle.std.specs.Prelude.{◌≡◌, ◌++◌, ℤ, pos, false, map, IfOk, option_map, flat_map};
 ghost use Rattle.rbc_model.specs.Sessions.{Prints};
 ghost use Rattle.rbc_checks.specs.StepsLines.{request_view};
-ghost use Rattle.rbc_checks.specs.Blocks.{block_lines, lines_view};
+ghost use Rattle.rbc_checks.specs.Blocks.{block_lines};
 ghost use Rattle.rbc_draw.specs.Figures.{places_of, figure_of, figure_in, title_text, opening_text, closing_text, figure_text, shape_text, shapes_of};
 ghost use Rattle.rbc_draw.specs.Shapes.{figure_view};
 
 use crate::pieces::{Piece, print_pieces};
 use crate::shapes::{loss_text, print_chart, print_legend, print_scale, print_values};
 use crate::{Chart, Measure, Place};
-use rbc_checks::{Block, CheckLine, Grade, Level, Speed, StepsRequest, ToldProfile};
+use rbc_checks::{Block, CheckLine, Grade, Level, Rows, Speed, StepsRequest, ToldProfile};
 use rbc_model::Memory;
 use rbc_streams::{Sink, WriteFailed};
 use std::alloc::Global;
@@ -31,7 +31,7 @@ pub(crate) struct Figure<'a> {
     /// The loss told.
     pub(crate) loss: u64,
     /// The rows of the table of prices.
-    pub(crate) rows: &'a [CheckLine],
+    pub(crate) rows: &'a Rows,
 }
 
 /// What is drawn as a whole number: a speed in km/h, a gradient in per mille, or a value as it is told.
@@ -99,11 +99,11 @@ pub(crate) fn figure_in(alloc: Global, block: &Block) -> Result<Option<Figure<'_
 {
     match block {
         Block::Profile(CheckLine::SpeedHead(request), CheckLine::Profile(profile), rows) => {
-            let figure = figure_of(alloc, Measure::Speed, request, profile, rows.as_slice())?;
+            let figure = figure_of(alloc, Measure::Speed, request, profile, rows)?;
             Ok(Some(figure))
         }
         Block::Profile(CheckLine::GradeHead(request), CheckLine::Profile(profile), rows) => {
-            let figure = figure_of(alloc, Measure::Grade, request, profile, rows.as_slice())?;
+            let figure = figure_of(alloc, Measure::Grade, request, profile, rows)?;
             Ok(Some(figure))
         }
         _ => Ok(None),
@@ -115,10 +115,10 @@ fn figure_of<'a, V: Valued + Level>(
     measure: Measure,
     request: &StepsRequest<V>,
     profile: &ToldProfile,
-    rows: &'a [CheckLine],
+    rows: &'a Rows,
 ) -> Result<Figure<'a>, Memory>
     ensures { IfOk result (λ figure. figure_view figure
-        ≡ figure_of measure V.value (request_view request.now) profile.now.steps.items profile.now.loss (lines_view rows.now)) }
+        ≡ figure_of measure V.value (request_view request.now) profile.now.steps.items profile.now.loss rows.now) }
 {
     Ok(Figure {
         measure,
@@ -186,10 +186,10 @@ fn print_shapes<W: Sink>(figure: &Figure, writer: &mut W) -> Result<(), WriteFai
 }
 
 /// Writes a figure's end, and the table of prices under a fold.
-fn print_closing<W: Sink>(rows: &[CheckLine], writer: &mut W) -> Result<(), WriteFailed>
+fn print_closing<W: Sink>(rows: &Rows, writer: &mut W) -> Result<(), WriteFailed>
     requires { W.failed writer.old ≡ false }
     ensures { Prints (W.written writer.old) (W.written writer.new) (W.failed writer.new)
-        (closing_text (lines_view rows.now)) result }
+        (closing_text rows.now) result }
 {
     let pieces = [
         Piece::Text(b"</svg>\n<details><summary>Prices</summary>\n<pre>"),

@@ -22,8 +22,8 @@ use crate::figure::{Figure, figure_in, print_figure};
 use crate::pieces::{Atom, print_atoms};
 use crate::strip::{grant_in, print_strip};
 use rbc_checks::{
-    Block, CheckLine, Part, Verdict, is_head, is_text, judge, next_word, parse_check, part_read,
-    print_said, without_return,
+    Block, CheckLine, Part, Spare, Verdict, is_head, is_text, judge, next_word, parse_check,
+    part_read, print_said, without_return,
 };
 use rbc_model::limits::LONGEST_CHECK_LINE;
 use rbc_streams::{Answers, SessionFault, Sink, Source, WriteFailed, converse, put};
@@ -114,7 +114,7 @@ impl Drawer {
     {
         let block = mem::replace(&mut self.block, Block::None);
         if let Ok(line) = read
-            && let Some(block) = block.with_line(self.alloc, line)
+            && let Some(block) = block.with_line(&mut Spare::new(self.alloc), line)
         {
             self.block = block;
             return;
@@ -161,7 +161,7 @@ impl Drawer {
         if self.has_lost() {
             return Err(WriteFailed);
         }
-        let said = judge(self.alloc, block);
+        let said = judge(&mut Spare::new(self.alloc), block);
         if is_lost(said) {
             self.give_up();
             return Err(WriteFailed);
@@ -203,7 +203,7 @@ impl Drawer {
         ensures kept { Keeps self.old (ended self.old.block (check_line Far line.now))
             (opened self.old.block (check_line Far line.now)) self.new }
     {
-        let read = parse_check(self.alloc, line);
+        let read = parse_check(&mut Spare::new(self.alloc), line);
         let part = part_read(&read);
         if self.goes_on(part) {
             self.keep(read);

@@ -4,13 +4,14 @@ ghost use Rattle.std.specs.Prelude.{◌≡◌, false, ℕ, List, flat_map};
 ghost use Rattle.rbc_model.specs.Sessions.{Prints};
 ghost use Rattle.rbc_model.specs.Words.{words_of};
 ghost use Rattle.rbc_checks.specs.Lines.{line_view};
+ghost use Rattle.rbc_checks.specs.Rows.{numbered, prices_of};
 ghost use Rattle.rbc_draw.specs.Texts.{corner_text, place_text, price_text, row_line, row_text, escape, word_text, words_text};
 ghost use Rattle.rbc_draw.specs.Charts.{corner_at};
 ghost use Rattle.rbc_draw.specs.Figures.{way_text, first_point, last_point, corners};
 ghost use Rattle.rbc_draw.specs.Pieces.{atom_text, piece_text};
 
 use crate::{Chart, Measure, Place, Point};
-use rbc_checks::{CheckLine, next_word, print_number, print_signed};
+use rbc_checks::{CheckLine, Rows, next_word, print_number, print_signed};
 use rbc_streams::{Sink, WriteFailed, put};
 
 /// What is printed as text, on the ground of a `C`.
@@ -124,7 +125,7 @@ pub(crate) enum Piece<'a> {
     /// Places as words, each a metre, a colon and a value.
     Places(Measure, &'a [Place]),
     /// Rows of prices, each a line.
-    Rows(&'a [CheckLine]),
+    Rows(&'a Rows),
 }
 
 impl Printed<()> for Piece<'_> {
@@ -136,7 +137,7 @@ impl Printed<()> for Piece<'_> {
             Piece::Number(number) => print_number(*number, writer),
             Piece::Way(chart, places) => print_way(*chart, places, writer),
             Piece::Places(measure, places) => print_each(measure, places, writer),
-            Piece::Rows(rows) => print_each(&(), rows, writer),
+            Piece::Rows(rows) => print_rows(rows, writer),
         }
     }
 }
@@ -229,6 +230,31 @@ impl Printed<Measure> for Place {
         ];
         print_atoms(&word, writer)
     }
+}
+
+/// Writes rows of prices, each as a line.
+fn print_rows<W: Sink>(rows: &Rows, writer: &mut W) -> Result<(), WriteFailed>
+    requires { W.failed writer.old ≡ false }
+    ensures { Prints (W.written writer.old) (W.written writer.new) (W.failed writer.new)
+        (flat_map row_text rows.now) result }
+{
+    let (table, others) = rows.parts();
+    print_table(table, writer)?;
+    print_each(&(), others, writer)
+}
+
+/// Writes the rows of a table, from number 1 on, each as a line.
+fn print_table<W: Sink>(table: &[Vec<u64>], writer: &mut W) -> Result<(), WriteFailed>
+    requires { W.failed writer.old ≡ false }
+    ensures { Prints (W.written writer.old) (W.written writer.new) (W.failed writer.new)
+        (flat_map row_text (numbered 1 (prices_of table.now))) result }
+{
+    let mut number = 1;
+    for prices in table {
+        print_row(number, prices.as_slice(), writer)?;
+        number += 1;
+    }
+    Ok(())
 }
 
 /// A row of prices as a line.

@@ -1,5 +1,5 @@
 -- The columns of a table, and the least values of their stretches.
-use Rattle.std.proofs.Common.{◌≡◌, refl, ap, sym, ◌∙◌, arith, ℕ, zero, suc, ◌+◌, ◌-◌, ◌%◌, ◌<◌, ◌≤◌, Bool, true, false, [], ◌∷◌, ◌++◌, length, length-append, Some, if◌then◌else◌}
+use Rattle.std.proofs.Common.{◌≡◌, refl, ap, sym, ◌∙◌, arith, ℕ, zero, suc, ◌+◌, ◌-◌, ◌%◌, ◌<◌, ◌≤◌, Bool, true, false, [], ◌∷◌, ◌++◌, length, length-append, Some, slice_index, get_or, inl, inr, if◌then◌else◌}
 use Rattle.std.proofs.lemmas.List.{length-map}
 use Rattle.rbc_model.specs.declared.limits.TheConstants.{TEN_METRES}
 use Rattle.rbc_model.specs.Levels.{Levels, IsInRange, IsAtMost, IsLawful}
@@ -8,7 +8,7 @@ use Rattle.rbc_model.specs.PriceTables.{breaks_of, least_value, cost}
 use Rattle.rbc_model.specs.Scales.{unit_of}
 use Rattle.rbc_table_laws.specs.Breaks.{breaks_in, IsLowest}
 use Rattle.rbc_table_laws.specs.Stretches.{AreBreaksFor, breaks_for, cost_of_step}
-use Rattle.rbc_table_laws.proofs.TrackBreakLemmas.{breaks_are, in_track}
+use Rattle.rbc_table_laws.proofs.TrackBreakLemmas.{breaks_are, in_track, at_run, at_last, up_to_end}
 use Rattle.rbc_table_laws.proofs.TableLawLemmas.{breaks_walked}
 use Rattle.rbc_table_laws.proofs.StretchLemmas.{breaks_to_end, least_is, least_range}
 use Rattle.rbc_table_laws.proofs.LeastLemmas.{least_between, in_range_at, other_lower}
@@ -18,6 +18,7 @@ use Rattle.rbc_price.specs.Columns.{IsColumn, stretches_of, break_metre}
 use Rattle.rbc_price.specs.Costs.{stretch_value, is_stretch_at_most, IsCostAt}
 use Rattle.rbc_price.proofs.CostLemmas.{cost_at}
 use Rattle.rbc_model.proofs.ScaleLemmas.{some_unit}
+use Rattle.rbc_model.proofs.ScanLemmas.{le_or_lt}
 
 some_of : (test : Bool) → 0 < (if test then 1 else TEN_METRES)
 some_of true = omega arith
@@ -107,3 +108,38 @@ module _ {V : Type 0} (levels : Levels V) (lawful : IsLawful levels) (track : St
       cost_at levels lawful track function a.stretch.from b.stretch.to v price second.on_track.inside c
       ∙ ap (λ x. cost levels (value_at track.steps) x b.stretch.to) first.from
       ∙ ap (λ x. cost levels (value_at track.steps) (break_metre track a.index) x) second.to
+
+-- ---- at a unit of 1
+
+module _ {V : Type 0} (levels : Levels V) (track : StepFunction V) (function : IsTrackFunction levels track.end track.steps) where
+  -- where a run stops
+  pub stop_is : (i stop : ℕ) (d : ℕ × V) → i < length track.steps → (i + 1 < length track.steps → stop ≡ (get_or track.steps (i + 1) d).0)
+      → (length track.steps ≤ i + 1 → stop ≡ track.end) → stop ≡ slice_index (breaks_in track) (i + 1)
+  stop_is i stop d inside next last = elim (le_or_lt (length track.steps) (i + 1)) [
+    | inl h ↦ last h ∙ at_last levels track.end track.steps function (i + 1) (omega arith)
+    | inr h ↦ next h ∙ at_run levels track.end track.steps function (i + 1) d h
+  ]
+
+  -- each run is a column
+  pub column_of_run : unit_of track.end ≡ 1 → (column : Column) → column.index < length track.steps → column.stretch.first ≡ column.index
+      → column.stretch.from ≡ slice_index (breaks_in track) column.index → column.stretch.to ≡ slice_index (breaks_in track) (column.index + 1) → IsColumn track column
+  column_of_run one column here first from to =
+      let edges = in_track levels track.end track.steps function in
+      let count = edges.count in
+      let same : breaks_for (unit_of track.end) track ≡ breaks_in track = ap (λ unit. breaks_of unit track.end (starts_of track.steps)) one in
+      let rise = edges.rise column.index here in
+      let next : slice_index (breaks_in track) (column.stretch.first + 1) ≡ slice_index (breaks_in track) (column.index + 1) =
+      ap (λ i. slice_index (breaks_in track) (i + 1)) first in
+      let start : slice_index (breaks_in track) column.stretch.first ≡ slice_index (breaks_in track) column.index = ap (slice_index (breaks_in track)) first in
+      record {
+        on_track = record {
+          some = omega arith;
+          inside = let end = up_to_end track (breaks_in track) edges (column.index + 1) (omega arith) in omega arith;
+          run = omega arith;
+          low = omega arith;
+          high = omega arith;
+        };
+        between = let breaks = ap length same in omega arith;
+        from = from ∙ ap (λ breaks. slice_index breaks column.index) (sym same);
+        to = to ∙ ap (λ breaks. slice_index breaks (column.index + 1)) (sym same);
+      }

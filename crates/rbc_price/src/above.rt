@@ -9,7 +9,7 @@ use rbc_model::Reason;
 use rbc_steps::{Level, Profile, Runs};
 
 /// The metre at which the row of this index stops: where the next one starts, or the end.
-fn stop<V: Level>(rows: &[(u32, V)], index: usize, end: u32) -> u32
+pub(crate) fn stop<V: Level>(rows: &[(u32, V)], index: usize, end: u32) -> u32
     requires index { index < length rows.now }
     requires listed { IsStepList end rows.now }
     ensures before_end { result ≤ end }

@@ -1,10 +1,11 @@
 //! The columns of a table: one for each stretch of the track, from one break to the next. Breaks count from 0.
-ghost use Rattle.std.specs.Prelude.{◌≡◌, ℕ, ◌+◌, ◌%◌, ◌<◌, ◌≤◌, Some, None, slice_index};
+ghost use Rattle.std.specs.Prelude.{◌≡◌, ℕ, ◌+◌, ◌%◌, ◌<◌, ◌≤◌, length, Some, None, slice_index};
 ghost use Rattle.rbc_model.specs.Profiles.{IsTrackFunction};
 ghost use Rattle.rbc_model.specs.Scales.{unit_of};
 ghost use Rattle.rbc_table_laws.specs.Stretches.{breaks_for};
 ghost use Rattle.rbc_price.specs.Columns.{IsColumn, stretches_of};
 
+use crate::above::stop;
 use rbc_model::scales::unit_of;
 use rbc_steps::{Level, Runs};
 use rbc_stretches::{Stretch, first_stretch, stretch_before, stretch_behind};
@@ -28,6 +29,38 @@ pub(crate) fn first_column<V: Level>(track: &Runs<V>) -> Column
     }
 }
 
+/// The column of a run where the track is cut at single metres: each run is a stretch.
+fn column_of_run<V: Level>(track: &Runs<V>, run: usize) -> Column
+    requires unit { unit_of track.now.end ≡ 1 }
+    requires inside { run < length track.now.steps }
+    ensures column { IsColumn track.now result }
+    ensures index { result.index ≡ run }
+{
+    let runs = track.runs();
+    Column {
+        index: run,
+        stretch: Stretch {
+            from: runs[run].0,
+            to: stop(runs, run, track.end()),
+            first: run,
+        },
+    }
+}
+
+/// The column of the run behind another, if that is not the last one.
+fn run_behind<V: Level>(track: &Runs<V>, run: usize) -> Option<Column>
+    requires unit { unit_of track.now.end ≡ 1 }
+    requires inside { run < length track.now.steps }
+    ensures behind { (next : Column) → result ≡ Some next → IsColumn track.now next }
+    ensures index { (next : Column) → result ≡ Some next → next.index ≡ run + 1 }
+    ensures last { result ≡ None → run + 1 ≡ length track.now.steps }
+{
+    if run == track.runs().len() - 1 {
+        return None;
+    }
+    Some(column_of_run(track, run + 1))
+}
+
 /// The column behind another, if it is not the last one.
 pub(crate) fn column_behind<V: Level>(track: &Runs<V>, column: Column) -> Option<Column>
     requires whole { track.now.end % unit_of track.now.end ≡ 0 }
@@ -36,7 +69,11 @@ pub(crate) fn column_behind<V: Level>(track: &Runs<V>, column: Column) -> Option
     ensures index { (next : Column) → result ≡ Some next → next.index ≡ column.index + 1 }
     ensures last { result ≡ None → column.index + 1 ≡ stretches_of track.now }
 {
-    let stretch = stretch_behind(track, unit_of(track.end()), column.stretch)?;
+    let unit = unit_of(track.end());
+    if unit == 1 {
+        return run_behind(track, column.index);
+    }
+    let stretch = stretch_behind(track, unit, column.stretch)?;
     Some(Column {
         index: column.index + 1,
         stretch,
@@ -54,7 +91,11 @@ pub(crate) fn column_before<V: Level>(track: &Runs<V>, column: Column) -> Option
     if column.index == 0 {
         return None;
     }
-    let stretch = stretch_before(track, unit_of(track.end()), column.stretch)?;
+    let unit = unit_of(track.end());
+    if unit == 1 {
+        return Some(column_of_run(track, column.index - 1));
+    }
+    let stretch = stretch_before(track, unit, column.stretch)?;
     Some(Column {
         index: column.index - 1,
         stretch,
