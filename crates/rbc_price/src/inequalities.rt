@@ -75,7 +75,7 @@ fn first_from_break<V: Level>(
     ensures { IsFirst V.levels track.now (prices_of rows.now)
         (λ f to. (f ≡ from.index) × IsLowestStretch V.levels track.now f to lowest.column.index) result }
 {
-    let _end = track.end();
+    track.known();
     let Lowest { column, level } = lowest;
     let mut cost = cost;
     let mut last = column;
@@ -100,7 +100,7 @@ fn first_over<V: Level>(track: &Runs<V>, rows: &[Vec<u64>], column: Column) -> O
     ensures { IsFirst V.levels track.now (prices_of rows.now)
         (λ from to. IsLowestStretch V.levels track.now from to column.index) result }
 {
-    let _end = track.end();
+    track.known();
     let level = least_on(track, column.stretch);
     let lowest = Lowest { column, level };
     let mut cost = price_on(track, column.stretch, level.floor());
@@ -123,7 +123,7 @@ fn first_of_all<V: Level>(track: &Runs<V>, rows: &[Vec<u64>]) -> Option<Place>
     requires wide { AreWide (stretches_of track.now) rows.now }
     ensures { IsFirst V.levels track.now (prices_of rows.now) (λ from to. Unit {0}) result }
 {
-    let _end = track.end();
+    track.known();
     let mut lowest = first_column(track);
     let mut first = first_over(track, rows, lowest);
     while let Some(next) = column_behind(track, lowest) {
@@ -149,7 +149,7 @@ fn is_sound_up_to<V: Level>(track: &Runs<V>, rows: &[Vec<u64>], last: Column) ->
     requires last { IsColumn track.now last }
     ensures { IsTrue result → IsFirst V.levels track.now (prices_of rows.now) (λ from to. to ≡ last.index + 1) None }
 {
-    let _end = track.end();
+    track.known();
     let mut from = last;
     let mut least = least_on(track, last.stretch);
     let mut cost = price_on(track, last.stretch, least.floor());
@@ -175,7 +175,7 @@ fn is_sound_by_pairs<V: Level>(track: &Runs<V>, rows: &[Vec<u64>]) -> bool
     requires wide { AreWide (stretches_of track.now) rows.now }
     ensures { IsTrue result → IsFirst V.levels track.now (prices_of rows.now) (λ from to. Unit {0}) None }
 {
-    let _end = track.end();
+    track.known();
     let mut last = first_column(track);
     if !is_sound_up_to(track, rows, last) {
         return false;

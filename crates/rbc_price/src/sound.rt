@@ -82,7 +82,7 @@ fn is_sound_in<V: Level, N: Total>(
     ensures { IfOk result (λ sound. IsTrue sound
         → IsFirst V.levels track.now (prices_of rows.now) (λ from to. Unit {0}) None) }
 {
-    let _runs = track.runs();
+    track.known();
     if rows.is_empty() {
         return Ok(false);
     }
@@ -119,7 +119,7 @@ pub(crate) fn is_sound<V: Priced>(
     ensures { IfOk result (λ sound. IsTrue sound
         → IsFirst V.levels track.now (prices_of rows.now) (λ from to. Unit {0}) None) }
 {
-    let _runs = track.runs();
+    track.known();
     if V::is_low() {
         return is_sound_in::<V, u32>(alloc, track, rows);
     }

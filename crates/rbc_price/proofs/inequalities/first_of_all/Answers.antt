@@ -44,7 +44,7 @@ returns g c =
     (λ from to. (lowest : ℕ) × (lowest ≤ c.loop-next.lowest.index) × IsLowestStretch g.V.Level.levels c.args.track.now from to lowest)
     (λ from to. Unit {0}) c.loop-next.first
     (λ from to on column j.
-    let there = some_lowest g.V.Level.levels level.lawful c.args.track.now c.end-end.ensures.track c.requires.whole from to on column in
+    let there = some_lowest g.V.Level.levels level.lawful c.args.track.now c.known.ensures.track c.requires.whole from to on column in
     let high = there.1.high in
     (there.0, omega arith, there.1)) c.loop-next.invariant.first
 
@@ -53,5 +53,5 @@ loop-next-smaller g c =
     let level = g.met.V.Level g.world.𝓛 g.world.𝓜 g.world.𝓡 ((λ s x. x), (λ x. x), (λ x. x), λ x. x) in
     let next = c.in-Some.ensures.behind c.in-Some.next refl in
     let index = c.in-Some.ensures.index c.in-Some.next refl in
-    let room = inside g.V.Level.levels level.lawful c.args.track.now c.end-end.ensures.track c.requires.whole c.in-Some.next next in
+    let room = inside g.V.Level.levels level.lawful c.args.track.now c.known.ensures.track c.requires.whole c.in-Some.next next in
     omega arith

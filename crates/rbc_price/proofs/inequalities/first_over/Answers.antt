@@ -13,12 +13,12 @@ use Rattle.std.proofs.lemmas.Bool.{cases_lt}
 pub price_on-cost-requires-clause-given_in_range : goal.price_on-cost-requires-clause-given_in_range
 price_on-cost-requires-clause-given_in_range g c κs within =
     let level = g.met.V.Level g.world.𝓛 g.world.𝓜 g.world.𝓡 ((λ s x. x), (λ x. x), (λ x. x), λ x. x) in
-    rw c.floor.ensures (floor_range g.V.Level.levels level.lawful c.args.track.now c.end-end.ensures.track c.args.column.stretch.from c.args.column.stretch.to c.least_on-level.result c.requires.column.on_track.inside c.least_on-level.ensures)
+    rw c.floor.ensures (floor_range g.V.Level.levels level.lawful c.args.track.now c.known.ensures.track c.args.column.stretch.from c.args.column.stretch.to c.least_on-level.result c.requires.column.on_track.inside c.least_on-level.ensures)
 
 pub price_on-cost-requires-clause-below : goal.price_on-cost-requires-clause-below
 price_on-cost-requires-clause-below g c κs within = λ x v from_low to_high at.
     let level = g.met.V.Level g.world.𝓛 g.world.𝓜 g.world.𝓡 ((λ s x. x), (λ x. x), (λ x. x), λ x. x) in
-    rw c.floor.ensures (floor_under g.V.Level.levels level.lawful c.args.track.now c.end-end.ensures.track c.args.column.stretch.from c.args.column.stretch.to c.least_on-level.result c.requires.column.on_track.inside c.least_on-level.ensures x v from_low to_high at)
+    rw c.floor.ensures (floor_under g.V.Level.levels level.lawful c.args.track.now c.known.ensures.track c.args.column.stretch.from c.args.column.stretch.to c.least_on-level.result c.requires.column.on_track.inside c.least_on-level.ensures x v from_low to_high at)
 
 first_cost : (g : Over) (c : After-price_on-cost g)
     → IsCostAt g.V.Level.levels c.args.track.now c.args.column.stretch.from c.args.column.stretch.to c.least_on-level.result c.price_on-cost.result
@@ -48,7 +48,7 @@ returns-then-not-is_at_most g c =
     let index = c.in-Some.ensures.index c.in-Some.before refl in
     let order = c.loop-before.invariant.order in
     let lower : is_stretch_at_most g.V.Level.levels c.args.track.now c.args.column.index c.in-Some.before.index ≡ false =
-    stretch_order g.V.Level.levels level.lawful c.args.track.now c.end-end.ensures.track c.requires.whole c.args.column c.in-Some.before c.least_on-level.result c.least_on.result c.requires.column before c.least_on-level.ensures c.least_on.ensures
+    stretch_order g.V.Level.levels level.lawful c.args.track.now c.known.ensures.track c.requires.whole c.args.column c.in-Some.before c.least_on-level.result c.least_on.result c.requires.column before c.least_on-level.ensures c.least_on.ensures
     ∙ sym c.is_at_most.ensures ∙ c.if-not-is_at_most.true in
     first_of_fewer g.V.Level.levels c.args.track.now (prices_of c.args.rows.now) (λ f to. (c.loop-before.from.index ≤ f) × IsLowestStretch g.V.Level.levels c.args.track.now f to c.args.column.index)
     (λ f to. IsLowestStretch g.V.Level.levels c.args.track.now f to c.args.column.index) c.loop-before.first
@@ -65,20 +65,20 @@ price_on-cost-requires-in-Some-clause-given_in_range g c κs within =
     let level = g.met.V.Level g.world.𝓛 g.world.𝓜 g.world.𝓡 ((λ s x. x), (λ x. x), (λ x. x), λ x. x) in
     let before = c.in-Some.ensures.before c.in-Some.before refl in
     let index = c.in-Some.ensures.index c.in-Some.before refl in
-    let joined = adjacent g.V.Level.levels level.lawful c.args.track.now c.end-end.ensures.track c.requires.whole c.in-Some.before c.loop-before.from before c.loop-before.invariant.from (sym index) in
+    let joined = adjacent g.V.Level.levels level.lawful c.args.track.now c.known.ensures.track c.requires.whole c.in-Some.before c.loop-before.from before c.loop-before.invariant.from (sym index) in
     let behind_it = subst (λ x. IsCostAt g.V.Level.levels c.args.track.now x c.args.column.stretch.to c.least_on-level.result c.loop-before.cost) (sym joined) c.loop-before.invariant.cost in
     let low = sym c.is_at_most.ensures ∙ c.if-not-is_at_most.false in
-    rw c.floor-in-Some.ensures (front_range g.V.Level.levels level.lawful c.args.track.now c.end-end.ensures.track c.in-Some.before.stretch.from c.in-Some.before.stretch.to c.args.column.stretch.to c.least_on-level.result c.least_on.result c.loop-before.cost c.requires.column.on_track.inside behind_it c.least_on.ensures low)
+    rw c.floor-in-Some.ensures (front_range g.V.Level.levels level.lawful c.args.track.now c.known.ensures.track c.in-Some.before.stretch.from c.in-Some.before.stretch.to c.args.column.stretch.to c.least_on-level.result c.least_on.result c.loop-before.cost c.requires.column.on_track.inside behind_it c.least_on.ensures low)
 
 pub price_on-cost-requires-in-Some-clause-below : goal.price_on-cost-requires-in-Some-clause-below
 price_on-cost-requires-in-Some-clause-below g c κs within = λ x v from_low to_high at.
     let level = g.met.V.Level g.world.𝓛 g.world.𝓜 g.world.𝓡 ((λ s x. x), (λ x. x), (λ x. x), λ x. x) in
     let before = c.in-Some.ensures.before c.in-Some.before refl in
     let index = c.in-Some.ensures.index c.in-Some.before refl in
-    let joined = adjacent g.V.Level.levels level.lawful c.args.track.now c.end-end.ensures.track c.requires.whole c.in-Some.before c.loop-before.from before c.loop-before.invariant.from (sym index) in
+    let joined = adjacent g.V.Level.levels level.lawful c.args.track.now c.known.ensures.track c.requires.whole c.in-Some.before c.loop-before.from before c.loop-before.invariant.from (sym index) in
     let behind_it = subst (λ x. IsCostAt g.V.Level.levels c.args.track.now x c.args.column.stretch.to c.least_on-level.result c.loop-before.cost) (sym joined) c.loop-before.invariant.cost in
     let low = sym c.is_at_most.ensures ∙ c.if-not-is_at_most.false in
-    rw c.floor-in-Some.ensures (front_below g.V.Level.levels level.lawful c.args.track.now c.end-end.ensures.track c.in-Some.before.stretch.from c.in-Some.before.stretch.to c.args.column.stretch.to c.least_on-level.result c.least_on.result c.loop-before.cost c.requires.column.on_track.inside behind_it c.least_on.ensures low x v from_low to_high at)
+    rw c.floor-in-Some.ensures (front_below g.V.Level.levels level.lawful c.args.track.now c.known.ensures.track c.in-Some.before.stretch.from c.in-Some.before.stretch.to c.args.column.stretch.to c.least_on-level.result c.least_on.result c.loop-before.cost c.requires.column.on_track.inside behind_it c.least_on.ensures low x v from_low to_high at)
 
 cost_here : (g : Over) (c : After-price_on-cost-in-Some g)
     → IsCostAt g.V.Level.levels c.args.track.now c.in-Some.before.stretch.from c.args.column.stretch.to c.least_on-level.result (c.loop-before.cost + c.price_on-cost-in-Some.result)
@@ -86,17 +86,17 @@ cost_here g c =
     let level = g.met.V.Level g.world.𝓛 g.world.𝓜 g.world.𝓡 ((λ s x. x), (λ x. x), (λ x. x), λ x. x) in
     let before = c.in-Some.ensures.before c.in-Some.before refl in
     let index = c.in-Some.ensures.index c.in-Some.before refl in
-    let joined = adjacent g.V.Level.levels level.lawful c.args.track.now c.end-end.ensures.track c.requires.whole c.in-Some.before c.loop-before.from before c.loop-before.invariant.from (sym index) in
+    let joined = adjacent g.V.Level.levels level.lawful c.args.track.now c.known.ensures.track c.requires.whole c.in-Some.before c.loop-before.from before c.loop-before.invariant.from (sym index) in
     let behind_it = subst (λ x. IsCostAt g.V.Level.levels c.args.track.now x c.args.column.stretch.to c.least_on-level.result c.loop-before.cost) (sym joined) c.loop-before.invariant.cost in
     let low = sym c.is_at_most.ensures ∙ c.if-not-is_at_most.false in
-    in_front g.V.Level.levels level.lawful c.args.track.now c.end-end.ensures.track c.in-Some.before.stretch.from c.in-Some.before.stretch.to c.args.column.stretch.to c.least_on-level.result c.least_on.result c.loop-before.cost c.requires.column.on_track.inside behind_it c.least_on.ensures low
+    in_front g.V.Level.levels level.lawful c.args.track.now c.known.ensures.track c.in-Some.before.stretch.from c.in-Some.before.stretch.to c.args.column.stretch.to c.least_on-level.result c.least_on.result c.loop-before.cost c.requires.column.on_track.inside behind_it c.least_on.ensures low
     c.price_on-cost-in-Some.result (rw c.floor-in-Some.ensures at c.price_on-cost-in-Some.ensures.price) c.price_on-cost-in-Some.ensures.bound
 
 pub overflow_add-cost : goal.overflow_add-cost
 overflow_add-cost g c =
     let bound = (cost_here g (goal.at.overflow_add-cost g c).After-price_on-cost-in-Some).bound in
     let end = c.requires.column.on_track.inside in
-    let near = c.end-end.ensures.within_limit in
+    let near = c.known.ensures.within_limit in
     omega arith
 
 pub first_from_break-requires-clause-cost : goal.first_from_break-requires-clause-cost

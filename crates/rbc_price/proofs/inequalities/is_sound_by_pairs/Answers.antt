@@ -33,5 +33,5 @@ loop-next-smaller g c =
     let level = g.met.V.Level g.world.𝓛 g.world.𝓜 g.world.𝓡 ((λ s x. x), (λ x. x), (λ x. x), λ x. x) in
     let next = c.in-Some.ensures.behind c.in-Some.next refl in
     let index = c.in-Some.ensures.index c.in-Some.next refl in
-    let room = inside g.V.Level.levels level.lawful c.args.track.now c.end-end.ensures.track c.requires.whole c.in-Some.next next in
+    let room = inside g.V.Level.levels level.lawful c.args.track.now c.known.ensures.track c.requires.whole c.in-Some.next next in
     omega arith

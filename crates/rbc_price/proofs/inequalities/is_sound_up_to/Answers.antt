@@ -12,48 +12,48 @@ use Rattle.std.proofs.lemmas.Bool.{cases_lt}
 pub price_on-cost-requires-clause-given_in_range : goal.price_on-cost-requires-clause-given_in_range
 price_on-cost-requires-clause-given_in_range g c κs within =
     let level = g.met.V.Level g.world.𝓛 g.world.𝓜 g.world.𝓡 ((λ s x. x), (λ x. x), (λ x. x), λ x. x) in
-    rw c.floor.ensures (floor_range g.V.Level.levels level.lawful c.args.track.now c.end-end.ensures.track c.args.last.stretch.from c.args.last.stretch.to c.least_on-least.result c.requires.last.on_track.inside c.least_on-least.ensures)
+    rw c.floor.ensures (floor_range g.V.Level.levels level.lawful c.args.track.now c.known.ensures.track c.args.last.stretch.from c.args.last.stretch.to c.least_on-least.result c.requires.last.on_track.inside c.least_on-least.ensures)
 
 pub price_on-cost-requires-clause-below : goal.price_on-cost-requires-clause-below
 price_on-cost-requires-clause-below g c κs within = λ x v from_low to_high at.
     let level = g.met.V.Level g.world.𝓛 g.world.𝓜 g.world.𝓡 ((λ s x. x), (λ x. x), (λ x. x), λ x. x) in
-    rw c.floor.ensures (floor_under g.V.Level.levels level.lawful c.args.track.now c.end-end.ensures.track c.args.last.stretch.from c.args.last.stretch.to c.least_on-least.result c.requires.last.on_track.inside c.least_on-least.ensures x v from_low to_high at)
+    rw c.floor.ensures (floor_under g.V.Level.levels level.lawful c.args.track.now c.known.ensures.track c.args.last.stretch.from c.args.last.stretch.to c.least_on-least.result c.requires.last.on_track.inside c.least_on-least.ensures x v from_low to_high at)
 
 pub are_low-requires-clause-wide : goal.are_low-requires-clause-wide
 are_low-requires-clause-wide g c =
     let level = g.met.V.Level g.world.𝓛 g.world.𝓜 g.world.𝓡 ((λ s x. x), (λ x. x), (λ x. x), λ x. x) in
-    let room = inside g.V.Level.levels level.lawful c.args.track.now c.end-end.ensures.track c.requires.whole c.args.last c.requires.last in
+    let room = inside g.V.Level.levels level.lawful c.args.track.now c.known.ensures.track c.requires.whole c.args.last c.requires.last in
     record { width = stretches_of c.args.track.now; wide = c.requires.wide; room = omega arith }
 
 pub are_low-requires-in-Some-clause-wide : goal.are_low-requires-in-Some-clause-wide
 are_low-requires-in-Some-clause-wide g c =
     let level = g.met.V.Level g.world.𝓛 g.world.𝓜 g.world.𝓡 ((λ s x. x), (λ x. x), (λ x. x), λ x. x) in
-    let room = inside g.V.Level.levels level.lawful c.args.track.now c.end-end.ensures.track c.requires.whole c.args.last c.requires.last in
+    let room = inside g.V.Level.levels level.lawful c.args.track.now c.known.ensures.track c.requires.whole c.args.last c.requires.last in
     record { width = stretches_of c.args.track.now; wide = c.requires.wide; room = omega arith }
 
 pub overflow_add-last : goal.overflow_add-last
 overflow_add-last g c =
     let level = g.met.V.Level g.world.𝓛 g.world.𝓜 g.world.𝓡 ((λ s x. x), (λ x. x), (λ x. x), λ x. x) in
-    let small = index_small g.V.Level.levels level.lawful c.args.track.now c.end-end.ensures.track c.requires.whole c.args.last c.requires.last in
-    let near = c.end-end.ensures.within_limit in
+    let small = index_small g.V.Level.levels level.lawful c.args.track.now c.known.ensures.track c.requires.whole c.args.last c.requires.last in
+    let near = c.known.ensures.within_limit in
     omega arith
 
 pub overflow_add-last-in-Some : goal.overflow_add-last-in-Some
 overflow_add-last-in-Some g c =
     let level = g.met.V.Level g.world.𝓛 g.world.𝓜 g.world.𝓡 ((λ s x. x), (λ x. x), (λ x. x), λ x. x) in
-    let small = index_small g.V.Level.levels level.lawful c.args.track.now c.end-end.ensures.track c.requires.whole c.args.last c.requires.last in
-    let near = c.end-end.ensures.within_limit in
+    let small = index_small g.V.Level.levels level.lawful c.args.track.now c.known.ensures.track c.requires.whole c.args.last c.requires.last in
+    let near = c.known.ensures.within_limit in
     omega arith
 
 pub loop-before-init : goal.loop-before-init
 loop-before-init g c =
     let level = g.met.V.Level g.world.𝓛 g.world.𝓜 g.world.𝓡 ((λ s x. x), (λ x. x), (λ x. x), λ x. x) in
-    let room = inside g.V.Level.levels level.lawful c.args.track.now c.end-end.ensures.track c.requires.whole c.args.last c.requires.last in
+    let room = inside g.V.Level.levels level.lawful c.args.track.now c.known.ensures.track c.requires.whole c.args.last c.requires.last in
     let lost : IsLostByFloor g.V.Level.levels c.args.track.now c.args.last.stretch.from c.args.last.stretch.to c.least_on-least.result c.price_on-cost.result =
     record { lost = rw c.floor.ensures at c.price_on-cost.ensures.price; bound = c.price_on-cost.ensures.bound } in
     let is : IsCostAt g.V.Level.levels c.args.track.now c.args.last.stretch.from c.args.last.stretch.to c.least_on-least.result c.price_on-cost.result =
     record { lowest = c.least_on-least.ensures; lost = lost.lost; bound = lost.bound } in
-    let cost = cost_of g.V.Level.levels level.lawful c.args.track.now c.end-end.ensures.track c.requires.whole c.args.last c.args.last c.least_on-least.result c.price_on-cost.result c.requires.last c.requires.last is in
+    let cost = cost_of g.V.Level.levels level.lawful c.args.track.now c.known.ensures.track c.requires.whole c.args.last c.args.last c.least_on-least.result c.price_on-cost.result c.requires.last c.requires.last is in
     record {
       from = c.requires.last;
       order = omega arith;
@@ -69,7 +69,7 @@ loop-before-init g c =
 pub loop-before-preserved : goal.loop-before-preserved
 loop-before-preserved g c =
     let level = g.met.V.Level g.world.𝓛 g.world.𝓜 g.world.𝓡 ((λ s x. x), (λ x. x), (λ x. x), λ x. x) in
-    let room = inside g.V.Level.levels level.lawful c.args.track.now c.end-end.ensures.track c.requires.whole c.args.last c.requires.last in
+    let room = inside g.V.Level.levels level.lawful c.args.track.now c.known.ensures.track c.requires.whole c.args.last c.requires.last in
     let before = c.in-Some.ensures.before c.in-Some.before refl in
     let index = c.in-Some.ensures.index c.in-Some.before refl in
     let order = c.loop-before.invariant.order in
@@ -77,7 +77,7 @@ loop-before-preserved g c =
     let lost = c.further-lowest.ensures.lost in
     let is : IsCostAt g.V.Level.levels c.args.track.now c.in-Some.before.stretch.from c.args.last.stretch.to c.further-lowest.result.0 c.further-lowest.result.1 =
     record { lowest = least; lost = lost.lost; bound = lost.bound } in
-    let cost = cost_of g.V.Level.levels level.lawful c.args.track.now c.end-end.ensures.track c.requires.whole c.in-Some.before c.args.last c.further-lowest.result.0 c.further-lowest.result.1 before c.requires.last is in
+    let cost = cost_of g.V.Level.levels level.lawful c.args.track.now c.known.ensures.track c.requires.whole c.in-Some.before c.args.last c.further-lowest.result.0 c.further-lowest.result.1 before c.requires.last is in
     record {
       from = before;
       order = omega (arith, index);

@@ -14,8 +14,8 @@ cheap_here : (g : Over) (c : After-is_low g) (most total : ℕ) → ArePricesAtM
     → cost_of_step g.V.Level.levels (unit_of c.args.track.now.end) c.args.track.now i to ≤ total
 cheap_here g c most total low room i to h inside =
     let level = g.met.V.Level g.world.𝓛 g.world.𝓜 g.world.𝓡 ((λ s x. x), (λ x. x), (λ x. x), λ x. x) in
-    let breaks = are_breaks g.V.Level.levels level.lawful c.args.track.now c.runs-runs.ensures.track c.requires.whole in
-    costs_bounded g.V.Level.levels level.lawful c.args.track.now c.runs-runs.ensures.track most low (unit_of c.args.track.now.end) breaks c.runs-runs.ensures.within_limit total room i to h (omega (arith, h))
+    let breaks = are_breaks g.V.Level.levels level.lawful c.args.track.now c.known.ensures.track c.requires.whole in
+    costs_bounded g.V.Level.levels level.lawful c.args.track.now c.known.ensures.track most low (unit_of c.args.track.now.end) breaks c.known.ensures.within_limit total room i to h (omega (arith, h))
 
 pub is_sound_in-requires-clause-small : goal.is_sound_in-requires-clause-small
 is_sound_in-requires-clause-small g c κs within =
