@@ -2,6 +2,7 @@
 
 ghost use Rattle.std.specs.Prelude.{◌≡◌, ◌+◌, ◌-◌, ◌≤◌, ◌<◌, ◌++◌, ◌∷◌, [], length, take, vec_len, true};
 ghost use Rattle.std.specs.Prelude.{map, replicate, slice_get, All, Some, Ok, Err, IfOk, IfErr, IfSome, OnErr};
+ghost use Rattle.std.specs.Arc.{arc_value};
 ghost use Rattle.rbc_model.specs.Histories.{Heard, IsLegal, Matches};
 ghost use Rattle.rbc_snap.specs.Present.{has_train};
 ghost use Rattle.rbc_snap.specs.Steps.{IsOfTrack};
@@ -17,20 +18,25 @@ use crate::shared::{Shared, fault_at};
 use crate::{AskFault, Blank, CloseFault, DeskName, Gate, Granted, Seat};
 use rbc_model::{Memory, OrMemory, Told, TrainId};
 use rbc_snap::{ApplyFault, Candidate, Eye, EyeFault, Press, Receipt, Record, View};
+use rbc_track::Track;
 use std::alloc::Global;
 use std::marker::PhantomData;
-use std::sync::ledger::{Ledger, Share};
-use std::sync::{Mutex, MutexGuard, Wait};
+use std::sync::ledger::Share;
+use std::sync::{Arc, Mutex, MutexGuard, Wait};
 use std::thread::Threads;
 
 /// How often a train's candidate is computed outside the lock before it is computed under it.
 const TRIES: u32 = 3;
 
-/// How many seats the desk was made with.
+/// What stays as it was when the desk was opened, so that it needs no lock.
 #[derive(Drop)]
-struct SeatCount<L: Ledger> {
+struct Fixed<L: DeskName> {
+    /// The track of the record.
+    track: Arc<Track>,
+    /// How many seats the desk was made with.
     seats: usize,
     of: PhantomData<L>,
+    ghost of_record: { arc_value track ≡ L.opened.track },
     ghost all: { seats ≡ L.parts },
 }
 
@@ -38,7 +44,7 @@ struct SeatCount<L: Ledger> {
 /// [`Desk::end`].
 pub struct Desk<L: DeskName> {
     shared: Mutex<Shared<L>>,
-    count: SeatCount<L>,
+    fixed: Fixed<L>,
 }
 
 /// A seat for each eye, with one part of the ledger.
@@ -99,7 +105,8 @@ impl<L: DeskName> Desk<L> {
     ///
     /// # Errors
     ///
-    /// [`Memory`], where the allocator refuses room for the seats, for the scene that is published, or for its readers.
+    /// [`Memory`], where the allocator refuses room for the seats, for the scene that is published, or for its readers, or
+    /// where the track can't be shared once more.
     pub fn new<R: Wait>(
         rt: &R,
         alloc: Global,
@@ -119,6 +126,7 @@ impl<L: DeskName> Desk<L> {
         let (entries, mut rest) = ledger.open::<L>();
         log.known();
         let start = log.version();
+        let track = Arc::try_clone(log.track())?;
         let (press, eyes) = Press::<L>::new(rt, alloc, journal, &log, seats)?;
         let made = match seats_with(alloc, &mut rest, eyes) {
             Ok(made) => made,
@@ -135,15 +143,23 @@ impl<L: DeskName> Desk<L> {
             entries,
             rest,
         };
-        let count = SeatCount {
+        let fixed = Fixed {
+            track,
             seats,
             of: PhantomData,
         };
         let desk = Desk {
             shared: Mutex::new(shared),
-            count,
+            fixed,
         };
         Ok((desk, made))
+    }
+
+    /// The track of the desk's record. It is lent without the lock.
+    pub fn track(&self) -> &Track
+        ensures { result.now ≡ L.opened.track }
+    {
+        &self.fixed.track
     }
 
     /// Enters what a train or the interlocking tells, and gives the seat the receipt. The seat is told all that there is
@@ -358,8 +374,8 @@ impl<L: DeskName> Desk<L> {
         ensures missing { vec_len seats < L.parts → result ≡ Err (Missing (L.parts - vec_len seats)) }
         ensures unmatched { IfErr result (IsUnmatched L.opened L.parts seats.items) }
     {
-        let Desk { shared, count } = self;
-        let SeatCount { seats: parts, .. } = count;
+        let Desk { shared, fixed } = self;
+        let Fixed { seats: parts, .. } = fixed;
         let shared = shared.into_inner();
         if seats.len() < parts {
             shared.end(rt);
@@ -370,7 +386,7 @@ impl<L: DeskName> Desk<L> {
 
     /// Ends a desk that its caller can't close. The record is gone then, and so is what the seats' receipts stand for.
     pub fn end<R: Wait>(self, rt: &R) {
-        let Desk { shared, count: _ } = self;
+        let Desk { shared, fixed: _ } = self;
         shared.into_inner().end(rt);
     }
 }

@@ -24,4 +24,5 @@ pub use rbc_snap::{
     ApplyFault, Candidate, CommitFault, Entry, HistoryName, Receipt, Record, Scene, Sight, Train,
     View, candidate,
 };
+pub use rbc_track::Track;
 pub use seat::Seat;

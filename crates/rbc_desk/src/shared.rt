@@ -7,7 +7,6 @@ ghost use Rattle.rbc_model.specs.Answers.{AnswersAs};
 ghost use Rattle.rbc_model.specs.Histories.{IsLegal, Matches};
 ghost use Rattle.rbc_grant_laws.specs.Candidates.{IsCandidateOf};
 ghost use Rattle.rbc_snap.specs.Candidates.{HasChosenProfiles};
-ghost use Rattle.rbc_snap.specs.Entering.{EntersOrMemory, entry_granted};
 ghost use Rattle.rbc_snap.specs.Present.{has_train};
 ghost use Rattle.rbc_snap.specs.Steps.{IsOfTrack};
 ghost use Rattle.rbc_desk.specs.Closing.{all_receipts, IsUnmatchedIn};
@@ -58,17 +57,6 @@ fn is_there(log: &Record, candidate: &Candidate) -> bool
     log.has_train(candidate.view().train())
 }
 
-/// Enters what the candidate would grant.
-fn committed(
-    log: &mut Record,
-    alloc: Global,
-    candidate: &Candidate,
-) -> Result<Receipt, OrMemory<CommitFault>>
-    ensures { EntersOrMemory result log.old log.new (entry_granted log.old candidate.now) }
-{
-    log.commit(alloc, candidate)
-}
-
 /// What a try is answered.
 fn tried(
     answer: Result<Receipt, OrMemory<CommitFault>>,
@@ -92,7 +80,7 @@ fn enter(
     requires { has_train log.old candidate.now.view.train ≡ true }
     ensures { Tries result log.old log.new candidate.now }
 {
-    tried(committed(log, alloc, candidate))
+    tried(log.commit(alloc, candidate))
 }
 
 /// Why the train is shown no end, told with the version of the history.
