@@ -1,22 +1,23 @@
 -- What a sweep granted is kept, entry by entry.
-use Rattle.std.proofs.Common.{◌≡◌, ℕ, zero, suc, ◌+◌, ◌≤◌, ◌<◌, List, [], ◌∷◌, ◌++◌, length, take, get_or, Option, Some, None, Result, Ok, Err, ◌⊎◌, inl, inr, refl, sym, ap, ◌∙◌, subst, arith}
+use Rattle.std.proofs.Common.{◌≡◌, ℕ, zero, suc, ◌+◌, ◌≤◌, ◌<◌, Bool, true, false, cond, List, [], ◌∷◌, ◌++◌, length, take, get_or, Option, Some, None, Result, Ok, Err, ◌⊎◌, inl, inr, refl, sym, ap, ◌∙◌, subst, arith}
 use Rattle.std.specs.Prelude.{All, IsPermutation, OnOk, slice_get}
 use Rattle.std.proofs.lemmas.List.{get_or_read, take-take}
 use Rattle.std.proofs.lemmas.List.Elements.{All-nil, All-cons, All-append, All-contains, All-head, All-more, All-tail, All-weaker, Contains-append_left, Contains-push}
 use Rattle.std.proofs.lemmas.List.Sorted.{Contains-permutation}
 use Rattle.std.proofs.lemmas.Option.{get_or_from_slice_get, slice_get_within}
 use Rattle.rbc_model.specs.declared.limits.TheConstants.{MOST_ENTRIES}
-use Rattle.rbc_model.specs.Histories.{Entry, Receipt}
-use Rattle.rbc_model.specs.SessionText.{IsSayable, SessionLine, Ask}
+use Rattle.rbc_model.specs.Histories.{Entry, Granted as GrantedEntry, Grants, Receipt, is_full, replay}
+use Rattle.rbc_model.specs.SessionReply.{Full as NoRoom}
+use Rattle.rbc_model.specs.SessionText.{SessionLine, Ask}
 use Rattle.rbc_model.specs.SoundTracks.{IsInForm}
-use Rattle.rbc_grant_laws.specs.Candidates.{IsCandidateOf}
-use Rattle.rbc_replies.specs.Replies.{grant_text}
-use Rattle.rbc_replies.specs.declared.replies.Granted.{Granted as ToldGrant}
+use Rattle.rbc_model.specs.Tracks.{Track}
+use Rattle.rbc_model.specs.Views.{View, view}
+use Rattle.rbc_grant_laws.proofs.CandidateLemmas.{IsBest-candidate, view-train}
 use Rattle.rbc_session_laws.specs.declared.demand.Demand.TheVariants.{Authority}
-use Rattle.rbc_session_laws.specs.Answers.{demand_answer}
+use Rattle.rbc_session_laws.specs.Answers.{asker_answer, demand_answer, grant_answer, grant_of, refused}
 use Rattle.rbc_session_laws.specs.Demands.{looked_up}
+use Rattle.rbc_session_laws.proofs.GrantLemmas.{the_grant}
 use Rattle.rbc_sweep.specs.Asking.{IsAnswered, after_answer}
-use Rattle.rbc_sweep.specs.Candidates.{HasChosenProfiles}
 use Rattle.rbc_sweep.specs.Granted.{Granted as Grant}
 use Rattle.rbc_sweep.specs.Outcomes.{Begins, IsToldToOne, asked, granted, receipts_of}
 use Rattle.rbc_sweep.specs.Records.{HistoryOnTrack, history_on, with_entry}
@@ -27,12 +28,11 @@ use Rattle.rbc_sweep.specs.declared.outcome.Outcome.{Outcome}
 use Rattle.rbc_sweep.proofs.WorkLemmas.{begins_still}
 use Rattle.rbc_server.specs.Keeping.{AddsEntry, HasAnswer, HasGrant, HasOutcome}
 use Rattle.rbc_server.specs.Serving.{IsBrought}
-use Rattle.rbc_server.specs.Shown.{IsToldOf}
 use Rattle.rbc_server.specs.Sittings.{AreKeptOf, HasRank, IsKeptAt}
 use Rattle.rbc_server.specs.declared.grants.Rank.{Rank}
 use Rattle.rbc_server.proofs.ConnectionLemmas.{take_append}
-use Rattle.rbc_server.proofs.KeepingLemmas.{demand_adds, last_stands}
-use Rattle.rbc_server.proofs.SeatLemmas.{asked_granted, below_most, granted_alone}
+use Rattle.rbc_server.proofs.KeepingLemmas.{last_stands}
+use Rattle.rbc_server.proofs.SeatLemmas.{below_most, seen}
 
 -- ---- the entry that was granted
 
@@ -61,18 +61,34 @@ adds_still a b place said begins is =
           (subst (λ l. (demand_answer a.track l (looked_up a.track said)).added ≡ Some is.entry) (sym first) is.adds);
     }
 
-pub grant_adds : (history : HistoryOnTrack) (train : ℕ) (grant : Grant) (place : ℕ) (told : ToldGrant) → HasGrant history train grant → IsToldOf grant.candidate (place + 1) told
-    → IsCandidateOf grant.candidate.view grant.candidate.grant → HasChosenProfiles grant.candidate.view grant.candidate.grant → place ≡ grant.receipt.place → IsInForm history.track
-    → IsSayable (Ask train) → AddsEntry history grant.receipt.place (Ask train)
-grant_adds history train grant place told has is best chosen at form sayable =
+-- where there is room, the one grant for what a train is shown is added
+added_by : (track : Track) (entries : List Entry) (shown : View) (full : Bool) (grant : Grants) (entry : Entry) → full ≡ false → grant ≡ grant_of shown → entry ≡ GrantedEntry grant
+    → (cond full (refused track entries NoRoom) (grant_answer track entries shown)).added ≡ Some entry
+added_by track entries shown true grant entry free is of_grant = absurd (let c : ⊥ = cc in c)
+added_by track entries shown false grant entry free is of_grant = ap (λ e. Some e) (sym (of_grant ∙ ap (λ g. GrantedEntry g) is))
+
+-- what a train is granted at a desk is what the centre adds for it
+grant_added : (track : Track) (entries : List Entry) (train : ℕ) (grant : Grant) → IsInForm track → IsAnswered (history_on track entries) train (Ok grant)
+    → (demand_answer track entries (Ok (Authority train))).added ≡ Some grant.receipt.entry
+grant_added track entries train grant form is =
+    let candidate = grant.candidate in
+    let scene = replay track entries in
+    let shown = seen (view track scene train) (length entries) candidate.view is.1 in
+    let best = is.4 in
+    let chosen = is.5 in
+    let one =
+    the_grant track scene train candidate.view candidate.grant form shown (best.train ∙ view-train track scene train candidate.view shown)
+    (IsBest-candidate track scene train candidate.view candidate.grant form shown best) chosen.speeds chosen.grades in
+    subst (λ r. (asker_answer track entries train r).added ≡ Some grant.receipt.entry) (sym shown)
+    (added_by track entries candidate.view (is_full entries) candidate.grant grant.receipt.entry is.0 one is.3)
+
+pub grant_adds : (history : HistoryOnTrack) (train : ℕ) (grant : Grant) → HasGrant history train grant → IsInForm history.track → AddsEntry history grant.receipt.place (Ask train)
+grant_adds history train grant has form =
     let before = has.before in
     let begins = has.begins in
     let entry = grant.receipt.entry in
     let answered = has.answered in
-    let in_form = subst IsInForm begins.track form in
-    let answers = asked_granted before.track before.entries train grant answered place told is best chosen at in_form in
-    let adds = demand_adds before.track before.entries (Ask train) (Ok (Authority train)) (grant_text before.track told) entry in_form sayable refl
-    (granted_alone before.track before.entries (grant_text before.track told) entry train answers) in
+    let adds = grant_added before.track before.entries train grant (subst IsInForm begins.track form) answered in
     let here : AddsEntry (with_entry before entry) (length before.entries) (Ask train) = record {
       entry = entry;
       stands = last_stands before.entries entry;

@@ -7,7 +7,6 @@ ghost use Rattle.rbc_sweep.specs.Outcomes.{granted};
 ghost use Rattle.rbc_server.specs.Keeping.{HasGrant, HasOutcome};
 ghost use Rattle.rbc_server.specs.Sittings.{AreKeptOf, HasRank, IsKeptAt, StaysKept, rank_place};
 
-use crate::asking::told_of;
 use crate::{Counter, KeepFault, Keeper};
 use rbc_model::TrainId;
 use rbc_model::limits::LAST_TRAIN;
@@ -97,8 +96,7 @@ impl<'a, L: DeskName, K: Keeper<L>, G: Gate, R: Wait> Counter<'a, L, K, G, R> {
         ensures kept { OnOk result (K.kept pen.new granted.now.receipt.place) }
         ensures stays { StaysKept K.kept pen.old pen.new }
     {
-        // What was granted is best for what the train was shown. What the seat was told is on the desk's track, in form.
-        let _told = told_of(&granted.candidate, granted.receipt.place() + 1);
+        // What the seat was told is on the desk's track, in form.
         self.track.known();
         seat.known();
         let text = self.text_of(alloc, train)?;

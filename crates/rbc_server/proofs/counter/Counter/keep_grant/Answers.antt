@@ -11,7 +11,6 @@ keep-requires g c =
       told = (
         Ask c.args.train,
         c.in_ok-text.ensures.says,
-        grant_adds c.args.seat.now.told c.args.train c.args.granted.now c.place.result c.told_of-told.result c.requires.told c.told_of-told.ensures.told c.told_of-told.ensures.best
-            c.told_of-told.ensures.chosen c.place.ensures (subst IsInForm (c.args.self.now.of_desk ∙ sym later.track) c.known.ensures.form) c.in_ok-text.ensures.sayable,
+        grant_adds c.args.seat.now.told c.args.train c.args.granted.now c.requires.told (subst IsInForm (c.args.self.now.of_desk ∙ sym later.track) c.known.ensures.form),
       );
     }
