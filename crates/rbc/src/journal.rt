@@ -7,7 +7,6 @@ use crate::failure::Failure;
 use crate::history::write_history;
 use crate::serve::open_port;
 use crate::serve_kept::serve_kept;
-use rbc_model::Memory;
 use rbc_pages::Stream;
 use rbc_pages::kept::server::Record;
 use rbc_pages::kept::{self, Kept};
@@ -92,7 +91,6 @@ pub(crate) fn serve_with(
     service: &Service,
 ) -> Result<(), Failure> {
     let alloc = rt.alloc();
-    let lent = Arc::try_clone(&track).map_err(Memory::from)?;
     let empty = Record::new(alloc, track)?;
     let (bytes, device) = rbc_journal_file::open(rt, journal)?;
     if !is_journal(bytes.as_slice()) {
@@ -104,7 +102,7 @@ pub(crate) fn serve_with(
     };
     let mut writer = Stream::writer(alloc, io::writer(rt))?;
     let port = open_port(rt, service, &mut writer)?;
-    serve_kept(rt, alloc, port, &lent, kept, service, &mut writer)
+    serve_kept(rt, alloc, port, kept, service, &mut writer)
 }
 
 /// How many bytes a file has at most whose first gate is still closed: a line was being put behind it.

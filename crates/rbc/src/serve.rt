@@ -6,7 +6,6 @@ ghost use Rattle.rbc.specs.Listening.{listening_line};
 
 use crate::command_line::Service;
 use crate::failure::Failure;
-use rbc_model::Memory;
 use rbc_pages::kept::server::{
     self, Blank, Client, Clients, Desk, DeskName, NoJournal, Port, Record, ServeFault, Staff,
     no_pens,
@@ -87,10 +86,9 @@ pub(crate) fn serve<
 ) -> Result<(), Failure>
     requires { W.failed writer.old ≡ false }
 {
-    let lent = Arc::try_clone(&track).map_err(Memory::from)?;
     let log = Record::new(alloc, track)?;
     let opening = Opening::new(log, service);
-    open::<Brand, I, O, G, C, P, W, T>(rt, alloc, port, &lent, opening, writer)
+    open::<Brand, I, O, G, C, P, W, T>(rt, alloc, port, opening, writer)
 }
 
 /// What a desk is opened with.
@@ -134,16 +132,8 @@ fn open<
     P: Clients<Each = C> + Drop,
     W: Sink,
     T: Threads + Wait + Clock + Eprint + Sync,
->(
-    rt: &T,
-    alloc: Global,
-    port: P,
-    track: &Track,
-    opening: Opening<Record>,
-    writer: &mut W,
-) -> Result<(), Failure>
+>(rt: &T, alloc: Global, port: P, opening: Opening<Record>, writer: &mut W) -> Result<(), Failure>
     requires going { W.failed writer.old ≡ false }
-    requires track { track.now ≡ opening.history.track }
     requires opened { opening.history ≡ L.opened }
     requires name { opening.blank.ledger.name ≡ L.name }
     requires parts { opening.blank.ledger.parts ≡ L.parts }
@@ -168,6 +158,6 @@ fn open<
         desk.end(rt);
         return Err(Failure::Memory);
     };
-    let _served = server::serve(rt, alloc, port, track, &NoJournal, desk, staff, writer)?;
+    let _served = server::serve(rt, alloc, port, &NoJournal, desk, staff, writer)?;
     Ok(())
 }

@@ -11,7 +11,6 @@ use rbc_pages::desk_journal::{self, DeskJournal, Device, Opened, SeatTold, close
 use rbc_pages::kept::Kept;
 use rbc_pages::kept::server::{Client, Clients, DeskName, Served, Staff, serve};
 use rbc_pages::{Sink, Source};
-use rbc_trackfile::Track;
 use std::alloc::Global;
 use std::io::Eprint;
 use std::marker::Brand;
@@ -38,18 +37,16 @@ pub(crate) fn serve_kept<
     rt: &T,
     alloc: Global,
     port: P,
-    track: &Track,
     kept: Kept<D>,
     service: &Service,
     writer: &mut W,
 ) -> Result<(), Failure>
     requires going { W.failed writer.old ≡ false }
     requires ready { IsReady D.seen D.may_leave kept }
-    requires track { track.now ≡ kept.history.track }
 {
     let opening = Opening::new(kept, service);
     let stamps = scribe::Blank::new();
-    open::<Brand, Brand, I, O, G, C, P, W, D, T>(rt, alloc, port, track, opening, stamps, writer)
+    open::<Brand, Brand, I, O, G, C, P, W, D, T>(rt, alloc, port, opening, stamps, writer)
 }
 
 /// Serves connections at a desk over the record, each from a seat with its pen. At the end the journal is closed.
@@ -68,14 +65,12 @@ fn open<
     rt: &T,
     alloc: Global,
     port: P,
-    track: &Track,
     opening: Opening<Kept<D>>,
     stamps: scribe::Blank,
     writer: &mut W,
 ) -> Result<(), Failure>
     requires going { W.failed writer.old ≡ false }
     requires ready { IsReady D.seen D.may_leave opening.history }
-    requires track { track.now ≡ opening.history.history.track }
     requires opened { opening.history.history ≡ L.opened }
     requires name { opening.blank.ledger.name ≡ L.name }
     requires parts { opening.blank.ledger.parts ≡ L.parts }
@@ -108,7 +103,7 @@ fn open<
         return Err(Failure::Memory);
     };
     let journal = DeskJournal::over(&scribe);
-    let served = serve(rt, alloc, port, track, &journal, desk, staff, writer)?;
+    let served = serve(rt, alloc, port, &journal, desk, staff, writer)?;
     let Served { told, pens, .. } = served;
     let _page = close(rt, scribe, &SeatTold::<L>::seen(told), pens.as_slice());
     Ok(())

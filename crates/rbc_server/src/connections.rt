@@ -10,8 +10,7 @@ ghost use Rattle.rbc_server.specs.declared.connections.ConnectFault.TheVariants.
 use crate::{Counter, Keeper, Sitting, session};
 use rbc_port::{Client, Clients, Ends, PortFailed};
 use rbc_streams::{Sink, Source};
-use rbc_sweep::{Desk, DeskName, OpenGate, Seat};
-use rbc_track::Track;
+use rbc_sweep::{DeskName, OpenGate, Seat};
 use std::alloc::{AllocError, Global};
 use std::io::Eprint;
 use std::marker::PhantomData;
@@ -77,6 +76,7 @@ impl<L: DeskName, K: Keeper<L, Pen = Q>, Q, G, C: Client<Gone = G>> Promise<Visi
 
 /// A session with a client, from this sitting. A fault of the session ends the connection, and nothing else.
 fn connection<
+    'a,
     L: DeskName,
     Q: Drop,
     X: Drop,
@@ -89,13 +89,10 @@ fn connection<
 >(
     rt: &T,
     alloc: Global,
-    track: &Track,
-    desk: &Desk<L>,
-    keeper: &K,
+    counter: &Counter<'a, L, K, OpenGate, T>,
     sitting: Sitting<L, Q>,
     client: C,
 ) -> Visit<L, Q, G>
-    requires { track.now ≡ L.opened.track }
     ensures { IsConnection K.kept (record {
       came = C.coming client;
       before = sitting;
@@ -123,7 +120,7 @@ fn connection<
         lines,
         &mut reader,
         &mut writer,
-        &Counter::new(desk, track, keeper, &OpenGate, rt),
+        counter,
         &mut sitting,
     );
     let gone = C::let_go(rt, alloc, reader, writer, ended);
@@ -208,6 +205,7 @@ fn any_failed<L: DeskName, Q, G>(visits: &[Visit<L, Q, G>]) -> bool
 ///
 /// Those of [`connect`], but for `Journal`.
 fn visit_all<
+    'a,
     L: DeskName + Send + Sync,
     Q: Send + Drop,
     X: Send + Drop,
@@ -222,12 +220,9 @@ fn visit_all<
     rt: &T,
     alloc: Global,
     port: P,
-    track: &Track,
-    desk: &Desk<L>,
-    keeper: &K,
+    counter: &Counter<'a, L, K, OpenGate, T>,
     sittings: Vec<Sitting<L, Q>>,
 ) -> Result<Vec<Visit<L, Q, G>>, ConnectFault>
-    requires track { track.now ≡ L.opened.track }
     ensures served { IfOk result (λ visits. AreConnections K.kept (P.coming port) sittings.items
         (map (λ visit. visit.sitting) visits.items) (map (λ visit. C.parting visit.gone) visits.items)
         × (vec_len visits ≤ vec_len sittings)) }
@@ -238,7 +233,7 @@ fn visit_all<
         rt,
         move |scope| -> Result<Vec<Visit<L, Q, G>>, ConnectFault>
             requires { IsSync T.row × IsSend L.row × IsSync L.row × IsSend Q.row × IsSend X.row × IsSend K.row × IsSync K.row × IsSend I.row
-                × IsSend O.row × IsSend G.row × IsSend C.row × (track.now ≡ L.opened.track) }
+                × IsSend O.row × IsSend G.row × IsSend C.row }
             ensures served { IfOk result (λ visits. AreConnections K.kept (P.coming port) sittings.items
                 (map (λ visit. visit.sitting) visits.items) (map (λ visit. C.parting visit.gone) visits.items)
                 × (vec_len visits ≤ vec_len sittings)) }
@@ -270,8 +265,7 @@ fn visit_all<
                     serves,
                     move || -> Visit<L, Q, G>
                         requires { IsSync T.row × IsSend L.row × IsSync L.row × IsSend Q.row × IsSend X.row × IsSend K.row × IsSync K.row
-                            × IsSend I.row × IsSend O.row × IsSend G.row × IsSend C.row
-                            × (track.now ≡ L.opened.track) }
+                            × IsSend I.row × IsSend O.row × IsSend G.row × IsSend C.row }
                         ensures { IsConnection K.kept (record {
                           came = C.coming client;
                           before = sitting;
@@ -280,7 +274,7 @@ fn visit_all<
                         }) }
                     {
                         let _types = types;
-                        connection(rt, alloc, track, desk, keeper, sitting, client)
+                        connection(rt, alloc, counter, sitting, client)
                     },
                 );
                 match spawned.ok() {
@@ -339,15 +333,7 @@ pub(crate) fn connect<
         pens: Vec::with_capacity(alloc, sittings.len())?,
         gone: Vec::with_capacity(alloc, sittings.len())?,
     };
-    let visits = visit_all(
-        rt,
-        alloc,
-        port,
-        counter.track,
-        counter.desk,
-        counter.keeper,
-        sittings,
-    )?;
+    let visits = visit_all(rt, alloc, port, counter, sittings)?;
     if any_failed(visits.as_slice()) {
         return Err(ConnectFault::Journal);
     }

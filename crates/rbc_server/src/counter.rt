@@ -27,14 +27,13 @@ use rbc_replies::words::{Request, parse};
 use rbc_replies::{SessionRefusal, SessionReply, print};
 use rbc_session_laws::Demand;
 use rbc_streams::{Answers, Sink, WriteFailed};
-use rbc_sweep::{AskFault, Desk, DeskName, Gate, Granted, Receipt};
-use rbc_track::Track;
+use rbc_sweep::{AskFault, Desk, DeskName, Gate, Granted, Receipt, Track};
 use std::alloc::Global;
 use std::sync::Wait;
 use std::thread::Threads;
 
-/// What the seats of a desk have at hand: the desk, with the track that gives the names; what keeps the requests that led to
-/// entries; the gate; and a runtime that waits for locks.
+/// What the seats of a desk have at hand: the desk, with its track, which gives the names; what keeps the requests that led
+/// to entries; the gate; and a runtime that waits for locks.
 #[derive(Drop)]
 pub struct Counter<'a, L: DeskName, K, G, R> {
     pub(crate) desk: &'a Desk<L>,
@@ -46,19 +45,16 @@ pub struct Counter<'a, L: DeskName, K, G, R> {
 }
 
 impl<'a, L: DeskName, K, G, R> Counter<'a, L, K, G, R> {
-    /// The counter of a desk. The track is that of the desk.
+    /// The counter of a desk.
     pub fn new(
         desk: &'a Desk<L>,
-        track: &'a Track,
         keeper: &'a K,
         gate: &'a G,
         waiting: &'a R,
-    ) -> Counter<'a, L, K, G, R>
-        requires { track.now ≡ L.opened.track }
-    {
+    ) -> Counter<'a, L, K, G, R> {
         Counter {
             desk,
-            track,
+            track: desk.track(),
             keeper,
             gate,
             waiting,

@@ -10,7 +10,7 @@ use rbc_model::Told;
 use rbc_replies::SessionRefusal;
 use rbc_replies::words::{Request, parse};
 use rbc_session_laws::Demand;
-use rbc_track::Track;
+use rbc_sweep::Track;
 
 /// What the bytes of a line ask for. It takes no memory.
 ///

@@ -10,8 +10,7 @@ ghost use Rattle.rbc_session_laws.specs.Retelling.{IsEntryOfTrack, IsItsSession,
 
 use rbc_replies::words::{Request, print_request, told_request};
 use rbc_streams::{Sink, WriteFailed};
-use rbc_sweep::{Entry, Record};
-use rbc_track::Track;
+use rbc_sweep::{Entry, Record, Track};
 
 /// Writes the history of a record as lines: what was told as it is told, and for what was granted the request for it.
 /// [`run`](crate::run) over these lines, on a new record of the track, leads to the same history. It takes no memory.

@@ -12,8 +12,7 @@ use rbc_model::TrainId;
 use rbc_replies::words::print_number;
 use rbc_replies::{SessionRefusal, SessionReply, print};
 use rbc_streams::{Sink, WriteFailed, put};
-use rbc_sweep::{Answer, Granted, Outcome};
-use rbc_track::Track;
+use rbc_sweep::{Answer, Granted, Outcome, Track};
 
 /// Prints what the trains of a sweep were answered, in order, and hands it on.
 ///

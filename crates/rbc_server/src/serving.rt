@@ -19,7 +19,6 @@ use rbc_model::Memory;
 use rbc_port::{Client, Clients};
 use rbc_streams::{Sink, Source, WriteFailed};
 use rbc_sweep::{CloseFault, Desk, DeskName, OpenGate, Outcome, Record, Seat, Sight, sweep};
-use rbc_track::Track;
 use std::alloc::{AllocError, Global};
 use std::io::Eprint;
 use std::sync::Wait;
@@ -123,31 +122,31 @@ fn are_on_track<L: DeskName>(seats: &[Seat<L>])
     }
 }
 
-/// The first of the seats is told all that the others were told, and by its pen the requests of all trains that were
-/// granted something are kept, in the order of the entries.
+/// The first of the seats that served clients is told all that the workers' were told, and by its pen the requests of all
+/// trains that were granted something are kept, in the order of the entries.
 ///
 /// # Errors
 ///
 /// As [`Counter::keep_grants`] has them.
-fn keep_swept<'a, L: DeskName, K: Keeper<L>, R: Wait>(
+fn keep_swept<'a, L: DeskName, K: Keeper<L>, G, R: Wait>(
     alloc: Global,
     counter: &Counter<'a, L, K, OpenGate, R>,
-    mut seats: Vec<Seat<L>>,
-    mut pens: Vec<K::Pen>,
+    visited: &mut Parted<L, K::Pen, G>,
     swept: &[Seat<L>],
     outcomes: &[Outcome],
-) -> Result<(Vec<Seat<L>>, Vec<K::Pen>), KeepFault>
-    requires some { 1 ≤ vec_len seats }
-    requires one_each { vec_len pens ≡ vec_len seats }
+) -> Result<(), KeepFault>
+    requires some { 1 ≤ vec_len visited.old.seats }
+    requires one_each { vec_len visited.old.pens ≡ vec_len visited.old.seats }
     requires told { (before : List Seated) × All (IsToldToOne before swept.now) outcomes.now }
-    ensures kept { IfOk result (λ back. AreKept K.kept swept.now seats.items pens.items outcomes.now back.0.items back.1.items) }
-    ensures room { IfOk result (λ back. vec_capacity back.0 ≡ vec_capacity seats) }
+    ensures kept { OnOk result (AreKept K.kept swept.now visited.old.seats.items visited.old.pens.items outcomes.now
+        visited.new.seats.items visited.new.pens.items) }
+    ensures room { vec_capacity visited.new.seats ≡ vec_capacity visited.old.seats }
+    ensures gone { visited.new.gone.items ≡ visited.old.gone.items }
 {
+    let Parted { seats, pens, .. } = visited;
     let first = &mut seats[0];
     bring(first, swept);
-    let pen = &mut pens[0];
-    counter.keep_grants(alloc, pen, first, outcomes)?;
-    Ok((seats, pens))
+    counter.keep_grants(alloc, &mut pens[0], first, outcomes)
 }
 
 /// What the first of these seats was told, as a moment of the desk's history.
@@ -204,24 +203,21 @@ fn attend<
     // The track is sound, so what stands beyond an end, or in the way, is of the track.
     counter.track.known();
     let Staff { sittings, workers } = staff;
-    let visited = connect(rt, alloc, port, counter, sittings, workers.len())?;
-    let Parted { seats, pens, gone } = visited;
-    let workers = bring_all(workers, seats.as_slice());
+    let mut visited = connect(rt, alloc, port, counter, sittings, workers.len())?;
+    let workers = bring_all(workers, visited.seats.as_slice());
     are_on_track(workers.as_slice());
     let (mut workers, outcomes) = sweep(rt, alloc, counter.desk, workers, &OpenGate);
     let outcomes = outcomes?;
-    let kept = keep_swept(
+    keep_swept(
         alloc,
         counter,
-        seats,
-        pens,
+        &mut visited,
         workers.as_slice(),
         outcomes.as_slice(),
     )?;
     print_outcomes(counter.track, outcomes.as_slice(), writer)?;
-    let (mut seats, pens) = kept;
-    seats.append(&mut workers)?;
-    Ok(Parted { seats, pens, gone })
+    visited.seats.append(&mut workers)?;
+    Ok(visited)
 }
 
 /// Closes the desk, and prints how many entries the record has.
@@ -271,8 +267,7 @@ pub struct Served<Q, G> {
 /// its own. A fault of a session ends its connection, and no other: how each session ended is told by what is left of its
 /// client. Once all have ended, each train is served once more in a sweep with the workers' seats; its outcomes are printed,
 /// the desk is closed, and how many entries the record has is printed. A reply that tells of an entry is written, and an
-/// outcome that does is printed, once the request that led to it is kept. The track is that of the desk, which is ended on
-/// each way out.
+/// outcome that does is printed, once the request that led to it is kept. The desk is ended on each way out.
 ///
 /// # Errors
 ///
@@ -298,14 +293,12 @@ pub fn serve<
     rt: &T,
     alloc: Global,
     port: P,
-    track: &Track,
     keeper: &K,
     desk: Desk<L>,
     staff: Staff<L, Q>,
     writer: &mut W,
 ) -> Result<Served<Q, G>, ServeFault>
     requires going { W.failed writer.old ≡ false }
-    requires track { track.now ≡ L.opened.track }
     requires some { 1 ≤ vec_len staff.sittings }
     requires workers { 1 ≤ vec_len staff.workers }
     requires few { vec_len staff.sittings + vec_len staff.workers ≤ 16 }
@@ -343,7 +336,7 @@ pub fn serve<
         rt,
         alloc,
         port,
-        &Counter::new(&desk, track, keeper, &OpenGate, rt),
+        &Counter::new(&desk, keeper, &OpenGate, rt),
         staff,
         writer,
     );

@@ -2,7 +2,7 @@
 
 ghost use Rattle.std.specs.Prelude.{◌≡◌};
 
-use super::telling::{closed, record_of, shared_track};
+use super::telling::{closed, record_of};
 use super::{BRANCH, PLAIN};
 use rbc_model::limits::LONGEST_LINE;
 use rbc_server::{Counter, NoJournal, SessionFault, Sitting, run, session};
@@ -163,7 +163,6 @@ where
     requires opened { history ≡ L.opened }
 {
     let alloc = rt.alloc();
-    let track = shared_track(rt, &history);
     let (desk, mut seats) = Desk::<L>::new(rt, alloc, history, 1, blank).expect(rt, "seats");
     let seat = seats.pop().expect(rt, "a seat");
     let mut sitting = Sitting::new(seat, ());
@@ -176,7 +175,7 @@ where
         lines,
         &mut reader,
         &mut writer,
-        &Counter::new(&desk, &track, &NoJournal, &OpenGate, rt),
+        &Counter::new(&desk, &NoJournal, &OpenGate, rt),
         &mut sitting,
     );
     assert_eq!(rt; outcome, Ok(()));

@@ -16,7 +16,6 @@ scoped-requires g c = record {
       search rules,
       search rules,
       search rules,
-      c.requires.track,
     ),
     search rules,
   );

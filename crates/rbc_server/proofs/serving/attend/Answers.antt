@@ -1,4 +1,4 @@
-use Rattle.std.proofs.Common.{◌≡◌, ◌++◌, map, rules, refl, sym, subst, take}
+use Rattle.std.proofs.Common.{◌≡◌, ◌++◌, ap, map, rules, refl, sym, subst, take}
 use Rattle.std.specs.Prelude.{All, IsPermutation}
 use Rattle.std.proofs.lemmas.Result.{err_from_is_err_and}
 use Rattle.rbc_model.specs.SoundTracks.{IsSound}
@@ -41,8 +41,8 @@ returns-clause-attended g c =
     let brought = c.bring_all-workers.result.items in
     let swept = c.sweep-workers.result.0.items in
     let outcomes = c.in_ok-outcomes.outcomes.items in
-    let heard = c.in_ok-kept.kept.0.items in
-    let last = c.in_ok-kept.kept.1.items in
+    let heard = c.keep_swept.new.visited.seats.items in
+    let last = c.keep_swept.new.visited.pens.items in
     let printed = c.in_ok-print_outcomes.ensures.text in
     let trains : AreTrainsOfFirst brought swept (map train_of outcomes) = search rules in
     let answered : All (IsToldToOne brought swept) outcomes = search rules in
@@ -50,8 +50,9 @@ returns-clause-attended g c =
     let all : c.append.new.self.items ≡ heard ++ swept = search rules in
     record {
       outcomes = outcomes;
-      sweep = swept_with g.K.Keeper.kept coming partings staff served c.as_slice.result.now brought swept heard c.append.new.self.items pens last outcomes c.in_ok-visited.ensures.served
-          c.as_slice.ensures.value c.bring_all-workers.ensures.brought c.sweep-workers.ensures.seats trains answered gained (search rules) all;
+      sweep = subst (λ went. IsSwept g.K.Keeper.kept coming went staff c.append.new.self.items last outcomes) (ap (map g.C.Client.parting) (sym c.keep_swept.ensures.gone))
+          (swept_with g.K.Keeper.kept coming partings staff served c.as_slice.result.now brought swept heard c.append.new.self.items pens last outcomes c.in_ok-visited.ensures.served
+          c.as_slice.ensures.value c.bring_all-workers.ensures.brought c.sweep-workers.ensures.seats trains answered gained (search rules) all);
       told = printed.0;
       tells = subst (λ track. TellsAll track outcomes printed.0) c.args.counter.now.of_desk (subst (λ l. TellsAll c.args.counter.now.track.now l printed.0) c.as_slice-5.ensures.value printed.1);
       written = printed.2;
@@ -69,8 +70,8 @@ returns-in_err-print_outcomes-clause-fault g c =
     let brought = c.bring_all-workers.result.items in
     let swept = c.sweep-workers.result.0.items in
     let outcomes = c.in_ok-outcomes.outcomes.items in
-    let heard = c.in_ok-kept.kept.0.items in
-    let last = c.in_ok-kept.kept.1.items in
+    let heard = c.keep_swept.new.visited.seats.items in
+    let last = c.keep_swept.new.visited.pens.items in
     let part = c.in_err-print_outcomes.ensures.part in
     let trains : AreTrainsOfFirst brought swept (map train_of outcomes) = search rules in
     let answered : All (IsToldToOne brought swept) outcomes = search rules in

@@ -1,5 +1,6 @@
 use Rattle.std.proofs.Common.{◌<◌, length, arith}
 use Rattle.std.proofs.lemmas.List.{get_or_read}
+use Rattle.std.proofs.lemmas.Result.{on_ok_weaker}
 use Rattle.rbc_server.proofs.GrantLemmas.{all_told}
 use Rattle.rbc_server.proofs.ServingLemmas.{swept_kept}
 use Rattle.rbc_server.proofs.serving.keep_swept.Goals as goal
@@ -10,8 +11,11 @@ keep_grants-requires g c =
 
 pub returns-clause-kept : goal.returns-clause-kept
 returns-clause-kept g c =
-    let some : 0 < length c.args.seats.items = omega (arith, c.args.seats.ok.0, c.requires.some) in
-    let one : 0 < length c.args.pens.items = omega (arith, c.args.pens.ok.0, c.args.seats.ok.0, c.requires.some, c.requires.one_each) in
-    swept_kept g.K.Keeper.kept c.args.swept.now c.args.seats.items c.args.pens.items c.args.outcomes.now c.index_mut-first.result.now c.bring.new.seat c.index_mut-pen.result.now
-    c.keep_grants.new.pen some one (get_or_read c.args.seats.items 0 _ some c.index_mut-first.ensures.value c.index_mut-first.result.now)
-    (get_or_read c.args.pens.items 0 _ one c.index_mut-pen.ensures.value c.index_mut-pen.result.now) c.bring.ensures c.in_ok-keep_grants.ensures.stays c.in_ok-keep_grants.ensures.kept
+    let visited = c.args.visited.now in
+    let some : 0 < length visited.seats.items = omega (arith, visited.seats.ok.0, c.requires.some) in
+    let one : 0 < length visited.pens.items = omega (arith, visited.pens.ok.0, visited.seats.ok.0, c.requires.some, c.requires.one_each) in
+    on_ok_weaker c.keep_grants.result
+    (λ granted_kept. swept_kept g.K.Keeper.kept c.args.swept.now visited.seats.items visited.pens.items c.args.outcomes.now c.index_mut-first.result.now c.bring.new.seat c.index_mut.result.now
+    c.keep_grants.new.pen some one (get_or_read visited.seats.items 0 _ some c.index_mut-first.ensures.value c.index_mut-first.result.now)
+    (get_or_read visited.pens.items 0 _ one c.index_mut.ensures.value c.index_mut.result.now) c.bring.ensures c.keep_grants.ensures.stays granted_kept)
+    c.keep_grants.ensures.kept
