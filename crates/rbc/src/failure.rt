@@ -34,7 +34,7 @@ const UNMATCHED: u8 = 6;
 pub enum Failure {
     /// The command line is refused, or asks for help.
     CommandLine(clap::Error),
-    /// A word of the command line is no UTF-8.
+    /// A word of the command line is not UTF-8.
     NotText,
     /// There is no track.
     Load(LoadFault),
@@ -165,7 +165,7 @@ impl From<AllocError> for Failure {
     }
 }
 
-/// What fails before a session begins is a word of the command line that is no UTF-8, or finds no memory.
+/// What fails before a session begins is a word of the command line that is not UTF-8, or finds no memory.
 impl From<io::Error> for Failure {
     fn from(error: io::Error) -> Failure {
         match error.kind() {

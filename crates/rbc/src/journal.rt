@@ -108,8 +108,8 @@ pub(crate) fn serve_with(
 /// How many bytes a file has at most whose first gate is still closed: a line was being put behind it.
 const MOST_TORN: usize = 128;
 
-/// Whether a centre may have left these bytes, however it ended: else they are not to be cut. Of one byte alone the first
-/// write of a journal may have made any.
+/// Whether a centre may have left these bytes, however it ended: else they are not to be cut. A single byte may be any: the
+/// first write of a journal may have left it.
 fn is_journal(bytes: &[u8]) -> bool {
     match bytes {
         [] | [_] => true,

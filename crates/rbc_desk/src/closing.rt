@@ -69,7 +69,7 @@ pub(crate) fn find_seats<L: DeskName>(
     None
 }
 
-/// Puts the share of a seat to the others. What the press publishes goes on from all that the seat was told.
+/// Adds the share of a seat to the others. What the press publishes goes on from all that the seat was told.
 fn take_in<L: DeskName, R: Wait>(rt: &R, press: &Press<L>, all: &mut Share<L>, seat: Seat<L>)
     ensures parts { all.new.parts ≡ all.old.parts + 1 }
     ensures amount { all.new.amount ≡ all.old.amount + length seat.receipts }

@@ -223,8 +223,8 @@ impl<L: DeskName> Desk<L> {
 
     /// Grants a train that asks the authority that is best for what it is shown, and gives the seat the receipt. It is
     /// shown by the seat's eye, and the gate computes, both without the lock. Where the train is shown another view
-    /// meanwhile, it is done again, and the fourth time under the lock; so is it where the eye is behind. The seat is told
-    /// all that the answer speaks of.
+    /// meanwhile, it is done again, and the fourth time under the lock; where the eye is behind, it is done under the lock at
+    /// once. The seat is told all that the answer speaks of.
     ///
     /// # Errors
     ///

@@ -181,8 +181,8 @@ impl<L: DeskName> Shared<L> {
         Ok(receipt)
     }
 
-    /// Why what is told is not entered, where there is no memory for it: what refuses it at once, or that memory does. The
-    /// seat is told all that the record has.
+    /// Why what is told is not entered, where there is no memory for it: what refuses it at once, or else the want of memory.
+    /// The seat is told all that the record has.
     pub(crate) fn event_in_vain<R: Wait>(
         &self,
         rt: &R,

@@ -25,7 +25,7 @@ told_refusal (Refused FullToTold) = Full
 told_refusal (Refused (RefusedByScene refusal)) = BadEvent refusal
 told_refusal NoMemory = Memory
 
--- what is told of a candidate that is granted, where the history has so many entries with it
+-- what is told of a candidate that is granted; the history has this number of entries with it
 pub record IsToldOf (candidate : Candidate) (count : ℕ) (granted : Granted) : Type 0 where
   pub train : granted.train ≡ candidate.grant.train
   pub version : granted.version ≡ count

@@ -121,7 +121,7 @@ pub fn commit<'a>(alloc: Global, history: &mut Record, candidate: &'a Candidate)
     }
 }
 
-/// What is told of a candidate that is granted, where the history has so many entries with it.
+/// What is told of a candidate that is granted. The version is the number of entries that the history has with it.
 pub(crate) fn told_of(candidate: &Candidate, version: u64) -> Granted<'_>
     ensures told { IsToldOf candidate.now version result }
     ensures best { IsCandidateOf candidate.now.view candidate.now.grant }

@@ -27,7 +27,8 @@ pub fn tell(alloc: Global, history: &mut Record, told: &Told) -> SessionReply<'s
     }
 }
 
-/// The reply to what is told where there is no memory for it: what refuses it at once, or that memory does. Nothing changes.
+/// The reply to what is told where there is no memory for it: what refuses it at once, or else the want of memory. Nothing
+/// changes.
 pub fn in_vain(history: &Record, told: &Told) -> SessionReply<'static>
     requires { IsToldOfTrack history.now.track told.now }
     ensures comes { Comes (λ track entries reply added. AnswersEvent track entries reply added told.now)
