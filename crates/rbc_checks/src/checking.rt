@@ -193,7 +193,7 @@ pub fn check<R: Source, W: Sink>(
     requires reader { R.failed reader.old ≡ false }
     requires writer { W.failed writer.old ≡ false }
 
-    // A read or write fault is answered just where the reader or the writer failed.
+    // A read or write fault is answered exactly where the reader or the writer failed.
     ensures read { (result ≡ Err Read) ↔ IsTrue (R.failed reader.new) }
     ensures write { (result ≡ Err Write) ↔ IsTrue (W.failed writer.new) }
 

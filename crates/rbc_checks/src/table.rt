@@ -56,7 +56,7 @@ pub(crate) fn steps_of<V: Told>(
     Ok(Some(steps))
 }
 
-/// The price in the row of so many steps and in this column; nothing is lost by no steps, or up to break 0.
+/// The price in the row of this number of steps and in this column; nothing is lost by no steps, or up to break 0.
 pub(crate) fn price_at(rows: &Prices, steps: usize, column: usize) -> u64
     ensures { result ≡ table_at (prices_of rows.now.items) steps column }
 {

@@ -458,7 +458,7 @@ pub fn draw<R: Source, W: Sink>(
     requires reader { R.failed reader.old ≡ false }
     requires writer { W.failed writer.old ≡ false }
 
-    // A read fault is answered just where the reader failed, and a write fault only where the writer did.
+    // A read fault is answered exactly where the reader failed, and a write fault only where the writer did.
     ensures read { (result ≡ Err Read) ↔ IsTrue (R.failed reader.new) }
     ensures write { result ≡ Err Write → IsTrue (W.failed writer.new) }
 

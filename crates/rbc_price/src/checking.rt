@@ -16,8 +16,8 @@ use rbc_steps::{Profile, Runs};
 use std::alloc::Global;
 
 /// A table of prices: a row for each number of steps from 1, and in it a price for each break of the track but the
-/// first: what so many steps lose at least up to there. The breaks are where runs start and where the track ends; where it
-/// ends beyond 32,000 m each start gives two, rounded down and up to a multiple of ten.
+/// first: what this number of steps loses at least up to there. The breaks are where runs start and where the track ends;
+/// where it ends beyond 32,000 m each start gives two, rounded down and up to a multiple of ten.
 pub type Prices = Vec<Vec<u64>>;
 
 /// The first reason against the profile, test by test.

@@ -189,7 +189,7 @@ fn is_sound_by_pairs<V: Level>(track: &Runs<V>, rows: &[Vec<u64>]) -> bool
     true
 }
 
-/// Up to so many runs each pair of breaks is looked at by itself, which takes less than to make room for totals.
+/// Up to this number of runs each pair of breaks is looked at by itself, which takes less than to make room for totals.
 const FEW_RUNS: usize = 4;
 
 /// Whether no price is too high: where this says so, it is so.

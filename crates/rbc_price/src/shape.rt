@@ -10,7 +10,7 @@ use rbc_model::limits::MOST_STEPS;
 use rbc_model::scales::unit_of;
 use rbc_steps::{Level, Profile, Runs};
 
-/// Whether each row has so many prices.
+/// Whether each row has this number of prices.
 fn are_wide(rows: &[Vec<u64>], width: usize) -> bool
     ensures { result ≡ list_all (λ row. length row == width) (prices_of rows.now) }
 {
