@@ -162,8 +162,8 @@ impl<L: DeskName> Desk<L> {
         &self.fixed.track
     }
 
-    /// Enters what a train or the interlocking tells, and gives the seat the receipt. The seat is told all that there is
-    /// then.
+    /// Enters what a train or the interlocking tells, publishes it, and gives the seat the receipt. The seat is told all that
+    /// there is then.
     ///
     /// # Errors
     ///
@@ -181,9 +181,48 @@ impl<L: DeskName> Desk<L> {
     {
         let mut shared = self.shared.lock(rt);
         let answer = (*shared).event(rt, alloc, seat, &told);
+        (*shared).publish(rt, alloc, seat);
         // A guard that is dropped would need that the press may be.
         MutexGuard::unlock(shared);
         answer
+    }
+
+    /// The same, for a seat that has more to tell at once: what is entered is published later, so that many entries are
+    /// published as one. That is done by the next [`Desk::publish`], [`Desk::event`] or [`Desk::ask`] from this seat, or when
+    /// any seat is granted something.
+    ///
+    /// # Errors
+    ///
+    /// As above.
+    pub fn event_ahead<R: Wait>(
+        &self,
+        rt: &R,
+        alloc: Global,
+        seat: &mut Seat<L>,
+        told: Told,
+    ) -> Result<Receipt, OrMemory<ApplyFault>>
+        requires { IsOfTrack L.opened.track told }
+        ensures { IsToldAt seat.old seat.new told result }
+    {
+        let mut shared = self.shared.lock(rt);
+        let answer = (*shared).event(rt, alloc, seat, &told);
+        // As above.
+        MutexGuard::unlock(shared);
+        answer
+    }
+
+    /// Publishes what was entered from this seat by [`Desk::event_ahead`], so that the eyes of all seats see it. Where there
+    /// is no memory for the scene, they see what they saw.
+    pub fn publish<R: Wait>(&self, rt: &R, alloc: Global, seat: &mut Seat<L>)
+        ensures { seat.new ≡ seat.old }
+    {
+        if !seat.is_ahead {
+            return;
+        }
+        let mut shared = self.shared.lock(rt);
+        (*shared).publish(rt, alloc, seat);
+        // As above.
+        MutexGuard::unlock(shared);
     }
 
     /// Why what is told is not entered, where its caller has no memory for it: what refuses it at once, or `Memory`. The seat
@@ -266,6 +305,7 @@ impl<L: DeskName> Desk<L> {
     ) -> Result<Granted, OrMemory<AskFault>>
         ensures { IsAnsweredAt seat.old seat.new train result }
     {
+        self.publish(waiting, alloc, seat);
         match self.try_outside(rt, waiting, alloc, seat, train, gate) {
             Ok(Some(granted)) => Ok(granted),
             Ok(None) => self.grant(rt, waiting, alloc, seat, train),

@@ -18,6 +18,8 @@ pub struct Seat<L: DeskName> {
     pub(crate) receipts: Vec<Receipt>,
     pub(crate) share: Share<L>,
     pub(crate) eye: Eye<L>,
+    /// Whether something was entered from it that may not be published yet.
+    pub(crate) is_ahead: bool,
 }
 
 impl<L: DeskName> Model for Seat<L> {
@@ -44,6 +46,7 @@ impl<L: DeskName> Seat<L> {
             receipts: Vec::new(alloc),
             share,
             eye,
+            is_ahead: false,
         }
     }
 

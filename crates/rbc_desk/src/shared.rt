@@ -29,7 +29,7 @@ use std::thread::Threads;
 pub(crate) struct Shared<L: DeskName> {
     /// The record.
     pub(crate) log: Record,
-    /// The press, which publishes each entry in the hold that entered it.
+    /// The press. It tells each entry in the hold that entered it, and publishes what is granted in the same hold.
     pub(crate) press: Press<L>,
     /// How many entries the record had when the desk was made.
     pub(crate) start: u64,
@@ -104,7 +104,19 @@ fn trains_of(alloc: Global, log: &Record) -> Result<Vec<TrainId>, Memory>
     Ok(numbers)
 }
 
-/// Publishes the record, which goes on from what was published, and tells the eye all of it.
+/// The press follows the record, which goes on from what it told, and tells the eye all of it.
+fn follow<L: DeskName, R: Wait>(rt: &R, log: &Record, press: &mut Press<L>, eye: &mut Eye<L>)
+    requires track { log.now.track ≡ press.old.track }
+    requires opening { take (length press.old.entries) log.now.entries ≡ press.old.entries }
+    ensures press { press.new ≡ log.now }
+    ensures told { eye.new ≡ log.now }
+    ensures later { IsLater eye.old log.now }
+{
+    press.follow(rt, log);
+    press.bring(rt, eye);
+}
+
+/// Publishes the record, which goes on from what the press told, and tells the eye all of it.
 fn publish<L: DeskName, R: Wait>(
     rt: &R,
     alloc: Global,
@@ -140,7 +152,8 @@ impl<L: DeskName> Shared<L> {
         self.press.bring(rt, &mut seat.eye);
     }
 
-    /// Enters what is told, and gives the seat the receipt. The seat is told all that the record then has.
+    /// Enters what is told, and gives the seat the receipt. The seat is told all that the record then has. It is published
+    /// later.
     pub(crate) fn event<R: Wait>(
         &mut self,
         rt: &R,
@@ -166,6 +179,7 @@ impl<L: DeskName> Shared<L> {
             receipts,
             share,
             eye,
+            is_ahead,
         } = seat;
         press.bring(rt, eye);
         if let Some(fault) = log.refusal(told) {
@@ -174,11 +188,20 @@ impl<L: DeskName> Shared<L> {
         found.reserve(1)?;
         receipts.reserve(1)?;
         let receipt = log.apply(alloc, told)?;
-        publish(rt, alloc, log, press, eye);
+        follow(rt, log, press, eye);
         found.push_reserved(false);
         receipts.push_reserved(receipt.copy());
         entries.add(share, 1);
+        *is_ahead = true;
         Ok(receipt)
+    }
+
+    /// Publishes what is not published yet.
+    pub(crate) fn publish<R: Wait>(&mut self, rt: &R, alloc: Global, seat: &mut Seat<L>)
+        ensures { seat.new ≡ seat.old }
+    {
+        self.press.show(rt, alloc, &self.log);
+        seat.is_ahead = false;
     }
 
     /// Why what is told is not entered, where there is no memory for it: what refuses it at once, or else the want of memory.
@@ -279,6 +302,7 @@ impl<L: DeskName> Shared<L> {
             receipts,
             share,
             eye,
+            ..
         } = seat;
         press.bring(rt, eye);
         if !is_there(log, candidate) {
@@ -290,6 +314,8 @@ impl<L: DeskName> Shared<L> {
         found.reserve(1)?;
         receipts.reserve(1)?;
         let Some(entered) = enter(log, alloc, candidate)? else {
+            // The next look sees what overtook this one.
+            press.show(rt, alloc, log);
             return Ok(None);
         };
         publish(rt, alloc, log, press, eye);

@@ -159,7 +159,7 @@ impl<'a, L: DeskName, K: Keeper<L>, G: Gate, R: Wait> Counter<'a, L, K, G, R> {
         };
         match self
             .desk
-            .event(self.waiting, alloc, &mut sitting.seat, told)
+            .event_ahead(self.waiting, alloc, &mut sitting.seat, told)
         {
             Ok(receipt) => {
                 let accepted = SessionReply::Accepted(receipt.place() + 1);
@@ -312,18 +312,23 @@ impl<'a, L: DeskName, K: Keeper<L>, G: Gate, R: Wait> Answers<Counter<'a, L, K, 
         alloc: Global,
         counter: &Counter<'a, L, K, G, R>,
         line: &[u8],
-        _more: bool,
+        more: bool,
         writer: &mut W,
     ) -> Result<(), WriteFailed> {
         // What the seat was told is on the desk's track.
         self.seat.known();
-        match parse(line) {
+        let said = match parse(line) {
             Ok(request) => counter.treat(rt, alloc, self, &request, writer),
             Err(fault) => {
                 let refused = SessionReply::Refused(SessionRefusal::BadLine(fault));
                 print(counter.track, &refused, writer)
             }
+        };
+        // What was told is published before the replies are handed on.
+        if !more {
+            counter.desk.publish(counter.waiting, alloc, &mut self.seat);
         }
+        said
     }
 
     fn refuse<W: Sink>(

@@ -27,6 +27,8 @@ pub struct Press<J: HistoryName> {
     writer: Ends,
     head: Head,
     sight: Sight,
+    /// Whether readers see no scene of what it was handed last.
+    is_behind: bool,
     of: PhantomData<J>,
 }
 
@@ -42,8 +44,8 @@ impl<J: HistoryName> Model for Press<J> {
     ghost invariant = { λ p. (drop p.writer.behind p.writer.log.items ≡ []) × (p.writer.desk.shown.value.sight.book ≡ J.book) × (p.head ≡ head_of J.book) × (p.sight.book ≡ J.book) };
 }
 
-/// Shows readers the issue, if there is one.
-fn show<J: HistoryName, R: Wait>(rt: &R, writer: Ends, issue: Option<Issue>) -> (Ends, ())
+/// Shows readers the issue, if there is one, and tells whether it could.
+fn show<J: HistoryName, R: Wait>(rt: &R, writer: Ends, issue: Option<Issue>) -> (Ends, bool)
     requires idle { drop writer.behind writer.log.items ≡ [] }
     requires book { writer.desk.shown.value.sight.book ≡ J.book }
     requires issue { IfSome issue (λ i. i.sight.book ≡ J.book) }
@@ -52,13 +54,13 @@ fn show<J: HistoryName, R: Wait>(rt: &R, writer: Ends, issue: Option<Issue>) -> 
     ensures knows { known_to result.0.desk.place ≡ knower J.book }
 {
     let mut writer = writer;
-    put::<J>(&mut writer, issue);
+    let is_put = put::<J>(&mut writer, issue);
     let (writer, _) = writer.publish_as::<Plants, R>(rt);
-    (writer, ())
+    (writer, is_put)
 }
 
-/// Appends the issue, if there is one and there is memory.
-fn put<J: HistoryName>(writer: &mut Ends, issue: Option<Issue>)
+/// Appends the issue, if there is one and there is memory, and tells whether it did.
+fn put<J: HistoryName>(writer: &mut Ends, issue: Option<Issue>) -> bool
     requires idle { drop writer.old.behind writer.old.log.items ≡ [] }
     requires book { writer.old.desk.shown.value.sight.book ≡ J.book }
     requires issue { IfSome issue (λ i. i.sight.book ≡ J.book) }
@@ -66,8 +68,9 @@ fn put<J: HistoryName>(writer: &mut Ends, issue: Option<Issue>)
     ensures book { (fold (λ sight i. i.sight) writer.new.desk.shown.value.sight
         (drop writer.new.behind writer.new.log.items)).book ≡ J.book }
 {
-    if let Some(issue) = issue {
-        let _ = writer.append(issue);
+    match issue {
+        Some(issue) => writer.append(issue).is_ok(),
+        None => false,
     }
 }
 
@@ -149,7 +152,7 @@ impl<J: HistoryName> Press<J> {
         let (head, sight) = journal.begin(rt, log);
         let mut eyes = Vec::with_capacity(alloc, readers)?;
         let (first, second) = copies(alloc, &sight, log)?;
-        let (mut writer, ()) = show::<J, R>(rt, Writer::new(alloc, first, second, readers)?, None);
+        let (mut writer, _) = show::<J, R>(rt, Writer::new(alloc, first, second, readers)?, None);
         for _reader in 0..readers {
             match reader::<J>(&mut writer) {
                 Ok(reader) => eyes.push_reserved(Eye::over(reader, sight.again())),
@@ -163,6 +166,7 @@ impl<J: HistoryName> Press<J> {
             writer,
             head,
             sight,
+            is_behind: false,
             of: PhantomData,
         };
         Ok((press, eyes))
@@ -175,27 +179,50 @@ impl<J: HistoryName> Press<J> {
         self.sight.again()
     }
 
-    /// Publishes the record's scene. Where there is no memory for it, readers see what they saw, but the press tells the
-    /// record's history all the same.
-    pub fn publish<R: Wait>(&mut self, rt: &R, alloc: Global, log: &Record)
+    /// Goes on to the record, and tells its history from now on. Readers see what they saw, until its scene is shown.
+    pub fn follow<R: Wait>(&mut self, rt: &R, log: &Record)
         requires track { log.now.track ≡ self.old.track }
         requires opening { take (length self.old.entries) log.now.entries ≡ self.old.entries }
         ensures { self.new ≡ log.now }
     {
         log.known();
+        advance(rt, &self.head, &mut self.sight, log);
+        self.is_behind = true;
+    }
+
+    /// Goes on to the record, and publishes its scene. Where there is no memory for it, readers see what they saw, but the
+    /// press tells the record's history all the same.
+    pub fn publish<R: Wait>(&mut self, rt: &R, alloc: Global, log: &Record)
+        requires track { log.now.track ≡ self.old.track }
+        requires opening { take (length self.old.entries) log.now.entries ≡ self.old.entries }
+        ensures { self.new ≡ log.now }
+    {
+        self.follow(rt, log);
+        self.show(rt, alloc, log);
+    }
+
+    /// Publishes the scene of the record whose history the press tells, unless readers see it. Where there is no memory for
+    /// it, they see what they saw, up to the next call.
+    pub fn show<R: Wait>(&mut self, rt: &R, alloc: Global, log: &Record)
+        requires { self.old ≡ log.now }
+        ensures { self.new ≡ self.old }
+    {
+        if !self.is_behind {
+            return;
+        }
         let Press {
             writer,
-            head,
             sight,
+            is_behind,
             ..
         } = self;
-        advance(rt, head, sight, log);
         let issue = issue(alloc, sight, log);
-        replace_with(
+        let is_shown = replace_with(
             writer,
             (rt, issue),
             |writer, x| show::<J, R>(x.0, writer, x.1),
         );
+        *is_behind = !is_shown;
     }
 
     /// Tells an eye all that the press was handed. It goes on from all that the eye's seat was told.
@@ -220,6 +247,7 @@ impl<J: HistoryName> Press<J> {
             writer,
             head: _,
             sight: _,
+            is_behind: _,
             of: _,
         } = self;
         let _ = writer.take(rt);
