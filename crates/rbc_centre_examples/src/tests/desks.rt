@@ -3,7 +3,7 @@
 ghost use Rattle.std.specs.Prelude.{◌≡◌};
 
 use super::gates::{Tells, Waits};
-use super::telling::{ask, closed, record_of, shared_track, tell};
+use super::telling::{ask, closed, record_of, shared_track, tell, tell_ahead};
 use super::{BRANCH, ONE_TRAIN, PLAIN, TWO_TRAINS};
 use rbc_model::{Obstacle, OrMemory};
 use rbc_sweep::{AskFault, Blank, Desk, DeskName, Granted, OpenGate, Record};
@@ -173,39 +173,40 @@ fn speaks_of(answer: &Result<Granted, OrMemory<AskFault>>, place: u64) -> bool {
     }
 }
 
-/// A report, its train, and whether the train is granted an authority then: the second one is blocked by what the first
-/// was granted.
-const REPORTED: [(&str, u32, bool); 2] = [
-    ("report 2 5/17 nominal 700 5 5 200 2001", 2, true),
-    ("report 3 5/17 nominal 1200 5 5 100 4000", 3, false),
+/// Two reports. The train of the second one is blocked by what that of the first is granted.
+const REPORTED: [&str; 2] = [
+    "report 2 5/17 nominal 700 5 5 200 2001",
+    "report 3 5/17 nominal 1200 5 5 100 4000",
 ];
 
-/// From one seat trains report, and ask.
+/// Trains report from one seat, which asks for the first one. Another seat asks for the second, once its report is published.
 fn tell_and_ask<L: DeskName, R>(rt: &R, history: Record, blank: Blank)
 where
     R: Threads + Wait + Abort + AllocGlobal + Sync,
     requires name { blank.ledger.name ≡ L.name }
     requires book { blank.journal ≡ L.book }
-    requires parts { (blank.ledger.parts ≡ L.parts) × (1 ≡ L.parts) }
+    requires parts { (blank.ledger.parts ≡ L.parts) × (2 ≡ L.parts) }
     requires opened { history ≡ L.opened }
 {
     let alloc = rt.alloc();
     let track = shared_track(rt, &history);
-    let (desk, mut seats) = Desk::<L>::new(rt, alloc, history, 1, blank).expect(rt, "seats");
-    let mut seat = seats.pop().expect(rt, "a seat");
-    for (line, train, is_granted) in REPORTED {
-        let told = tell(rt, alloc, &desk, &track, &mut seat, line);
-        let receipt = told.ok().expect(rt, "a receipt");
-        let answer = ask(rt, &desk, &mut seat, train, &OpenGate);
-        assert_eq!(rt; answer.is_ok(), is_granted);
-        assert!(rt; speaks_of(&answer, receipt.place()));
-    }
-    seats.push(seat).expect(rt, "room");
+    let (desk, mut seats) = Desk::<L>::new(rt, alloc, history, 2, blank).expect(rt, "seats");
+    let mut other = seats.pop().expect(rt, "a seat");
+    let mut tells = seats.pop().expect(rt, "a seat");
+    let place = tell_ahead(rt, alloc, &desk, &track, &mut tells, REPORTED[0]);
+    let answer = ask(rt, &desk, &mut tells, 2, &OpenGate);
+    assert!(rt; answer.is_ok() && speaks_of(&answer, place));
+    let place = tell_ahead(rt, alloc, &desk, &track, &mut tells, REPORTED[1]);
+    desk.publish(rt, alloc, &mut tells);
+    let answer = ask(rt, &desk, &mut other, 3, &OpenGate);
+    assert!(rt; answer.is_err() && speaks_of(&answer, place));
+    seats.push(tells).expect(rt, "room");
+    seats.push(other).expect(rt, "room");
     assert_eq!(rt; closed(rt, desk, seats).version(), 7);
 }
 
 #[test]
-fn seat_is_answered_after_what_it_told(rt: HostRuntime) {
+fn seats_are_answered_after_what_was_told(rt: HostRuntime) {
     let history = record_of(&rt, rt.alloc(), BRANCH, &TWO_TRAINS);
-    tell_and_ask::<Brand, _>(&rt, history, Blank::new(1));
+    tell_and_ask::<Brand, _>(&rt, history, Blank::new(2));
 }

@@ -90,6 +90,22 @@ pub(super) fn tell<L: DeskName, R: Wait + Abort>(
     desk.event(rt, alloc, seat, told)
 }
 
+/// Tells the desk what the line tells, to be published later, and gives the place of its entry.
+pub(super) fn tell_ahead<L: DeskName, R: Wait + Abort>(
+    rt: &R,
+    alloc: Global,
+    desk: &Desk<L>,
+    track: &Track,
+    seat: &mut Seat<L>,
+    line: &str,
+) -> u64
+    requires { track.now ≡ L.opened.track }
+{
+    let told = told_by(rt, track, line);
+    let receipt = desk.event_ahead(rt, alloc, seat, told);
+    receipt.ok().expect(rt, "a receipt").place()
+}
+
 /// The train asks at the desk.
 pub(super) fn ask<L: DeskName, R: Threads + Wait + AllocGlobal + Sync, G: Gate>(
     rt: &R,

@@ -1,4 +1,4 @@
-use Rattle.rbc_centre_examples.proofs.tests.desks.seat_is_answered_after_what_it_told.Given as goal
+use Rattle.rbc_centre_examples.proofs.tests.desks.seats_are_answered_after_what_was_told.Given as goal
 
 abbrev pub ghosts-tell_and_ask-L-DeskName : goal.ghosts-tell_and_ask-L-DeskName
 ghosts-tell_and_ask-L-DeskName _ a = record { opened = a.history }
