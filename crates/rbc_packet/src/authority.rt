@@ -2,7 +2,7 @@
 
 ghost use Rattle.std.specs.Prelude.{◌≡◌, ◌≤◌, ◌%◌, ◌==◌};
 ghost use Rattle.std.specs.List.{list_all};
-ghost use Rattle.rbc_model.specs.declared.limits.TheConstants.{LAST_COUNTRY, LAST_GROUP, MOST_STEPS};
+ghost use Rattle.rbc_model.specs.declared.limits.TheConstants.{MOST_STEPS};
 ghost use Rattle.rbc_model.specs.declared.places.Format.TheVariants.{Far};
 ghost use Rattle.rbc_model.specs.Messages.{authority_of, is_writable, IsAuthority};
 ghost use Rattle.rbc_model.specs.Profiles.{IsProfile};
@@ -88,9 +88,7 @@ impl Authority {
     /// The balise group that distances count from: its country or region (NID_C) is 0 to 1,023, its number there
     /// (NID_BG) 0 to 16,382.
     pub fn group(&self) -> Group
-        ensures group { result ≡ self.now.group }
-        ensures country { result.country ≤ LAST_COUNTRY }
-        ensures number { result.number ≤ LAST_GROUP }
+        ensures { result ≡ self.now.group }
     {
         self.group
     }
@@ -105,10 +103,16 @@ impl Authority {
     /// How many metres from the group the train may run (L_ENDSECTION): 1 to 32,000, or a multiple of ten from 32,010 to
     /// 80,000.
     pub fn end(&self) -> u32
-        ensures end { result ≡ self.now.end }
-        ensures authority { IsAuthority Far self.now }
+        ensures { result ≡ self.now.end }
     {
         self.speeds.end()
+    }
+
+    /// Message 3 can give it. This does nothing.
+    pub fn known(&self)
+        ensures { IsAuthority Far self.now }
+    {
+        let _ = &self.time;
     }
 
     /// The speeds from the group to the end.

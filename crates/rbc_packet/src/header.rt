@@ -30,6 +30,7 @@ pub(crate) struct Header {
 pub(crate) fn put_header(bits: &mut BitWriter, authority: &Authority) -> Result<(), Memory>
     ensures { OnOk result (bits.new ≡ bits.old ++ bits_of_fields (header authority.now)) }
 {
+    authority.known();
     let length = message_length(authority);
     let group = authority.group();
     put_fields(

@@ -26,6 +26,7 @@ pub fn write_message(alloc: Global, authority: &Authority) -> Result<Vec<u8>, Me
     ensures { IfOk result (λ bytes. bytes.items ≡ message_bytes authority.now) }
 {
     let mut bits = BitWriter::with_room(alloc, 8 * message_length(authority))?;
+    authority.known();
     let nominal = authority.nominal();
     put_header(&mut bits, authority)?;
     put_packet_15(&mut bits, authority.end(), nominal)?;

@@ -132,8 +132,7 @@ pub(crate) fn told_of(candidate: &Candidate, version: u64) -> Granted<'_>
     let prices = candidate.prices();
     let authority = candidate.authority();
     let message = candidate.message();
-    // An authority is one that a message can tell.
-    let _end = authority.end();
+    authority.known();
     Granted {
         train: candidate.train(),
         version,

@@ -12,7 +12,7 @@ returns c =
     let bits = c.put_header.new.bits in
     let ended : c.put_packet_15.new.bits ≡ bits_of_fields (header a ++ packet_15 a.nominal a.end) =
     more_written bits c.put_packet_15.new.bits (header a) (packet_15 a.nominal a.end) headed
-    (c.in_ok-put_packet_15.ensures ∙ ap₂ (λ n e. bits ++ bits_of_fields (packet_15 n e)) nominal c.end.ensures.end) in
+    (c.in_ok-put_packet_15.ensures ∙ ap₂ (λ n e. bits ++ bits_of_fields (packet_15 n e)) nominal c.end.ensures) in
     let bits = c.put_packet_15.new.bits in
     let sloped : c.put_profile.new.bits ≡ bits_of_fields (header a ++ packet_15 a.nominal a.end ++ packet_21 a.nominal a.end a.grades) =
     more_written bits c.put_profile.new.bits (header a ++ packet_15 a.nominal a.end) (packet_21 a.nominal a.end a.grades) ended

@@ -18,7 +18,7 @@ returns-clause-told c =
       obstacle = c.obstacle.ensures;
       authority = authority;
       message = c.message-message.ensures;
-      writable = rw (← authority) c.end-end.ensures.authority;
+      writable = rw (← authority) c.known-2.ensures;
       speed_steps = c.speed_steps.ensures.steps ∙ ap (λ (v : View). v.speed_steps) seen;
       speeds = c.speeds.ensures.speeds ∙ ap (λ (v : View). record { steps = v.speeds; end = metres_shown v }) seen;
       speed_prices = rw c.as_slice.ensures.value c.prices-prices.ensures.speeds;

@@ -14,7 +14,7 @@ kept c =
     kept_after_granted c.self.inside.scene c.grant_along.new.self c.self.inside.entries.items c.append.new.entries.items c.args.self.now c.self.view_is c.self.invariant
     c.requires.room c.in_ok-grant_along.ensures.granted.1 c.args.candidate.now.view c.args.candidate.now.grant c.known.ensures.best
     c.requires.shown
-    c.train.result c.new-end.result c.train.ensures (c.new-end.ensures ∙ c.end.ensures.end ∙ ap (λ (a : Authority). a.end) c.authority.ensures.authority)
+    c.train.result c.new-end.result c.train.ensures (c.new-end.ensures ∙ c.end.ensures ∙ ap (λ (a : Authority). a.end) c.authority.ensures.authority)
     (c.append.ensures.items ∙ (λ i. c.reserve.ensures.items i ++ Granted (c.in_ok-filed.ensures i) ∷ [])) c.in_ok-grant_along.ensures.granted.0
 
 pub invariant_of-self-2 : goal.invariant_of-self-2
@@ -23,10 +23,10 @@ invariant_of-self-2 c = kept c
 pub grant_along-requires-clause-accepted : goal.grant_along-requires-clause-accepted
 grant_along-requires-clause-accepted c =
     accepted c.self.inside.scene (map entry_of c.self.inside.entries.items) c.args.self.now c.self.view_is c.self.invariant c.args.candidate.now.view c.args.candidate.now.grant
-    c.known.ensures.best c.requires.shown c.train.result c.new-end.result c.train.ensures (c.new-end.ensures ∙ c.end.ensures.end ∙ ap (λ (a : Authority). a.end) c.authority.ensures.authority)
+    c.known.ensures.best c.requires.shown c.train.result c.new-end.result c.train.ensures (c.new-end.ensures ∙ c.end.ensures ∙ ap (λ (a : Authority). a.end) c.authority.ensures.authority)
 
 pub grant_along-requires-clause-along : goal.grant_along-requires-clause-along
 grant_along-requires-clause-along c =
     leading c.self.inside.scene (map entry_of c.self.inside.entries.items) c.args.self.now c.self.view_is c.self.invariant c.args.candidate.now.view c.args.candidate.now.grant
-    c.known.ensures.best c.requires.shown c.train.result c.new-end.result c.train.ensures (c.new-end.ensures ∙ c.end.ensures.end ∙ ap (λ (a : Authority). a.end) c.authority.ensures.authority)
+    c.known.ensures.best c.requires.shown c.train.result c.new-end.result c.train.ensures (c.new-end.ensures ∙ c.end.ensures ∙ ap (λ (a : Authority). a.end) c.authority.ensures.authority)
     c.legs-legs.result.now (c.legs-legs.ensures ∙ ap (λ (v : View). v.line) c.view.ensures.view)
