@@ -324,7 +324,7 @@ impl<'a, L: DeskName, K: Keeper<L>, G: Gate, R: Wait> Answers<Counter<'a, L, K, 
                 print(counter.track, &refused, writer)
             }
         };
-        // What was told is published before the replies are handed on.
+        // What was told is published before the connection is read again.
         if !more {
             counter.desk.publish(counter.waiting, alloc, &mut self.seat);
         }
