@@ -9,7 +9,7 @@ ghost use Rattle.rbc_sweep.specs.Records.{history_on};
 ghost use Rattle.rbc_sweep.specs.Asking.{IsAnswered};
 ghost use Rattle.rbc_replies.specs.Replies.{reply_text, ReplyIsWhole};
 ghost use Rattle.rbc_session_laws.specs.declared.demand.Demand.TheVariants.{Event, Authority};
-ghost use Rattle.rbc_session_laws.specs.Demands.{looked_up};
+ghost use Rattle.rbc_session_laws.specs.Demands.{demand_in, looked_up};
 ghost use Rattle.rbc_model.specs.HistoryText.{IsToldOfTrack};
 ghost use Rattle.rbc_replies.specs.SessionLines.{request_view};
 ghost use Rattle.rbc_server.specs.Keeping.{AddsEntry};
@@ -243,6 +243,42 @@ impl<'a, L: DeskName, K: Keeper<L>, G: Gate, R: Wait> Counter<'a, L, K, G, R> {
             Err(refusal) => print(self.track, &SessionReply::Refused(refusal), writer),
         }
     }
+
+    /// Treats a line.
+    ///
+    /// # Errors
+    ///
+    /// As above.
+    fn treat_line<T: Threads + Sync, W: Sink>(
+        &self,
+        rt: &T,
+        alloc: Global,
+        sitting: &mut Sitting<L, K::Pen>,
+        line: &[u8],
+        writer: &mut W,
+    ) -> Result<(), WriteFailed>
+        requires going { W.failed writer.old ≡ false }
+        requires whole { sitting.old.has_failed ≡ false }
+        ensures { IsTreated K.kept (demand_in sitting.old.seat.told.track line.now) sitting.old sitting.new
+            (W.written writer.old) (W.written writer.new) (W.failed writer.new) result }
+    {
+        // As above.
+        sitting.seat.known();
+        match parse(line) {
+            Ok(request) => self.treat(rt, alloc, sitting, &request, writer),
+            Err(fault) => {
+                let refused = SessionReply::Refused(SessionRefusal::BadLine(fault));
+                print(self.track, &refused, writer)
+            }
+        }
+    }
+
+    /// Publishes what was entered from the sitting's seat.
+    fn publish(&self, alloc: Global, sitting: &mut Sitting<L, K::Pen>)
+        ensures { sitting.new ≡ sitting.old }
+    {
+        self.desk.publish(self.waiting, alloc, &mut sitting.seat);
+    }
 }
 
 /// The reply to a train that asked at a desk.
@@ -315,18 +351,10 @@ impl<'a, L: DeskName, K: Keeper<L>, G: Gate, R: Wait> Answers<Counter<'a, L, K, 
         more: bool,
         writer: &mut W,
     ) -> Result<(), WriteFailed> {
-        // What the seat was told is on the desk's track.
-        self.seat.known();
-        let said = match parse(line) {
-            Ok(request) => counter.treat(rt, alloc, self, &request, writer),
-            Err(fault) => {
-                let refused = SessionReply::Refused(SessionRefusal::BadLine(fault));
-                print(counter.track, &refused, writer)
-            }
-        };
+        let said = counter.treat_line(rt, alloc, self, line, writer);
         // What was told is published before the connection is read again.
         if !more {
-            counter.desk.publish(counter.waiting, alloc, &mut self.seat);
+            counter.publish(alloc, self);
         }
         said
     }
@@ -336,7 +364,7 @@ impl<'a, L: DeskName, K: Keeper<L>, G: Gate, R: Wait> Answers<Counter<'a, L, K, 
         counter: &Counter<'a, L, K, G, R>,
         writer: &mut W,
     ) -> Result<(), WriteFailed> {
-        // As above.
+        // What the seat was told is on the desk's track.
         self.seat.known();
         let overlong = SessionReply::Refused(SessionRefusal::BadLine(LineFault::Overlong));
         print(counter.track, &overlong, writer)

@@ -1,22 +1,8 @@
-use Rattle.std.proofs.Common.{◌∙◌, sym}
-use Rattle.rbc_model.proofs.SaidLineLemmas.{read_is_sayable}
-use Rattle.rbc_session_laws.specs.Demands.{demand_in, looked_up}
-use Rattle.rbc_replies.specs.SessionLines.{request_view}
-use Rattle.rbc_server.proofs.KeepingLemmas.{line_asks}
-use Rattle.rbc_server.proofs.TreatingLemmas.{bad_line_treated, treated_as}
+use Rattle.std.proofs.Common.{sym}
 use Rattle.rbc_server.proofs.counter.SittingPenAnswersCounter.answer.Goals as goal
 
-pub treat-requires-clause-sayable : goal.treat-requires-clause-sayable
-treat-requires-clause-sayable g c κs within = read_is_sayable c.args.line.now (request_view c.in-Ok.request) (sym c.in-Ok.ensures)
+pub returns-then-not-more-clause-reply : goal.returns-then-not-more-clause-reply
+returns-then-not-more-clause-reply g c = rw c.publish.ensures c.treat_line-said.ensures
 
-pub returns-in-Ok-clause-reply : goal.returns-in-Ok-clause-reply
-returns-in-Ok-clause-reply g c =
-    let told = c.args.self.now.seat.told.track in
-    treated_as g.K.Keeper.kept _ _ _ _ _ _ (looked_up told (request_view c.in-Ok.request)) (demand_in told c.args.line.now)
-    (sym (line_asks told c.args.line.now (request_view c.in-Ok.request) (sym c.in-Ok.ensures))) c.treat.ensures
-
-pub returns-in-Err-clause-reply : goal.returns-in-Err-clause-reply
-returns-in-Err-clause-reply g c =
-    let later = c.known.ensures in
-    bad_line_treated g.K.Keeper.kept c.args.self.now _ _ _ _ c.requires.ready c.args.line.now c.in-Err.fault c.args.counter.now.track.now (c.args.counter.now.of_desk ∙ sym later.track)
-    (sym c.in-Err.ensures) c.print.ensures
+pub returns-else-not-more-clause-reply : goal.returns-else-not-more-clause-reply
+returns-else-not-more-clause-reply g c = c.treat_line-said.ensures
