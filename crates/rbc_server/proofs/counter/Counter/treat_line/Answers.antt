@@ -7,7 +7,7 @@ use Rattle.rbc_server.proofs.TreatingLemmas.{bad_line_treated, treated_as}
 use Rattle.rbc_server.proofs.counter.Counter.treat_line.Goals as goal
 
 pub treat-requires-clause-sayable : goal.treat-requires-clause-sayable
-treat-requires-clause-sayable g c = read_is_sayable c.args.line.now (request_view c.in-Ok.request) (sym c.in-Ok.ensures)
+treat-requires-clause-sayable g c κs within = read_is_sayable c.args.line.now (request_view c.in-Ok.request) (sym c.in-Ok.ensures)
 
 pub returns-in-Ok : goal.returns-in-Ok
 returns-in-Ok g c =
