@@ -11,7 +11,7 @@ use Rattle.rbc_book.specs.declared.places.LegPlace.{LegPlace}
 abbrev pub at_start : Track → Leg → LegPlace
 at_start track leg = record { leg = leg; begin = 0; metres = metres_of track leg.section }
 
--- the leg so many metres farther on
+-- the same leg, which begins this many metres farther on
 abbrev pub farther : ℕ → LegPlace → LegPlace
 farther metres place = record { leg = place.leg; begin = metres + place.begin; metres = place.metres }
 
@@ -20,7 +20,7 @@ abbrev pub leg_place : Track → Line → ℕ → Option LegPlace
 leg_place track [] section = None
 leg_place track (leg ∷ legs) section = if leg.section == section then Some (at_start track leg) else option_map (farther (metres_of track leg.section)) (leg_place track legs section)
 
--- how many metres of a leg in this direction, which has so many, a train runs along before the metre of this offset
+-- how many metres of a leg in this direction, which has `metres` in all, a train runs along before the metre of this offset
 abbrev pub metres_until : Direction → ℕ → ℕ → ℕ
 metres_until Rising metres offset = offset
 metres_until Falling metres offset = metres - 1 - offset

@@ -10,7 +10,7 @@ use Rattle.rbc_model.specs.Tracks.{Track}
 use Rattle.rbc_examples.specs.Places.{one_section, plus, lock, nominal}
 use Rattle.rbc_examples.specs.Answers.{Granted, Halted, ask, refusal, where_is}
 
--- a train that stands so far along a section of so many metres
+-- the section is locked, and a train stands `distance` metres along it
 abbrev standing : ℕ → List Event
 standing distance = lock 0 ∷ nominal 1 17 distance 5 5 200 1000 ∷ []
 

@@ -11,7 +11,7 @@ Rows = List (ℕ × ℕ)
 abbrev pub function_of : Rows → ℕ → StepFunction ℕ
 function_of steps end = record { steps = steps; end = end }
 
--- so many rows, each of one metre, at 5 km/h
+-- n rows, one from each metre on, at 5 km/h
 abbrev pub row_each_metre : ℕ → Rows
 row_each_metre zero = []
 row_each_metre (suc n) = row_each_metre n ++ (n, 5) ∷ []

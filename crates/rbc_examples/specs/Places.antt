@@ -16,7 +16,7 @@ plus s = record { section = s; direction = Rising }
 abbrev pub minus : ℕ → Leg
 minus s = record { section = s; direction = Falling }
 
--- a section S1 of so many metres, at 100 km/h and 5 per mille down, with a group at its start and a route along it
+-- a section S1 of this many metres, at 100 km/h and 5 per mille down, with a group at its start and a route along it
 abbrev pub one_section : Format → ℕ → Track
 one_section format metres =
     record {

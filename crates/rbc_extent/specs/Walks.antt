@@ -9,7 +9,7 @@ use Rattle.rbc_model.specs.Locks.{Locks, next, prev}
 use Rattle.rbc_line.specs.OnTracks.{LineOnTrack}
 use Rattle.rbc_scene_laws.specs.Good.{IsGoodLocks}
 
--- the legs that are locked one behind the other, and the first behind this one: so many, or as far as there are any
+-- this many legs that are locked one behind the other, the first behind this one, or all there are if these are fewer
 abbrev pub legs_ahead : Locks → Leg → ℕ → Line
 legs_ahead locks leg zero = []
 legs_ahead locks leg (suc n) = option_map_or (λ more. more ∷ legs_ahead locks more n) (next locks leg) []

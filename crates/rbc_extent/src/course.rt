@@ -11,8 +11,8 @@ use rbc_model::Memory;
 use std::alloc::Global;
 use std::marker::Model;
 
-/// A line that is lengthened along the locks, beside the set of its sections: whether a section stands on it is one
-/// look-up.
+/// A line that is lengthened along the locks, beside the set of its sections: whether a section stands on it is
+/// looked up directly.
 #[derive(Drop)]
 pub struct Course {
     line: Line,

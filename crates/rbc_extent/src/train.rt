@@ -23,9 +23,9 @@ pub(crate) struct Authority {
 }
 
 /// A train: its last report, its line, the place on it of the balise group that the report counts from (the origin),
-/// its extent from the min safe rear end to the front, and its authority from one place to another. A place is so
-/// many metres from the line's start. Its extent and its authority stand on its line, and the authority not behind
-/// the rear.
+/// its extent from the min safe rear end to the front, and its authority from one place to another. A place is its
+/// distance in metres from the line's start. Its extent and its authority stand on its line, and the authority not
+/// behind the rear.
 #[derive(Drop)]
 pub struct Train {
     report: Report,

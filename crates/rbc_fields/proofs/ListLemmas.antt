@@ -29,7 +29,7 @@ use Rattle.rbc_fields.proofs.RestLemmas.{Rest, rest_to}
 
 -- ---- how many fields are left at most
 
--- from this place of a row on, with so many steps left
+-- from this place of a row on, with `later` steps left
 abbrev pub left_from : Row → ℕ → ℕ → ℕ
 left_from Header index later = (6 - index) + 246
 left_from Authority index later = (12 - index) + 234
@@ -117,7 +117,7 @@ if_over false w y n h k = k
 at_last : (index last : ℕ) → index < suc last → nat_lt index last ≡ false → index ≡ last
 at_last index last inside past = let beyond : last ≤ index = grind (arith, past) in omega arith
 
--- one field fewer is left behind a field, where so many steps were left before it
+-- one field fewer is left behind a field, in front of which `before` steps were left
 moved_fewer : (row : Row) (w : Walk) (before : ℕ) → w.row ≡ Some row → w.index < length (names_in row)
     → (counts_steps row w.index ≡ true → w.later ≤ 30) → (counts_steps row w.index ≡ false → w.later ≡ before)
     → fields_left (moved w row) < left_from row w.index before
@@ -212,7 +212,7 @@ behind_fewer walk next row name value at named below is =
     subst (λ x. fields_left x < left_from row walk.index walk.later) (behind_is (is_allowed walk row name value) (length_fault walk row name value) _ (moved w row) next is)
     (subst (λ i. fields_left (moved w row) < left_from row i walk.later) index_is moves)
 
--- ---- a reading has so many fields at most
+-- ---- a reading has at most `fields_left` fields
 
 some_left : (row : Row) (index later : ℕ) → index < length (names_in row) → 1 ≤ left_from row index later
 some_left Header index later inside = omega arith

@@ -53,7 +53,7 @@ less_one m = omega arith
 abbrev frame : ℕ → ℕ → ℕ → Frame
 frame d s e = record { direction = d; scale = s; end = e }
 
--- a walk over a message in so many bytes
+-- a walk over a message of n bytes
 module _ (n : ℕ) where
   -- ---- the header
 
@@ -102,7 +102,7 @@ module _ (n : ℕ) where
   -- ---- packet 21
 
   module _ (d s e sd : ℕ) (near : e ≤ 32000) where
-    -- behind a step, with so many left
+    -- behind a step, with m left
     abbrev pub behind_grade : Option Row → ℕ → ℕ → ℕ → ℕ → Bool → Walk
     behind_grade r i m f u more = entered (record { row = r; index = i; is_alone = false; bytes = n; direction = Some d; scale = Some s; end = Some e; said = sd; later = m; from = f; uphill = u }) (if more then Some GradientStep else Some GradientEnd)
 
@@ -152,7 +152,7 @@ module _ (n : ℕ) where
   -- ---- packet 27
 
   module _ (d s e sd : ℕ) (near : e ≤ 32000) where
-    -- behind a step, with so many left
+    -- behind a step, with m left
     abbrev pub behind_speed : Option Row → ℕ → ℕ → ℕ → ℕ → Bool → Walk
     behind_speed r i m f u more = entered (record { row = r; index = i; is_alone = false; bytes = n; direction = Some d; scale = Some s; end = Some e; said = sd; later = m; from = f; uphill = u }) (if more then Some SpeedStep else Some SpeedEnd)
 

@@ -79,7 +79,7 @@ direction_said : (nominal : Bool) → (direction_of nominal == 1) ≡ nominal
 direction_said true = refl
 direction_said false = refl
 
--- a walk over a message in so many bytes, whose packet 15 tells this
+-- a walk over a message of n bytes, whose packet 15 tells the direction d, the scale s and the end e
 module _ (n d s e : ℕ) (near : e ≤ 32000) where
   -- ---- packet 21
 

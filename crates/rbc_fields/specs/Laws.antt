@@ -20,7 +20,7 @@ abbrev pub fault_in : {A : Type 0} → Result A Fault → Option Fault
 fault_in (Ok x) = None
 fault_in (Err fault) = Some fault
 
--- No fault is found in the fields of a message just where it is read, and else the fault that reading answers.
+-- If a message is read, no fault is found in its fields, and else the fault that reading answers.
 abbrev pub FaultsAgree : Type 0
 FaultsAgree = (bytes : List ℕ) → fault_found (message_reading bytes) ≡ fault_in (read_message Far bytes)
 

@@ -55,7 +55,7 @@ field_read (Some (row, name)) walk bits bit later =
     (behind walk row name (number_of (take (width_of name) bits)))
     (λ next. later next (drop (width_of name) bits) (bit + width_of name))
 
--- at most so many fields from this one on, which begins at this bit
+-- at most this many fields from this one on, which begins at this bit
 unfoldable pub reading : ℕ → Walk → List Bool → ℕ → Reading
 reading zero walk bits bit = stopped None
 reading (suc most) walk bits bit = field_read (field_of walk) walk bits bit (reading most)

@@ -123,7 +123,7 @@ is_allowed walk row _ n = n == 0
 
 -- ---- the lengths
 
--- how many bits the packet of the row has with so many steps
+-- how many bits the packet of the row has with this many steps
 abbrev pub packet_bits : Row → ℕ → ℕ
 packet_bits GradientHead steps = gradient_length steps
 packet_bits _ steps = speed_length steps

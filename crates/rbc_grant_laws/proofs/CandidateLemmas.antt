@@ -1,4 +1,4 @@
--- A grant is the best in a scene just where it is one that its train's view allows.
+-- A grant is the best in a scene exactly where it is one that its train's view allows.
 use Rattle.std.proofs.Common.{◌≡◌, ℕ, zero, suc, ◌+◌, ◌-◌, ◌<◌, ◌≤◌, max, Bool, true, cond, ◌&&◌, List, [], ◌∷◌, length, take, Option, Some, None, Result, Ok, Err, refl, ap, sym, ◌∙◌, subst, arith, ◌⊎◌, inl, inr, nat_lt}
 use Rattle.std.specs.Prelude.{◌==◌, is_ok, is_some, IsTrue, unwrap_or}
 use Rattle.std.specs.Option.{option_map_or}

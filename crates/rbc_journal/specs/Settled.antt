@@ -18,7 +18,7 @@ pub record IsSettled {D : Type 0} (seen : D → List ℕ) (may_leave : D → Lis
   pub waiting : journal.pending.items ≡ behind (staged journal)
   pub fits : journal.gate + vec_len journal.pending ≤ 2 ^ 60
 
--- there is room to stage a line of so many bytes
+-- there is room to stage a line of this many bytes
 pub record HasRoom {D : Type 0} (journal : Journal D) (bytes : ℕ) : Type 0 where
   pub memory : vec_len journal.pending + bytes + 2 ≤ vec_capacity journal.pending
   pub file : journal.gate + vec_len journal.pending + bytes + 2 ≤ 2 ^ 60

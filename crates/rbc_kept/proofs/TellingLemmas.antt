@@ -36,7 +36,7 @@ module _ {Entry : Type 0} (adds : List Entry → List ℕ → Entry → Type 0) 
       let behind : Tells adds (before ++ a.0 ∷ []) lines b.1 = subst (λ (e : Entry). Tells adds (before ++ e ∷ []) lines b.1) (sym same) b.4 in
       a.2 ∙ ap (λ (l : List Entry). a.0 ∷ l) (tell_one only (before ++ a.0 ∷ []) lines a.1 b.1 a.4 behind) ∙ ap (λ (e : Entry). e ∷ b.1) same ∙ sym b.2
 
-  -- so many lines tell so many entries, and the first lines the first entries
+  -- the first lines tell the first entries, as many as these lines
   pub front_tells : (before : List Entry) (lines more : List (List ℕ)) (entries : List Entry) → Tells adds before (lines ++ more) entries → Tells adds before lines (take (length lines) entries)
   front_tells before [] more entries told = refl
   front_tells before (line ∷ lines) more entries told = (
@@ -65,7 +65,7 @@ module _ {Entry : Type 0} (adds : List Entry → List ℕ → Entry → Type 0) 
   ends file rest entries none so_far =
       subst (StandsFor adds file) (append-nil entries) (so_far [] (subst (λ (ls : List (List ℕ)). Tells adds entries ls []) (sym none) refl))
 
-  -- so many lines tell as many entries
+  -- lines tell as many entries as they are
   pub as_many : (before : List Entry) (lines : List (List ℕ)) (entries : List Entry) → Tells adds before lines entries → length lines ≡ length entries
   as_many before [] entries told = ap length (sym told)
   as_many before (line ∷ lines) entries told = ap suc (as_many (before ++ told.0 ∷ []) lines told.1 told.4) ∙ ap length (sym told.2)

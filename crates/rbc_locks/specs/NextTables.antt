@@ -1,4 +1,4 @@
--- The next leg of each leg, kept section by section so that it is found by one look-up.
+-- The next leg of each leg, kept section by section so that it is found without a search.
 use Rattle.std.specs.Prelude.{◌≡◌, List, length, slice_get, slice_set, Option, None, option_and_then}
 use Rattle.std.specs.Option.{option_map_or}
 use Rattle.rbc_model.specs.declared.places.Direction.{Direction}

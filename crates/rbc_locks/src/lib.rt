@@ -1,6 +1,6 @@
 //! Locks: which sections the interlocking has locked, in which direction and behind which leg.
 //!
-//! Each question about a section or a leg is answered by one look-up, however many sections are locked.
+//! Each question about a section or a leg is answered without a search, however many sections are locked.
 #![tactic(auto)]
 
 mod locks;

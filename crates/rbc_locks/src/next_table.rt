@@ -1,4 +1,4 @@
-//! The next leg of each leg, found by one look-up.
+//! The next leg of each leg, found without a search.
 
 ghost use Rattle.std.specs.Prelude.{◌≡◌, ◌<◌, length, replicate, IfOk};
 ghost use Rattle.rbc_locks.specs.NextTables.{no_next, next_leg, with_next};

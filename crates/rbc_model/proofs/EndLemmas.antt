@@ -56,7 +56,7 @@ reach-le track scene train = first_blocked-le (is_clear track scene train) (star
 abbrev pub IsStopped : Track → Scene → Train → Type 0
 IsStopped track scene train = obstacle track scene train (reach track scene train) ≡ None → ⊥
 
--- an end is safe just where it lies from the front + 1 and from `to` on, up to the reach
+-- an end is safe exactly where it lies from the front + 1 and from `to` on, up to the reach
 pub IsSafe-up_to_reach : (track : Track) (scene : Scene) (train : Train) (end : ℕ) → train.front < end → train.to ≤ end → end ≤ reach track scene train → IsSafe track scene train end
 IsSafe-up_to_reach track scene train end beyond keeps near =
     record { beyond_front = beyond; takes_none_back = keeps; clear = λ i low high. obstacle-before_reach track scene train i low (let j : i < reach track scene train = omega arith in j) }

@@ -1,4 +1,4 @@
--- A train's extent or authority has a metre just where one of its places does.
+-- A train's extent or authority has a metre if one of its places does, and only then.
 use Rattle.std.proofs.Common.{◌≡◌, ℕ, ◌+◌, ◌-◌, ◌<◌, ◌≤◌, Bool, true, false, ◌&&◌, not, [], ◌∷◌, Option, Some, None, refl, ap, subst, sym, ◌∙◌, arith, ◌⊎◌, inl, inr, nat_lt, nat_le}
 use Rattle.std.specs.Prelude.{◌==◌, if◌then◌else◌, option_map}
 use Rattle.std.specs.Option.{option_map_or}
@@ -129,7 +129,7 @@ place-metre_at track (leg ∷ legs) metre i differ h =
           ∙ ap Some (met_back track leg.direction leg.section i here))
     ]
 
--- ---- so an extent has a metre just where one of its places does
+-- ---- so an extent has a metre if one of its places does, and only then
 
 between : (o : Option ℕ) (a b : ℕ) → option_map_or (λ place. nat_le a place && nat_lt place b) o false ≡ true → (i : ℕ) × (o ≡ Some i) × (a ≤ i) × (i < b)
 between None a b h = cc

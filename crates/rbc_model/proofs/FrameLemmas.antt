@@ -8,7 +8,7 @@ use Rattle.rbc_model.specs.Scales.{is_expressible, unit_of, scale_of, last_scale
 use Rattle.rbc_model.proofs.CountingLemmas.{both_of}
 use Rattle.rbc_model.proofs.SpellingLemmas.{within}
 
--- the message counts the end as so many units of this scale
+-- the message counts the end as `count` units of this scale
 pub record IsFrame (format : Format) (end scale count : ℕ) : Type 0 where
   pub scale_is : scale_of end ≡ scale
   pub count_is : end / unit_of end ≡ count

@@ -92,7 +92,7 @@ pub record IsUnit (unit end count : ℕ) : Type 0 where
   pub end_is : unit * count ≡ end
   pub fits : count < 2 ^ 15
 
--- from so many units on to a metre x
+-- `distance` units behind the first `from` reach the metre x, and a field has room for them
 pub record IsDistance (unit from x distance : ℕ) : Type 0 where
   pub some : 1 ≤ distance
   pub fits : distance < 2 ^ 15

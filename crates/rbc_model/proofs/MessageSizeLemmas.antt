@@ -42,7 +42,7 @@ row_size-packet_27 : {unit limit n : ℕ} (nominal : Bool) (end : ℕ) (speeds :
 row_size-packet_27 nominal end [] profile = absurd cc
 row_size-packet_27 nominal end (first ∷ later) profile = let more = row_size-speed_elements (unit_of end) end 0 later in omega arith
 
--- the message's fields where it says that it has so many bytes
+-- the message's fields where it says that it has this many bytes
 abbrev pub said_3 : ℕ → Authority → List (FieldName × ℕ)
 said_3 bytes a =
     (NID_MESSAGE, 3)

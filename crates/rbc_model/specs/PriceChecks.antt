@@ -12,7 +12,7 @@ use Rattle.rbc_model.specs.Profiles.{StepFunction, value_at, starts_of, are_mult
 use Rattle.rbc_model.specs.Scales.{unit_of}
 use Rattle.rbc_model.specs.PriceTables.{table_at, break_at, stretch_count, row_count, step_cost, IsSoundTable}
 
--- the first answer there is for so many numbers, from one on
+-- the first answer there is for this many numbers, from `start` on
 abbrev pub first_from : {A : Type 0} → ℕ → ℕ → (ℕ → Option A) → Option A
 first_from start zero answer = None
 first_from start (suc count) answer = option_or (answer start) (first_from (suc start) count answer)
@@ -31,7 +31,7 @@ module _ {V : Type 0} (levels : Levels V) (track profile : StepFunction V) where
   abbrev pub first_above : Option Reason
   first_above = first_from 0 track.end above_at
 
--- for a track, profiles of at most so many steps, and the rows of a table
+-- for a track, profiles of at most `limit` steps, and the rows of a table
 module _ {V : Type 0} (levels : Levels V) (limit : ℕ) (track : StepFunction V) (rows : List (List ℕ)) where
   -- how many prices a row has, one for each break but the first, and how many rows there are, one for each step that can be of use
   abbrev pub columns : ℕ

@@ -14,7 +14,7 @@ abbrev pub lines_of : List ℕ → List (List ℕ)
 lines_of [] = []
 lines_of (byte ∷ bytes) = if byte == 10 then [] ∷ lines_of bytes else with_front byte (lines_of bytes)
 
--- how many line feeds are among some bytes: so many of their lines have ended
+-- how many line feeds are among some bytes, which is how many of their lines have ended
 abbrev pub line_feeds : List ℕ → ℕ
 line_feeds [] = 0
 line_feeds (byte ∷ bytes) = if byte == 10 then suc (line_feeds bytes) else line_feeds bytes
@@ -30,7 +30,7 @@ abbrev pub WritesText : {E : Type 0} → Option (List ℕ) → Option (List ℕ)
 WritesText old new text (Ok done) = Appends old new text
 WritesText old new text (Err fault) = WritesPart old new text
 
--- A call that prints: it wrote this text, and the writer has failed just where the call says so.
+-- A call that prints: it wrote this text, and the writer has failed if the call says so, and only then.
 pub record Prints {E : Type 0} (old new : Option (List ℕ)) (has_failed : Bool) (words : List ℕ) (result : Result (Unit {0}) E) : Type 0 where
   pub text : WritesText old new words result
   pub failed : has_failed ≡ is_err result

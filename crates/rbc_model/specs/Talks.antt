@@ -22,7 +22,7 @@ Answered {State} Answers first (line ∷ lines) text last =
     (reply : List ℕ) × (rest : List ℕ) × (next : State) × Answers first line reply next
     × (text ≡ reply ++ rest) × Answered Answers next lines rest last
 
--- for lines of at most so many bytes
+-- where a line of more than `longest` bytes is too long
 module _ (longest : ℕ) where
   -- no line is too long
   abbrev pub AreShort : List (List ℕ) → Type 0

@@ -10,7 +10,7 @@ use Rattle.rbc_model.specs.Scales.{is_expressible, unit_of, scale_of}
 use Rattle.rbc_model.proofs.FrameLemmas.{frame_of_end}
 use Rattle.rbc_model.proofs.ScaleLemmas.{one_or_ten}
 
--- the packet of this direction and scale, of an end after so many units
+-- the packet of this direction and scale, of an end after `count` units
 abbrev pub end_packet : ℕ → ℕ → ℕ → List (FieldName × ℕ)
 end_packet direction scale count =
     (NID_PACKET, AUTHORITY_PACKET)

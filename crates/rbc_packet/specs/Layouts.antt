@@ -11,7 +11,7 @@ use Rattle.rbc_model.specs.Readers.{Reader, answer, ◌>>=◌, ◌>>◌, expect,
 use Rattle.rbc_model.specs.Reading.{gradient_value_at, speed_value_at}
 use Rattle.rbc_model.specs.Scales.{unit_of, scale_of}
 
--- How a packet tells a profile: its number, its bits for so many steps, the field of its distances, the fields of a value and of the mark
+-- How a packet tells a profile: its number, its bits by the number of steps, the field of its distances, the fields of a value and of the mark
 -- at the end, and how these two are read.
 pub record Layout (V : Type 0) : Type 0 where
   pub number : ℕ
@@ -29,7 +29,7 @@ module _ {V : Type 0} (layout : Layout V) where
   elements unit end from (step ∷ later) =
       (layout.distance, (step.0 - from) / unit) ∷ layout.value_fields step.1 ++ elements unit end step.0 later
 
-  -- what stands before the later ones of so many steps, with this direction and scale and this first value
+  -- what stands before the later ones of this many steps, with this direction and scale and this first value
   abbrev pub profile_head : ℕ → ℕ → V → ℕ → List (FieldName × ℕ)
   profile_head direction scale first steps =
       (NID_PACKET, layout.number)
@@ -53,7 +53,7 @@ module _ {V : Type 0} (layout : Layout V) where
     field layout.distance (λ d. nat_le 1 d && (from + d == end))
     layout.mark_at
 
-  -- so many steps of these units behind one that starts after so many units, and the end element
+  -- this many steps behind one that starts after `from` of these units, and the end element, after `end` of them
   abbrev pub elements_at : ℕ → ℕ → ℕ → ℕ → Reader (List (ℕ × V))
   elements_at unit end from zero = do
     end_at end from
@@ -64,13 +64,13 @@ module _ {V : Type 0} (layout : Layout V) where
     later ← elements_at unit end (from + distance) steps
     answer ((unit * (from + distance), value) ∷ later)
 
-  -- a profile of so many units that begins with this value at 0 and has so many later steps
+  -- a profile of `end` units that begins with this value at 0 and has this many later steps
   abbrev pub steps_at : ℕ → ℕ → V → ℕ → Reader (List (ℕ × V))
   steps_at unit end first steps = do
     later ← elements_at unit end 0 steps
     answer ((0, first) ∷ later)
 
-  -- a profile's packet of this direction and scale; its elements, so many behind one, are read as the first argument says
+  -- a profile's packet of this direction and scale; `elements` reads what is behind a step, given its start and how many steps follow
   abbrev pub profile_by : (ℕ → ℕ → Reader (List (ℕ × V))) → ℕ → ℕ → Reader (List (ℕ × V))
   profile_by elements direction scale = do
     fixed_field NID_PACKET layout.number

@@ -33,7 +33,7 @@ abbrev pub NoneComes : Option (List Coming) → Type 0
 NoneComes None = Unit {0}
 NoneComes (Some coming) = coming ≡ []
 
--- fewer than so many come, where it is known who comes
+-- fewer than `count` come, where it is known who comes
 abbrev pub FewerCome : Option (List Coming) → ℕ → Type 0
 FewerCome None count = Unit {0}
 FewerCome (Some coming) count = length coming < count

@@ -1,4 +1,4 @@
--- There is no reason against a profile just where the table is a certificate, and then the profile is best.
+-- There is no reason against a profile exactly where the table is a certificate, and then the profile is best.
 use Rattle.std.proofs.Common.{◌≡◌, refl, ap, sym, ◌∙◌, arith, subst, ℕ, zero, suc, ◌+◌, ◌<◌, ◌≤◌, ◌↔◌, Bool, true, false, List, length, nat_le, ◌==◌, Option, Some, None, Result, Ok, Err, IsTrue}
 use Rattle.std.specs.List.{list_all}
 use Rattle.std.specs.Result.{OnOk}

@@ -10,7 +10,7 @@ pub record AreTotals {N : Type 0} (number : N → ℕ) (most : ℕ) (prices : Li
   pub same : (j : ℕ) → row_in number table j ≡ slice_index_or prices j []
   pub small : (j i : ℕ) → slice_index (row_in number table j) i ≤ most
 
--- In so many rows the price up to a break is not too high, where one step costs so much from each break up to there.
+-- In the first `count` rows the price up to break `to` is not too high, where one step from break i up to there costs `costs i`.
 pub record IsSoundColumn (row : ℕ → List ℕ) (count to : ℕ) (costs : ℕ → ℕ) : Type 0 where
   pub first : price_up_to (row 0) to ≤ costs 0
   pub later : (j : ℕ) → suc j < count → (i : ℕ) → i < to → price_up_to (row (suc j)) to ≤ price_up_to (row j) i + costs i

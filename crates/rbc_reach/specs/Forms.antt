@@ -31,7 +31,7 @@ view_of_parts parts = record {
 }
 
 -- whether the speeds and gradients end at one metre, which a message can give, the places are no greater than numbers
--- of the program can be, and a packet has room for so many steps
+-- of the program can be, and a packet has room for as many steps as each profile may have
 abbrev pub are_in_form : ViewParts → Bool
 are_in_form parts =
     parts.grades.end == parts.speeds.end

@@ -1,4 +1,4 @@
--- A train's extent, or its authority, has a metre of a leg just where the metre lies in the leg's span.
+-- A train's extent, or its authority, has a metre of a leg if the metre lies in the leg's span, and only then.
 use Rattle.std.proofs.Common.{◌≡◌, ℕ, ◌+◌, ◌-◌, ◌<◌, ◌≤◌, min, Bool, true, false, ◌&&◌, [], ◌∷◌, Option, Some, None, refl, ap, sym, subst, ◌∙◌, arith, nat_lt, nat_le}
 use Rattle.std.specs.Prelude.{◌==◌, if◌then◌else◌, option_map}
 use Rattle.std.specs.Option.{option_map_or}

@@ -26,7 +26,7 @@ use Rattle.rbc_model.proofs.BasicLemmas.{if_in, if_past}
 use Rattle.rbc_model.proofs.MetreLemmas.{line_length-cons}
 
 module _ (track : Track) (scene : Scene) (train : Train) where
-  -- whether some reason stands so many metres from the start of a line that begins at p
+  -- whether some reason stands at the place j, on a line that begins at the place p
   abbrev reason_at : Option Leg → ℕ → Line → ℕ → Bool
   reason_at before p line j =
       ((false || limit_at track train j) || at_leg (λ b l k. lies_in (unlocked_span track scene.locks b l) k) track before line (j - p))

@@ -35,7 +35,7 @@ DistancesAreGreatest = (format : Format) (distance : ℕ) → IsGreatestUpTo for
 abbrev pub GreatestEndsAreToldByTheReach : Type 0
 GreatestEndsAreToldByTheReach = (track : Track) (scene : Scene) (train : Train) → greatest_end track scene train ≡ greatest_end_by track.format train (reach track scene train)
 
--- there is none just where a message can give no place beyond the front, from the authority's end on, up to the reach
+-- there is none exactly where a message can give no place beyond the front, from the authority's end on, up to the reach
 abbrev pub TrainsAreBlockedWhereNoEndIs : Type 0
 TrainsAreBlockedWhereNoEndIs = (track : Track) (scene : Scene) (train : Train) →
     (greatest_end track scene train ≡ None)

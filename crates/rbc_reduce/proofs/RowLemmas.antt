@@ -211,7 +211,7 @@ module _ (cost : ℕ → ℕ → ℕ) (count : ℕ) (row : ℕ → List ℕ) (co
       let there = f.wide (suc j) few in
       same_rows (row (suc j)) (row j) (omega arith) (λ i h. up_alike (suc i) (suc i) j (omega arith) (omega arith) (omega arith) few)
 
--- they are as the one of so many steps
+-- from the row `first` on they are all as that one
 pub alike_from : (first count : ℕ) (row : ℕ → List ℕ) → AreAlike (suc first) count row → (j : ℕ) → first ≤ j → j < count → row j ≡ row first
 alike_from first count row alike zero far few = ap row (let e : zero ≡ first = omega arith in e)
 alike_from first count row alike (suc j) far few = elim (reached first j far) [

@@ -24,11 +24,11 @@ abbrev pub IsPriceMore : List ℕ → (ℕ → List ℕ) → (ℕ → List ℕ) 
 IsPriceMore costs old new j =
     (price : ℕ) × (new (suc j) ≡ old (suc j) ++ price ∷ []) × IsCheapest (price_up_to (old j)) (slice_index costs) (length costs) price
 
--- of so many rows with so many columns, those of as many steps as columns, or more, are alike: no step is left for them
+-- of `count` rows with `columns` columns, those of as many steps as columns, or more, are alike: no step is left for them
 abbrev pub AreAlike : ℕ → ℕ → (ℕ → List ℕ) → Type 0
 AreAlike columns count row = (j : ℕ) → columns ≤ suc j → suc j < count → row (suc j) ≡ row j
 
--- Each of so many rows has one price more: in the first row it is what one step costs, and in each later one the
+-- Each of the first `count` rows has one price more: in the first row it is what one step costs, and in each later one the
 -- cheapest with one step more than those of the row before.
 pub record IsColumnMore (costs : List ℕ) (count : ℕ) (old new : ℕ → List ℕ) : Type 0 where
   pub first : new 0 ≡ old 0 ++ slice_index costs 0 ∷ []
@@ -40,7 +40,7 @@ module _ (cost : ℕ → ℕ → ℕ) (count : ℕ) (row : ℕ → List ℕ) whe
     pub one_step : price_up_to (row 0) to ≡ cost 0 to
     pub more_steps : (j : ℕ) → suc j < count → IsCheapest (price_up_to (row j)) (λ i. cost i to) to (price_up_to (row (suc j)) to)
 
-  -- So many columns of so many rows are filled.
+  -- The first `columns` columns of the first `count` rows are filled, and nothing else is.
   pub record AreFilled (columns : ℕ) : Type 0 where
     pub wide : (j : ℕ) → j < count → length (row j) ≡ columns
     pub none : (j : ℕ) → count ≤ j → row j ≡ []

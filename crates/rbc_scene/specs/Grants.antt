@@ -8,7 +8,7 @@ use Rattle.rbc_model.specs.Scenes.{Scene}
 use Rattle.rbc_model.specs.Views.{start_of, is_safe, is_expressible_end}
 use Rattle.rbc_model.specs.Events.{with_authority, line_to}
 
--- the train once it is granted an authority up to so many metres from its group, if that is a safe end that a message can give
+-- the train once it is granted an authority up to `distance` metres from its group, if that is a safe end that a message can give
 abbrev pub granted_train : Track → Scene → Train → ℕ → Result Train Refusal
 granted_train track scene train distance =
     let to = train.origin + distance in

@@ -37,7 +37,7 @@ StepsOrMemory (Err fault) old new answer = RefusesOrMemory fault answer × (new 
 abbrev pub is_crowded : Scene → Report → Bool
 is_crowded scene report = not (is_some (train_numbered scene report.train)) && nat_le MOST_TRAINS (length scene.trains)
 
--- the place at which a train's authority ends once it has given back what lies beyond so many metres from its group, if it may
+-- the place at which a train's authority ends once it has given back what lies beyond `distance` metres from its group, if it may
 abbrev pub end_cut : Train → ℕ → Option ℕ
 end_cut train distance =
     let to = train.origin + distance in if nat_lt to train.to && nat_le train.front to && nat_le train.from to then Some to else None
@@ -72,7 +72,7 @@ told_at_once track scene (ToldReport report) =
     if is_crowded scene report then Some Crowded else (if is_none (group_named track report.group) then Some UnknownGroup else None)
 told_at_once track scene told = result_err (after_told track scene told)
 
--- No way is so clear that the train's authority may end so many metres from its group: no message tells so many, or the place does not lie beyond
+-- No way is so clear that the train's authority may end `distance` metres from its group: no message tells as many, or the place does not lie beyond
 -- the front, or metres are taken back.
 abbrev pub is_out_of_range : Track → Train → ℕ → Bool
 is_out_of_range track train distance =
@@ -88,12 +88,12 @@ abbrev pub refused_at_once : Track → Scene → Event → Option Refusal
 refused_at_once track scene (Tell told) = told_at_once track scene told
 refused_at_once track scene (Grant train distance) = granted_at_once track scene train distance
 
--- what stands at the reach of the train of this number, and where: so many metres from the start of its line
+-- what stands at the reach of the train of this number, and where, in metres from the start of its line
 abbrev pub reach_of : Track → Scene → ℕ → Result (Obstacle × ℤ) Refusal
 reach_of track scene number =
     option_map_or (λ train. let found : Result (Obstacle × ℤ) Refusal = Ok (stop track scene train, pos (reach track scene train)) in found) (train_numbered scene number) (Err (UnknownTrain number))
 
--- the way of the train of this number begins with the legs, and they have each metre before a place so many metres from its group
+-- the way of the train of this number begins with the legs, and they have each metre before the place `distance` metres from its group
 abbrev pub LeadTo : Track → Scene → ℕ → ℕ → Line → Type 0
 LeadTo track scene number distance legs =
     (train : Train) → train_numbered scene number ≡ Some train → BeginsWay track scene train legs × (train.origin + distance ≤ line_length track legs)

@@ -69,7 +69,7 @@ is_in-leg track a b leg i before behind =
     not_second true q e = e
     not_second false q e = refl
 
--- some number of a row passes just where the row meets the stretch that passes
+-- some number of a row passes if the row meets the stretch that passes, and only then
 any_by : (test other : ℕ → Bool) (a n : ℕ) → ((i : ℕ) → test i ≡ other i) → list_any test (range_with_len a n) ≡ list_any other (range_with_len a n)
 any_by test other a zero h = refl
 any_by test other a (suc n) h = ap₂ (λ x y. x || y) (h a) (any_by test other (a + 1) n h)
@@ -121,7 +121,7 @@ any_on_leg track a b leg i j before behind =
       | inr some ↦ ap (λ k. nat_lt (max i n) (min k (n + m))) (let e : i + (j - i) ≡ j = omega arith in e)
     ]
 
--- a train stands on a section of its line just where its extent or its authority meets the leg
+-- a train stands on a section of its line if its extent or its authority meets the leg, and only then
 pub stands_on-leg : (track : Track) (a b : Line) (leg : Leg) (train : Train) → train.line ≡ a ++ leg ∷ b → has_section a leg.section ≡ false → has_section b leg.section ≡ false
     → stands_on track leg.section train
     ≡ (meets train.rear train.front (line_length track a) (line_length track a + metres_of track leg.section) || meets train.from train.to (line_length track a) (line_length track a + metres_of track leg.section))

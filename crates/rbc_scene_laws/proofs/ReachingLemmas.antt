@@ -55,6 +55,6 @@ ending_reach track i (leg ∷ line) =
           omega arith
     ]
 
--- so many legs of a longer line, if they are no fewer than the shorter one's
+-- the first k legs of a longer line, if they are no fewer than the shorter one's
 pub take_past : (k : ℕ) (a b : Line) → length a ≤ k → take k (a ++ b) ≡ a ++ take (k - length a) b
 take_past k a b h = ap (λ j. take j (a ++ b)) (let e : k ≡ length a + (k - length a) = omega arith in e) ∙ take-append-add a b (k - length a)

@@ -55,7 +55,7 @@ module _ (track : Track) (line : Line) where
       ∙ sym (take-add (b - a) (c - b) rest)
       ∙ ap (λ n. take n rest) (let e : b - a + (c - b) ≡ c - a = omega arith in e)
 
-  -- a metre is in it just where one of its places has it
+  -- where it has a k-th metre, that is the one at the place a + k, which lies before b
   pub at_place_of_stretch : (a b k : ℕ) (metre : Metre) → slice_get (metres_between track line a b) k ≡ Some metre → (a + k < b) × (metre_at track line (a + k) ≡ Some metre)
   at_place_of_stretch a b k metre h =
       elim (le_or_lt b (a + k)) [

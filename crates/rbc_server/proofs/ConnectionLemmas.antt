@@ -130,7 +130,7 @@ no_more_came (Some coming) (Some left) came count before none few =
     let all : coming ≡ came = before ∙ ap (λ l. came ++ l) none ∙ append-nil came in
     subst (λ (l : List Coming). length l < count) (sym all) few
 
--- no further one, where so many clients have a handle, and some are wanted still
+-- no further one, where each client that came has a handle, and some of the `count` are wanted still
 pub none_for_the_rest : {H : Type 0} (came : H → Coming) (handles : List H) (coming left : Option (List Coming)) (wanted count : ℕ) → Came coming left (map came handles)
     → NoneComes left → length handles + wanted ≤ count → 0 < wanted → FewerCome coming count
 none_for_the_rest came handles coming left wanted count before none fits some =

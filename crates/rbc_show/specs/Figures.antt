@@ -56,7 +56,7 @@ metre_marks chart origin group =
     ∷ named chart origin 268 (origin_text group)
     ∷ []
 
--- the shapes of a stair on a way of so many metres
+-- the shapes of a stair, in the chart of its way
 abbrev pub marks_on : Chart → ℕ → GroupName → List Place → List Mark
 marks_on chart origin group places = value_marks chart places ++ (side_marks chart places ++ metre_marks chart origin group)
 

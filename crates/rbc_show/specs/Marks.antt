@@ -29,7 +29,7 @@ caption_opening look place = joined (codes "<text class='" ∷ look ∷ codes "'
 abbrev pub line : List ℕ → Point → Point → Mark
 line look from to = Plain (Line look from to)
 
--- where the places of so many metres stand: as in the chart of a profile that ends there
+-- where the places of a way of this many metres stand: as in the chart of a profile that ends there
 abbrev pub scale_of : ℕ → Chart
 scale_of metres = chart_of Speed metres [] []
 

@@ -1,4 +1,4 @@
--- The speeds and the gradients of a train's way, as stairs: from a place on, a height. A place is so many metres from the start of the train's line.
+-- The speeds and the gradients of a train's way, as stairs: from a place on, a height. A place is told in metres from the start of the train's line.
 use Rattle.std.specs.Prelude.{ℕ, ℤ, pos, ◌+◌, List, [], ◌∷◌, ◌++◌, map}
 use Rattle.rbc_draw.specs.declared.chart.Measure.{Measure}
 use Rattle.rbc_draw.specs.declared.chart.Measure.TheVariants.{Speed, Grade}

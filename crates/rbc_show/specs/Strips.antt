@@ -1,4 +1,4 @@
--- A train's strip: the legs of its way, from the start of its line as far as the locks lead, and what stands on them. A place is so many metres from
+-- A train's strip: the legs of its way, from the start of its line as far as the locks lead, and what stands on them. A place is told in metres from
 -- the start of the train's line.
 use Rattle.std.specs.Prelude.{ℕ, suc, ◌+◌, nat_lt, if◌then◌else◌, Bool, false, true, List, [], ◌∷◌, ◌++◌, length, filter, flat_map, map, Option, None, Some}
 use Rattle.std.specs.List.{range_with_len}

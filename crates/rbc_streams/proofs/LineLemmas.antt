@@ -33,7 +33,7 @@ lines_of_last (byte ∷ next ∷ line) none some =
     lines_of_front byte (next ∷ line) (no_feed_head byte (next ∷ line) none)
     ∙ ap (with_front byte) (lines_of_last (next ∷ line) (no_feed_tail byte (next ∷ line) none) (omega arith))
 
--- one more byte in front of one line more than so many
+-- one more byte in front of n + 1 lines
 more_in_front : (is_feed : Bool) (byte : ℕ) (lines : List (List ℕ)) (n : ℕ) → length lines ≡ suc n
     → length (if is_feed then [] ∷ lines else with_front byte lines) ≡ suc (if is_feed then suc n else n)
 more_in_front true byte lines n long = ap suc long

@@ -22,7 +22,7 @@ at_start longest = record { line = []; pending = []; longest = longest; ended = 
 abbrev pub HasNoLineFeed : List ℕ → Type 0
 HasNoLineFeed bytes = All (λ byte. byte ≢ 10) bytes
 
--- the bytes begin with a line of at most so many bytes, and its line feed
+-- the bytes begin with a line of at most `longest` bytes, and its line feed
 abbrev pub HasLine : List ℕ → ℕ → Type 0
 HasLine bytes longest = (line : List ℕ) × (rest : List ℕ) × (bytes ≡ line ++ 10 ∷ rest) × HasNoLineFeed line × (length line ≤ longest)
 
@@ -80,7 +80,7 @@ pub record IsInOrder (size line_start line_end start end longest : ℕ) : Type 0
   pub within : end ≤ size
   pub room : longest < size
 
--- so many of the bytes stand before their first line feed: all, if they have none
+-- `count` of the bytes stand before their first line feed: all, if they have none
 pub record IsAhead (bytes : List ℕ) (count : ℕ) : Type 0 where
   pub within : count ≤ length bytes
   pub none_yet : HasNoLineFeed (take count bytes)

@@ -95,7 +95,7 @@ module _ {V : Type 0} (levels : Levels V) (lawful : IsLawful levels) (track : St
         let up = edges_rise 0 run in
         stretch_there 0 0 0 to (omega arith) run (sym first_break) (omega arith) (omega arith) is
 
-    -- the break at which a stretch ends is the last one just where that is the track's end
+    -- the break at which a stretch ends is the last one if it is the track's end, and only then
     pub goes_on : (i : ℕ) (s : Stretch) → IsStretch unit track i s → s.to < track.end → i + 2 < length (breaks_for unit track)
     goes_on i s there before = elim (last_or_before (i + 2) (length (breaks_for unit track)) (let more = there.between in omega arith)) [
       | inl same ↦

@@ -7,7 +7,7 @@ use Rattle.rbc_table_laws.proofs.WayLemmas.{Reach, last_at_most, at_most_way}
 use Rattle.rbc_table_laws.proofs.ChainLemmas.{reach_of_profile}
 use Rattle.rbc_table_laws.proofs.BreakLemmas.{covered_of, are_breaks}
 
--- a way of at most so many steps is one of at most more
+-- a way of at most k steps is one of at most `limit`, if that is no fewer
 reach_few : (cost : ℕ → ℕ → ℕ) (k limit i price : ℕ) → k ≤ limit → Reach cost k i price → Reach cost limit i price
 reach_few cost k limit i price h r = let few = r.1 in (r.0, omega arith, r.2)
 

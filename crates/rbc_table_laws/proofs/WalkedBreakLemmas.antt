@@ -64,7 +64,7 @@ start_inside n s (start ∷ starts) all (inr h) = start_inside n s starts (all_s
 -- ---- rounding
 
 module _ (unit : ℕ) (some : 0 < unit) where
-  -- a multiple is no higher than a number just where it is no higher than that rounded down
+  -- a multiple that is no higher than a number is no higher than that rounded down, and the same upwards
   at_most_down : (s z : ℕ) → z % unit ≡ 0 → z ≤ s → z ≤ rounded_down unit s
   at_most_down s z whole h = elim (le_or_lt z (rounded_down unit s)) [
     | inl low ↦ low

@@ -6,7 +6,7 @@ use Rattle.std.specs.Global.{Vec}
 abbrev pub prices_of : List (Vec ℕ) → List (List ℕ)
 prices_of rows = map (λ row. row.items) rows
 
--- each row has so many prices
+-- each row has `width` prices
 abbrev pub AreWide : ℕ → List (Vec ℕ) → Type 0
 AreWide width rows = (j : ℕ) (row : Vec ℕ) → slice_get rows j ≡ Some row → length row.items ≡ width
 

@@ -73,7 +73,7 @@ same_key : (name : GroupName) (key : ℕ × ℕ) → (nat_eq name.country key.0 
 same_key name key =
     ap (λ b. b && nat_eq name.number key.1) (same_number name.country key.0) ∙ ap (λ b. (key.0 == name.country) && b) (same_number name.number key.1)
 
--- a key is among the keys just where its identity is among theirs
+-- a key is among the keys exactly where its identity is among theirs
 pub any_key : (name : GroupName) (keys : List (ℕ × ℕ)) → list_any (λ key. nat_eq name.country key.0 && nat_eq name.number key.1) keys ≡ list_any (λ other. group_name_eq other name) (map group_name keys)
 any_key name [] = refl
 any_key name (key ∷ keys) =

@@ -1,4 +1,4 @@
--- What is written of links and routes is good just where it is by numbers.
+-- What is written of links and routes is good exactly where it is good by numbers.
 use Rattle.std.proofs.Common.{◌≡◌, ℕ, zero, suc, ◌+◌, ◌≤◌, Bool, true, false, not, ◌||◌, ◌&&◌, ◌==◌, cond, nat_lt, nat_le, bytes_eq, List, [], ◌∷◌, ◌++◌, length, map, take, Ok, Option, Some, None, refl, sym, ap, ap₂, ◌∙◌, arith, Decides}
 use Rattle.std.specs.List.{list_all, list_any, position_or_len}
 use Rattle.std.specs.Option.{option_map_or, unwrap_or}

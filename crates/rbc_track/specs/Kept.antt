@@ -7,7 +7,7 @@ use Rattle.rbc_model.specs.declared.limits.TheConstants.{LONGEST_NAME}
 abbrev pub filled : List ℕ → List ℕ
 filled text = text ++ replicate (LONGEST_NAME - length text) 0
 
--- so many bytes are a name's text, and the others are zeros
+-- the first `count` bytes are a name's text, and the others are zeros
 pub record IsKept (bytes : List ℕ) (count : ℕ) : Type 0 where
   pub name : IsTrue (is_name (take count bytes))
   pub short : count ≤ LONGEST_NAME

@@ -40,6 +40,6 @@ link_key_eq a b = leg_key_eq a.from b.from && leg_key_eq a.to b.to
 abbrev pub names : Leg → Leg → Link → Bool
 names from to link = leg_eq link.from from && leg_eq link.to to
 
--- these are the keys of the links: the key of two legs is among them just where a link names these two in this order
+-- these are the keys of the links: the key of two legs is among them exactly where a link names these two in this order
 abbrev pub AreKeysOf : List Link → List LinkKey → Type 0
 AreKeysOf links keys = (from to : Leg) → list_any (link_key_eq (link_key from to)) keys ≡ list_any (names from to) links

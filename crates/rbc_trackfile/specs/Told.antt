@@ -116,7 +116,7 @@ entry_told read table entry key number value = do
 
 -- ---- entries of the lists of tables
 
--- speeds or gradients over so many metres
+-- speeds or gradients over this many metres
 unfoldable pub runs_told : {V : Type 0} → Levels V → (ℤ → Option V) → FileEntry Data → ℕ → Key → Result (StepFunction V) FileFault
 runs_told levels level_in entry metres key = do
   rows ← list_told Pair (item_told pair_sort (run_of_pair level_in)) entry key

@@ -11,7 +11,7 @@ use Rattle.rbc_way.specs.declared.stretches.Row.TheVariants.{Free, One, Several}
 use Rattle.rbc_way.specs.declared.stretches.Span.{Span}
 use Rattle.rbc_way.specs.declared.stretches.Stretch.{Stretch}
 
--- what the places from a up to b are on a leg of so many metres that begins at q
+-- what the places from a up to b are on a leg of this many metres that begins at q
 abbrev pub span_on : ℕ → ℕ → ℕ → ℕ → Span
 span_on metres q a b = record { low = a - q; high = min (b - q) metres }
 

@@ -120,7 +120,7 @@ fn reach_ahead(
 /// lies behind. Another train of its number does not stand in its way.
 ///
 /// It walks the legs up to the first one that is blocked or has the limit; the next leg, and what other trains have of
-/// its section, are one look-up each.
+/// its section, are looked up directly.
 ///
 /// # Errors
 ///
