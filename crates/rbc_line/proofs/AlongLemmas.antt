@@ -13,14 +13,12 @@ use Rattle.rbc_model.specs.Tracks.{Section, Track, metres_of, metre_of_leg}
 use Rattle.rbc_model.proofs.ScanLemmas.{le_or_lt}
 use Rattle.rbc_scene_laws.proofs.SpotLemmas.{at_place-append_right}
 use Rattle.rbc_steps.proofs.PlaceLemmas.{value_at-index, in_turn, first_at_zero}
+use Rattle.rbc_steps.proofs.StretchLemmas.{next_or_later}
 use Rattle.rbc_line.specs.Along.{Tells, level_at, level_on, levels_from}
 use Rattle.rbc_line.proofs.ChangeLemmas.{parts_metres}
 use Rattle.rbc_line.proofs.TellingLemmas.{tells_more}
 use Rattle.rbc_model.proofs.BasicLemmas.{if_in}
 use Rattle.std.proofs.lemmas.Iterator.Adapters.{option_map_id}
-
-next_or_later : (i k : ℕ) → i < k → (k ≡ i + 1) ⊎ (i + 1 < k)
-next_or_later i k h = grind arith
 
 same_or_before : (i k : ℕ) → i ≤ k → (k ≡ i) ⊎ (i < k)
 same_or_before i k h = grind arith

@@ -6,8 +6,7 @@ use Rattle.rbc_model.specs.Levels.{Levels, IsInRange, IsLawful}
 use Rattle.rbc_model.specs.Profiles.{value_at, starts_of, runs_over, IsTrackFunction}
 use Rattle.rbc_model.proofs.OneSpellingLemmas.{one_spelling}
 use Rattle.rbc_model.proofs.RunLemmas.{IsCovered, value_at-runs_over}
-use Rattle.rbc_steps.proofs.JoinLemmas.{value_at-some}
-use Rattle.rbc_steps.proofs.JoinedLemmas.{all_split, zero_split}
+use Rattle.rbc_model.proofs.StepListLemmas.{all_split, zero_split, value_at-some}
 use Rattle.rbc_steps.proofs.TrackRunLemmas.{IsTrackFunction-runs_over}
 
 module _ {V : Type 0} (levels : Levels V) (lawful : IsLawful levels) where

@@ -5,7 +5,7 @@ use Rattle.std.specs.List.Sorted.{IsNonDecreasingBy, IsPartitionPoint}
 use Rattle.std.proofs.lemmas.Bool.{le-leb, leb-true, ltb-true, lt-leb}
 use Rattle.std.proofs.lemmas.Bool.Decides.{leb_tells}
 use Rattle.rbc_model.specs.Profiles.{value_at, starts_of, rises_above, rises_from_zero}
-use Rattle.rbc_steps.proofs.JoinedLemmas.{rises_split, zero_split, all_split}
+use Rattle.rbc_model.proofs.StepListLemmas.{rises_split, zero_split, all_split}
 
 -- no row has started
 value_at-none : {V : Type 0} (rows : List (ℕ × V)) (x : ℕ) (d : ℕ × V) → ((k : ℕ) → k < length rows → x < (get_or rows k d).0) → value_at rows x ≡ None

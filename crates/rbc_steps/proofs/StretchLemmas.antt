@@ -7,6 +7,9 @@ use Rattle.rbc_model.specs.Levels.{Levels}
 use Rattle.rbc_model.specs.Profiles.{value_at, IsStepList, sum_below, price_at, is_within, loss}
 use Rattle.rbc_steps.proofs.PlaceLemmas.{value_at-index, in_turn, first_at_zero, below_end, some_row}
 
+pub next_or_later : (i k : ℕ) → i < k → (k ≡ i + 1) ⊎ (i + 1 < k)
+next_or_later i k h = grind arith
+
 module _ {V : Type 0} (n : ℕ) (rows : List (ℕ × V)) where
   -- the row of index i is the one that holds metre x of n, if there is such a metre
   pub record Holds (i x : ℕ) : Type 0 where
@@ -29,16 +32,13 @@ module _ {V : Type 0} (n : ℕ) (rows : List (ℕ × V)) where
       later = λ k d h l. omega (arith, in_turn rows 0 k d listed.rising h l);
     }
 
-    past : (i k : ℕ) → i < k → (k ≡ i + 1) ⊎ (i + 1 < k)
-    past i k h = grind arith
-
     more : (i : ℕ) → (i + 1 < length rows) ⊎ (length rows ≤ i + 1)
     more i = grind arith
 
     stops_before : (i stop : ℕ) (d : ℕ × V) → ((e : ℕ × V) → i + 1 < length rows → stop ≡ (get_or rows (i + 1) e).0) → i + 1 < length rows → Stops i stop
     stops_before i stop d next l = record {
       near = omega (arith, next d l, below_end n rows (i + 1) d listed.inside l);
-      later = λ k e h m. elim (past i k h) [
+      later = λ k e h m. elim (next_or_later i k h) [
         | inl same ↦ let start : ℕ → ℕ = λ j. (get_or rows j e).0 in let eq : start k ≡ start (i + 1) = ap start same in omega (arith, next e l, eq)
         | inr after ↦ omega (arith, next e l, in_turn rows (i + 1) k e listed.rising after m)
       ];

@@ -58,7 +58,7 @@ module _ {V : Type 0} (levels : Levels V) (lawful : IsLawful levels) (track : St
   -- ---- from stretch to stretch
 
   module _ (unit : ℕ) (some : 0 < unit) (whole : track.end % unit ≡ 0) where
-    walked : AreBreaksFor unit track (breaks_for unit track) × AreWalked unit track (breaks_in track) (breaks_for unit track)
+    pub walked : AreBreaksFor unit track (breaks_for unit track) × AreWalked unit track (breaks_in track) (breaks_for unit track)
     walked = breaks_walked levels lawful unit some track whole function (breaks_in track) edges_are
 
     -- break i

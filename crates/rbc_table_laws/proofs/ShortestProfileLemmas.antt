@@ -5,11 +5,12 @@ use Rattle.std.proofs.lemmas.Bool.{ltb-true, eqb-true}
 use Rattle.rbc_model.specs.Levels.{Levels, IsLawful}
 use Rattle.rbc_model.specs.Profiles.{value_at, starts_of, rises_above, is_within, price_at, loss, Fits, IsBestProfile}
 use Rattle.rbc_model.proofs.RunLemmas.{IsCovered}
+use Rattle.rbc_model.proofs.StepListLemmas.{rises_split, zero_split, all_split}
 use Rattle.rbc_table_laws.proofs.SumLemmas.{sum_rises}
 use Rattle.rbc_table_laws.proofs.LeastLemmas.{spent, IsGiven}
 use Rattle.rbc_table_laws.proofs.TailLemmas.{IsTail, tail_dearer, tail_inside, tail_fits, tail_loss}
 use Rattle.rbc_table_laws.proofs.ExchangeLemmas.{find_in}
-use Rattle.rbc_table_laws.proofs.ChainLemmas.{AreBreaksInUnits, costs, world, rises_split, zero_split, all_split, value_last, value_here, value_later, lost, given_of, loses_of}
+use Rattle.rbc_table_laws.proofs.ChainLemmas.{AreBreaksInUnits, costs, world, value_last, value_here, value_later, lost, given_of, loses_of}
 use Rattle.rbc_table_laws.proofs.ShorterProfileLemmas.{IsBetter, better_on, better_at_cut}
 
 -- the number is a break before the last
