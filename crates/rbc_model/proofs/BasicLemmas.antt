@@ -12,6 +12,21 @@ same_number n = grind arith
 pub flipped : (a b : ℕ) → (a == b) ≡ false → (b == a) ≡ false
 flipped a b h = grind arith
 
+pub number_turned : (a b : ℕ) → (a == b) ≡ (b == a)
+number_turned a b = grind arith
+
+pub same_or_later : (i k : ℕ) → i ≤ k → (k ≡ i) ⊎ (i < k)
+same_or_later i k h = grind arith
+
+pub next_or_later : (i k : ℕ) → i < k → (k ≡ i + 1) ⊎ (i + 1 < k)
+next_or_later i k h = grind arith
+
+pub next_or_at_most : (i j : ℕ) → i ≤ suc j → (i ≡ suc j) ⊎ (i ≤ j)
+next_or_at_most i j h = grind arith
+
+pub or_second : (a b : Bool) → a ≡ false → (a || b) ≡ b
+or_second a b h = rw h refl
+
 pub if_true : {X : Type 0} (b : Bool) (x y : X) → b ≡ true → (if b then x else y) ≡ x
 if_true b x y h = rw h refl
 

@@ -1,10 +1,10 @@
 -- The runs of a track's first metres have its values there.
-use Rattle.std.proofs.Common.{zero, suc, Bool, subst, ◌⊎◌, inl, inr, true, ◌≡◌, ℕ, ◌<◌, false, List, [], ◌∷◌, ◌++◌, Option, Some, None, refl, arith, ap, sym, ◌∙◌, nat_le, if◌then◌else◌}
+use Rattle.std.proofs.Common.{zero, suc, Bool, subst, inl, inr, true, ◌≡◌, ℕ, ◌<◌, false, List, [], ◌∷◌, ◌++◌, Option, Some, None, refl, arith, ap, sym, ◌∙◌, nat_le, if◌then◌else◌}
 use Rattle.std.specs.Option.{option_or, option_map_or}
 use Rattle.std.proofs.lemmas.Bool.{le-leb, lt-leb}
 use Rattle.rbc_model.specs.Levels.{Levels, is_same, IsInRange, IsLawful}
 use Rattle.rbc_model.specs.Profiles.{value_at, runs_over}
-use Rattle.rbc_model.proofs.CountingLemmas.{both_of}
+use Rattle.rbc_model.proofs.CountingLemmas.{both_of, last_or_below}
 
 pub option_or_assoc : {V : Type 0} (a b c : Option V) → option_or a (option_or b c) ≡ option_or (option_or a b) c
 option_or_assoc None b c = refl
@@ -53,9 +53,6 @@ module _ {V : Type 0} (levels : Levels V) (lawful : IsLawful levels) where
   abbrev pub IsCovered : ℕ → (ℕ → Option V) → Type 0
   IsCovered n track = (x : ℕ) → x < n → (v : V) × (track x ≡ Some v) × IsInRange levels v
 
-  last_or_before : (n x : ℕ) → x < suc n → (x ≡ n) ⊎ (x < n)
-  last_or_before n x h = grind arith
-
   none_in_range : (w : V) → None ≡ Some w → IsInRange levels w
   none_in_range w e = cc
 
@@ -83,7 +80,7 @@ module _ {V : Type 0} (levels : Levels V) (lawful : IsLawful levels) where
       let here = covered n (omega arith) in
       let runs = runs_over levels n track in
       let test = option_map_or (is_same levels here.0) (value_at runs n) false in
-      elim (last_or_before n x h) [
+      elim (last_or_below n x h) [
         | inl e ↦ rw (e, here.1) (new_value test runs n here.0 here.2 (runs_over-in_range n track (λ y l. covered y (omega arith))) refl)
         | inr e ↦ rw here.1 (old_value test runs n here.0 x e ∙ value_at-runs_over n track (λ y l. covered y (omega arith)) x e)
       ]

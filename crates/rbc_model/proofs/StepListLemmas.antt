@@ -1,8 +1,9 @@
 -- A list of steps or of their starts: the first, and those behind it.
-use Rattle.std.proofs.Common.{◌≡◌, ℕ, ◌<◌, ◌≤◌, Bool, true, List, ◌∷◌, Option, Some, None, refl, nat_lt, ◌==◌}
+use Rattle.std.proofs.Common.{◌≡◌, ℕ, ◌<◌, ◌≤◌, Bool, true, false, List, [], ◌∷◌, Option, Some, None, refl, subst, nat_le, nat_lt, ◌==◌, if◌then◌else◌}
 use Rattle.std.specs.List.{list_all}
 use Rattle.std.specs.Option.{option_or}
 use Rattle.std.proofs.lemmas.Bool.{le-leb, ltb-true, eqb-true}
+use Rattle.rbc_model.specs.Levels.{Levels, IsInRange}
 use Rattle.rbc_model.specs.Profiles.{value_at, rises_above, rises_from_zero}
 use Rattle.rbc_model.proofs.CountingLemmas.{both_of}
 
@@ -27,3 +28,16 @@ module _ {V : Type 0} where
   -- once a step has started, there is a value
   pub value_at-some : (step : ℕ × V) (steps : List (ℕ × V)) (x : ℕ) → step.0 ≤ x → (v : V) × (value_at (step ∷ steps) x ≡ Some v)
   value_at-some step steps x h = rw (le-leb step.0 x h) (or_some (value_at steps x) step.1)
+
+module _ {V : Type 0} (levels : Levels V) where
+  in_range_or : (t : Bool) (v w : V) (o : Option V) → IsInRange levels v → (o ≡ Some w → IsInRange levels w) → option_or o (if t then Some v else None) ≡ Some w → IsInRange levels w
+  in_range_or true v w None r h e = let same : v ≡ w = cc in subst (λ u. IsInRange levels u) same r
+  in_range_or false v w None r h e = h e
+  in_range_or t v w (Some u) r h e = h e
+
+  -- the values that a list of steps has are in range
+  pub value_in_range : (steps : List (ℕ × V)) (x : ℕ) (v : V) → list_all (λ step. levels.in_range step.1) steps ≡ true → value_at steps x ≡ Some v → IsInRange levels v
+  value_in_range [] x v all e = absurd cc
+  value_in_range (step ∷ steps) x v all e =
+      let a = all_split (λ step. levels.in_range step.1) step steps all in
+      in_range_or (nat_le step.0 x) step.1 v (value_at steps x) a.0 (λ f. value_in_range steps x v a.1 f) e

@@ -12,8 +12,8 @@ use Rattle.rbc_model.proofs.FrameLemmas.{frame_of_end}
 use Rattle.rbc_model.proofs.MessageReadLemmas.{packet_15-read, packet_21-read, packet_27-read}
 use Rattle.rbc_model.proofs.ScaleLemmas.{writable, makes_authority}
 use Rattle.rbc_model.proofs.RoundTripLemmas.{nominal_said}
+use Rattle.rbc_model.proofs.SpellingLemmas.{go_on}
 use Rattle.rbc_packet.proofs.PacketLemmas.{unit_said}
-use Rattle.rbc_packet.proofs.ReadingLemmas.{reads_ok}
 use Rattle.rbc_packet.specs.Authorities.{authority_with}
 use Rattle.rbc_packet.specs.Frames.{header_view, frame_view}
 use Rattle.rbc_packet.specs.declared.header.Header.{Header as TrainHeader}
@@ -58,7 +58,7 @@ module _ (header : TrainHeader) (frame : TrainFrame) (speeds : StepFunction ℕ)
   pub message_tells : (message : List ℕ) (b₁ b₂ b₃ b₄ : List Bool) → AreRead (byte_bits message) b₁ b₂ b₃ b₄ (length message)
       → read_message Far message ≡ Ok (authority_with header.time header.group frame.nominal speeds grades)
   message_tells message b₁ b₂ b₃ b₄ are =
-      ap value_of (reads_ok _ are.header_read (reads_ok _ are.frame_read (reads_ok _ are.grades_read (reads_ok _ are.speeds_read (reads_ok _ are.filling_read
+      ap value_of (go_on _ are.header_read (go_on _ are.frame_read (go_on _ are.grades_read (go_on _ are.speeds_read (go_on _ are.filling_read
       (ap₂ (λ (nominal : Bool) (end : ℕ). Ok (record { time = header.time; group = header.group; nominal = nominal; end = end; speeds = speeds.steps; grades = grades.steps }, []))
       (nominal_said frame.nominal) (end_told frame.end are.far ∙ sym are.speeds_end)))))))
 

@@ -5,10 +5,8 @@ use Rattle.std.proofs.Math.Nat.{mul-le-mul_left}
 use Rattle.std.proofs.lemmas.Bool.Decides.{eqb_tells}
 use Rattle.rbc_model.specs.Levels.{Levels}
 use Rattle.rbc_model.specs.Profiles.{value_at, IsStepList, sum_below, price_at, is_within, loss}
+use Rattle.rbc_model.proofs.BasicLemmas.{next_or_at_most, next_or_later}
 use Rattle.rbc_steps.proofs.PlaceLemmas.{value_at-index, in_turn, first_at_zero, below_end, some_row}
-
-pub next_or_later : (i k : ℕ) → i < k → (k ≡ i + 1) ⊎ (i + 1 < k)
-next_or_later i k h = grind arith
 
 module _ {V : Type 0} (n : ℕ) (rows : List (ℕ × V)) where
   -- the row of index i is the one that holds metre x of n, if there is such a metre
@@ -96,7 +94,7 @@ module _ {V : Type 0} (n : ℕ) (rows : List (ℕ × V)) where
 -- the sum over a stretch of metres that cost the same
 sum_below-stretch : (f : ℕ → ℕ) (from to c : ℕ) → from ≤ to → ((y : ℕ) → from ≤ y → y < to → f y ≡ c) → sum_below to f ≡ sum_below from f + (to - from) * c
 sum_below-stretch f from zero c h same = let e : from ≡ 0 = omega arith in rw e (omega arith)
-sum_below-stretch f from (suc to) c h same = elim (reached from to h) [
+sum_below-stretch f from (suc to) c h same = elim (next_or_at_most from to h) [
   | inl e ↦ rw e (let z : suc to - suc to ≡ 0 = omega arith in omega (arith, ap (λ k. k * c) z))
   | inr l ↦
       let here = same to l (omega arith) in
@@ -105,9 +103,6 @@ sum_below-stretch f from (suc to) c h same = elim (reached from to h) [
       let product : (suc to - from) * c ≡ (to - from) * c + c = ap (λ k. k * c) longer ∙ omega arith in
       omega (arith, here, before, product)
 ]
-  where
-    reached : (from to : ℕ) → from ≤ suc to → (from ≡ suc to) ⊎ (from ≤ to)
-    reached from to h = grind arith
 
 module _ {V : Type 0} (levels : Levels V) (runs steps : List (ℕ × V)) where
   price_there : (o p : Option V) (track given : V) → o ≡ Some track → p ≡ Some given → price_at levels o p ≡ levels.price track given

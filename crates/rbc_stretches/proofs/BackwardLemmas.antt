@@ -1,5 +1,6 @@
 -- Stretches walked backwards.
-use Rattle.std.proofs.Common.{◌≡◌, ap, sym, ◌∙◌, arith, ℕ, ◌+◌, ◌-◌, ◌%◌, ◌<◌, ◌≤◌, ◌⊎◌, inl, inr, length}
+use Rattle.std.proofs.Common.{◌≡◌, ap, sym, ◌∙◌, arith, ℕ, ◌+◌, ◌-◌, ◌%◌, ◌<◌, ◌≤◌, inl, inr, length}
+use Rattle.std.proofs.Math.Nat.{eq-zero-or-pos}
 use Rattle.rbc_model.specs.Levels.{Levels, IsLawful}
 use Rattle.rbc_model.specs.Profiles.{StepFunction, IsTrackFunction}
 use Rattle.rbc_table_laws.specs.Stretches.{break_before}
@@ -7,13 +8,10 @@ use Rattle.rbc_stretches.specs.OnTracks.{IsStretch}
 use Rattle.rbc_stretches.specs.declared.stretch.Stretch.{Stretch}
 use Rattle.rbc_stretches.proofs.StandingLemmas.{edge, edges_are, at, walked}
 
-none_or_some : (i : ℕ) → (i ≡ 0) ⊎ (0 < i)
-none_or_some i = grind arith
-
 module _ {V : Type 0} (levels : Levels V) (lawful : IsLawful levels) (track : StepFunction V) (function : IsTrackFunction levels track.end track.steps) where
   -- a metre before a run's start has a run before it
   pub run_before : (r x : ℕ) → x < edge levels lawful track function r → 0 < r
-  run_before r x before = elim (none_or_some r) [
+  run_before r x before = elim (eq-zero-or-pos r) [
     | inl none ↦
         let first = (edges_are levels lawful track function).first in
         let same : edge levels lawful track function r ≡ edge levels lawful track function 0 = ap (edge levels lawful track function) none in
@@ -30,7 +28,7 @@ module _ {V : Type 0} (levels : Levels V) (lawful : IsLawful levels) (track : St
 
     -- the first stretch alone starts at 0
     pub first_of_zero : (i : ℕ) (s : Stretch) → IsStretch unit track i s → s.from ≡ 0 → i ≡ 0
-    first_of_zero i s is zero = elim (none_or_some i) [
+    first_of_zero i s is zero = elim (eq-zero-or-pos i) [
       | inl none ↦ none
       | inr later ↦
           let rises = (walked levels lawful track function unit some whole).0.rise (i - 1) (let more = is.between in omega arith) in

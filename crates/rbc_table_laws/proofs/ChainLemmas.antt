@@ -1,8 +1,9 @@
 -- A profile that fits loses no less than some way over the breaks costs.
-use Rattle.std.proofs.Common.{◌≡◌, refl, ap, ◌∙◌, arith, subst, ℕ, zero, suc, ◌+◌, ◌%◌, ◌<◌, ◌≤◌, ◌⊎◌, inl, inr, true, false, ◌&&◌, List, [], ◌∷◌, length, Option, Some, None, nat_le, nat_lt, ◌==◌}
+use Rattle.std.proofs.Common.{◌≡◌, refl, ap, ◌∙◌, arith, subst, ℕ, zero, suc, ◌+◌, ◌%◌, ◌<◌, ◌≤◌, inl, inr, true, false, ◌&&◌, List, [], ◌∷◌, length, Option, Some, None, nat_le, nat_lt, ◌==◌}
 use Rattle.std.specs.List.{list_all}
 use Rattle.std.proofs.lemmas.Bool.{le-leb, ltb-true, eqb-true, cases_lt}
 use Rattle.std.proofs.lemmas.Bool.Decides.{nat_tests}
+use Rattle.std.proofs.Math.Nat.{eq-zero-or-pos}
 use Rattle.rbc_model.specs.Levels.{Levels, IsAtMost, IsLawful}
 use Rattle.rbc_model.specs.Profiles.{value_at, starts_of, rises_above, is_within, price_at, sum_below, loss, Fits}
 use Rattle.rbc_model.specs.PriceTables.{cost}
@@ -10,6 +11,7 @@ use Rattle.rbc_model.proofs.CountingLemmas.{both_of}
 use Rattle.rbc_model.proofs.RunLemmas.{IsCovered}
 use Rattle.rbc_model.proofs.StepListLemmas.{rises_split, zero_split, all_split, value_at-some}
 use Rattle.rbc_model.proofs.LevelLemmas.{one_way}
+use Rattle.rbc_model.proofs.BasicLemmas.{next_or_at_most}
 use Rattle.rbc_table_laws.proofs.SumLemmas.{sum_between, sum_between_same, sum_rises}
 use Rattle.rbc_table_laws.proofs.LeastLemmas.{spent, IsGiven, cost_lowest}
 use Rattle.rbc_table_laws.proofs.WayLemmas.{Reach}
@@ -57,12 +59,9 @@ module _ {V : Type 0} (levels : Levels V) (unit limit n : ℕ) (track : ℕ → 
   abbrev pub costs : ℕ → ℕ → ℕ
   costs i i' = cost levels track (break i) (break i')
 
-  last_or_before : (i j : ℕ) → i ≤ suc j → (i ≡ suc j) ⊎ (i ≤ j)
-  last_or_before i j h = grind arith
-
   pub breaks_up : AreBreaksInUnits → (i j : ℕ) → i ≤ j → j ≤ m → break i ≤ break j
   breaks_up are i zero h inside = let same : break i ≡ break 0 = ap break (omega arith) in omega arith
-  breaks_up are i (suc j) h inside = elim (last_or_before i j h) [
+  breaks_up are i (suc j) h inside = elim (next_or_at_most i j h) [
     | inl e ↦ let same : break i ≡ break (suc j) = ap break e in omega arith
     | inr l ↦ let before = breaks_up are i j l (omega arith) in let up = are.rise j (omega arith) in omega arith
   ]
@@ -182,11 +181,8 @@ module _ {V : Type 0} (levels : Levels V) (unit limit n : ℕ) (track : ℕ → 
             chain_of next later s.1 rest.1 whole.1 ok.1 (λ x low. agree x (omega arith) ∙ value_later x step next later low),
           )
 
-    zero_or_more : (k : ℕ) → (k ≡ 0) ⊎ (0 < k)
-    zero_or_more k = grind arith
-
     some_break : 0 < n → 0 < m
-    some_break h = elim (zero_or_more m) [
+    some_break h = elim (eq-zero-or-pos m) [
       | inl none ↦ let first = are.first in let last = are.last in let same : break m ≡ break 0 = ap break none in absurd (omega arith)
       | inr some ↦ some
     ]
