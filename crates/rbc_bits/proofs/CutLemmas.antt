@@ -7,6 +7,7 @@ use Rattle.std.proofs.lemmas.Nat.{shr-shr, shr_split, shr_high, shl_whole, or_sh
 use Rattle.std.proofs.lemmas.Nat.Bits.{bit_at_cat_low}
 use Rattle.rbc_model.specs.Bits.{bits_of, byte_bits, byte_count, padded_bits, bytes_of, IsBytes}
 use Rattle.rbc_model.proofs.BitLemmas.{length-bits_of, bytes_of-byte_bits}
+use Rattle.rbc_model.proofs.MessageSizeLemmas.{length-byte_bits}
 
 -- what lies above the low bits of a number doesn't show in them
 pub bits_of-low : (width above front value : ℕ) → width ≤ above → bits_of width (front * 2 ^ above + value) ≡ bits_of width value
@@ -40,10 +41,6 @@ whole_byte bytes rest pending =
 zeros : (n : ℕ) → bits_of n 0 ≡ replicate n false
 zeros zero = refl
 zeros (suc n) = ap₂ (λ d later. (d % 2 == 1) ∷ later) (zero-div (2 ^ n)) (zeros n)
-
-pub length-byte_bits : (bytes : List ℕ) → length (byte_bits bytes) ≡ 8 * length bytes
-length-byte_bits [] = refl
-length-byte_bits (byte ∷ bytes) = omega (arith, length-append (bits_of 8 byte) (byte_bits bytes), length-byte_bits bytes)
 
 zeros_behind : (filled missing pending : ℕ) → bits_of filled pending ++ replicate missing false ≡ bits_of (filled + missing) (pending * 2 ^ missing)
 zeros_behind filled missing pending =

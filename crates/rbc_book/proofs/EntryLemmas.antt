@@ -21,11 +21,7 @@ use Rattle.rbc_scene_laws.proofs.TrainListLemmas.{Differ, swap}
 use Rattle.rbc_book.specs.Books.{Book, HoldsOfTrain, IsGoodBook, scene_of, book_with, book_without, number_in, train_in}
 use Rattle.rbc_book.specs.Entries.{on_track, entry_of, number_on, trains_of, book_of, AreEntries}
 use Rattle.rbc_book.proofs.GoodBookLemmas.{good_book-empty, good_book-with, good_book-without}
-use Rattle.rbc_model.proofs.BasicLemmas.{find-passes}
-
--- one test for both orders of its numbers
-flip : (a b : ℕ) → (a == b) ≡ (b == a)
-flip a b = grind arith
+use Rattle.rbc_model.proofs.BasicLemmas.{find-passes, number_turned}
 
 unlike : (a b n : ℕ) → a ≡ n → ((a ≡ b) → ⊥) → (b == n) ≡ false
 unlike a b n e h = grind arith
@@ -81,7 +77,7 @@ module _ (track : Track) where
   lookup-entries : (n : ℕ) (trains : List Train) → lookup (nat_eq n) (entries_of trains) ≡ option_map (on_track track) (train_numbered (scene_of trains) n)
   lookup-entries n [] = refl
   lookup-entries n (x ∷ xs) =
-      ap (λ b. cond b (Some (on_track track x)) (lookup (nat_eq n) (entries_of xs))) (flip n x.report.train)
+      ap (λ b. cond b (Some (on_track track x)) (lookup (nat_eq n) (entries_of xs))) (number_turned n x.report.train)
       ∙ ap (λ o. cond (is_numbered n x) (Some (on_track track x)) o) (lookup-entries n xs)
       ∙ found_on (is_numbered n x) x (train_numbered (scene_of xs) n)
 
@@ -115,7 +111,7 @@ module _ (track : Track) where
   insert_entry-entries train (x ∷ xs) h =
       let n = train.report.train in
       let rest = insert_entry nat_eq (entries_of xs) n (on_track track train) in
-      ap (λ b. cond b ((x.report.train, on_track track train) ∷ entries_of xs) (entry_of track x ∷ rest)) (flip n x.report.train)
+      ap (λ b. cond b ((x.report.train, on_track track train) ∷ entries_of xs) (entry_of track x ∷ rest)) (number_turned n x.report.train)
       ∙ put (is_numbered n x) train x xs (map (swap train) xs) (xs ++ train ∷ []) (train_numbered (scene_of xs) n) rest
       (λ t. let e = eqb-true x.report.train n t in (e, no_swap train x xs e h.0)) (insert_entry-entries train xs h.1)
 
@@ -130,7 +126,7 @@ module _ (track : Track) where
   shift_remove_entry-entries n [] h = refl
   shift_remove_entry-entries n (x ∷ xs) h =
       let rest = shift_remove_entry (nat_eq n) (entries_of xs) in
-      ap (λ b. cond b (entries_of xs) (entry_of track x ∷ rest)) (flip n x.report.train)
+      ap (λ b. cond b (entries_of xs) (entry_of track x ∷ rest)) (number_turned n x.report.train)
       ∙ take_out (is_numbered n x) x xs (without_in xs n) rest (λ t. none_out n x xs (eqb-true x.report.train n t) h.0) (shift_remove_entry-entries n xs h.1)
 
   -- ---- what the calls of a map leave of a book's entries

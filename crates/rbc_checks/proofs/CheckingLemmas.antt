@@ -2,6 +2,7 @@
 use Rattle.std.proofs.Common.{◌≡◌, ℕ, ◌<◌, inl, inr, Bool, true, false, not, subst, ◌||◌, List, [], ◌∷◌, ◌++◌, Option, refl, sym, ap, ◌∙◌, length, append-nil, arith}
 use Rattle.std.specs.Io.KnownBytes.{Appends, Keeps}
 use Rattle.std.proofs.KnownBytes.{Appends-kept}
+use Rattle.std.proofs.Math.Bool.{or-false}
 use Rattle.std.specs.Prelude.{Result, Ok, Err}
 use Rattle.rbc_model.specs.declared.sessions.SessionFault.{SessionFault}
 use Rattle.rbc_model.specs.declared.sessions.SessionFault.TheVariants.{Write}
@@ -16,10 +17,6 @@ behind : (lines : List CheckLine) (refused : Bool) (said reply : List ℕ) (afte
 behind lines refused said reply after (inl (none, same)) = inl (ap (λ l. said ++ l) none ∙ append-nil said, same)
 behind lines refused said reply after (inr (some, memory, same)) = inr (some, ap (λ l. said ++ l) memory, same)
 
-or_false : (refused : Bool) → (refused || false) ≡ refused
-or_false true = refl
-or_false false = refl
-
 module _ (before : Checking) (line : CheckLine) where
   -- the line goes on with the open block
   pub goes_with : (reply : List ℕ) (after : Checking) → goes_on before.block (part_of line) ≡ true
@@ -29,7 +26,7 @@ module _ (before : Checking) (line : CheckLine) where
     [],
     false,
     rw with (refl, refl),
-    rw (with, or_false before.refused) leaves,
+    rw (with, or-false before.refused) leaves,
   )
 
   module _ (said : List ℕ) (bad : Bool) (over : goes_on before.block (part_of line) ≡ false) (answers : AnswersBlock before.block said bad) where

@@ -1,10 +1,11 @@
 -- A step that goes on to the next break: its least value, and the costs that are written.
-use Rattle.std.proofs.Common.{◌≡◌, refl, ap, sym, ◌∙◌, arith, subst, ℕ, zero, suc, ◌+◌, ◌*◌, ◌<◌, ◌≤◌, ◌⊎◌, inl, inr, true, false, List, [], ◌∷◌, ◌++◌, length, get_or, set, Some, if◌then◌else◌}
+use Rattle.std.proofs.Common.{◌≡◌, refl, ap, sym, ◌∙◌, arith, subst, ℕ, zero, suc, ◌+◌, ◌*◌, ◌<◌, ◌≤◌, inl, inr, true, false, List, [], ◌∷◌, ◌++◌, length, get_or, set, Some, if◌then◌else◌}
 use Rattle.std.specs.List.{slice_get}
 use Rattle.std.proofs.lemmas.List.{get_or-set_other}
 use Rattle.std.proofs.lemmas.Grind.{get_or-set_at}
 use Rattle.rbc_model.specs.Levels.{Levels, IsInRange, IsLawful}
 use Rattle.rbc_model.specs.Profiles.{StepFunction, IsTrackFunction}
+use Rattle.rbc_model.proofs.ScanLemmas.{at_or_past}
 use Rattle.rbc_table_laws.specs.Breaks.{IsLowest, IsBelowAll, lost_below}
 use Rattle.rbc_table_laws.specs.Stretches.{breaks_for, cost_of_step}
 use Rattle.rbc_table_laws.proofs.StretchLemmas.{least_range, floor_range, floor_under, below_part, lower_lowest_back, least_same, least_before, cost_is, lost_is, in_range_at, breaks_rise_to, breaks_to_end}
@@ -108,13 +109,11 @@ module _ {V : Type 0} (levels : Levels V) (unit : ℕ) (track : StepFunction V) 
         cost_is levels lawful track function (at i) (at to) now end l (old + on_last) sum
 
 -- the costs that are written, from the last one to the first
-before_or_at : (i k : ℕ) → i ≤ k → (k ≡ i) ⊎ (i + 1 ≤ k)
-before_or_at i k h = grind arith
 
 pub written_more : (costs : List ℕ) (i to price : ℕ) (f : ℕ → ℕ) → i < length costs → price ≡ f i
     → ((k : ℕ) → i + 1 ≤ k → k < to → get_or costs k 0 ≡ f k) → (k : ℕ) → i ≤ k → k < to → get_or (set costs i price) k 0 ≡ f k
 written_more costs i to price f room here behind k low high =
-    elim (before_or_at i k low) [
+    elim (at_or_past i k low) [
       | inl e ↦ get_or-set_at costs i k price 0 (omega arith) room ∙ here ∙ ap f (sym e)
       | inr l ↦ get_or-set_other costs i k price 0 (omega arith) ∙ behind k l high
     ]
@@ -122,7 +121,7 @@ written_more costs i to price f room here behind k low high =
 pub small_more : (costs : List ℕ) (i to price most : ℕ) → i < length costs → price ≤ most
     → ((k : ℕ) → i + 1 ≤ k → k < to → get_or costs k 0 ≤ most) → (k : ℕ) → i ≤ k → k < to → get_or (set costs i price) k 0 ≤ most
 small_more costs i to price most room here behind k low high =
-    elim (before_or_at i k low) [
+    elim (at_or_past i k low) [
       | inl e ↦ let at = get_or-set_at costs i k price 0 (omega arith) room in omega arith
       | inr l ↦ let other = get_or-set_other costs i k price 0 (omega arith) in let b = behind k l high in omega arith
     ]

@@ -1,5 +1,6 @@
 -- Lemmas on tries to grant.
 use Rattle.std.proofs.Common.{◌≡◌, ℕ, zero, suc, map, replicate, Bool, true, false, length, List, [], ◌∷◌, ◌++◌, Option, Some, None, is_some, Result, Ok, Err, refl, ap, sym, subst, ◌∙◌}
+use Rattle.std.proofs.lemmas.Bool.{both_ways}
 use Rattle.std.specs.Prelude.{if◌then◌else◌, IfErr, IfOk, IfSome, OnErr, slice_get}
 use Rattle.std.specs.Option.{option_map_or}
 use Rattle.std.specs.Result.{result_map_both}
@@ -63,7 +64,7 @@ shown_just (Err fault) version v e = cc
 the_view : (s v : View) → ◌≡◌ {A = Result View AskFault} (Ok s) (Ok v) → v ≡ s
 the_view s v e = cc
 
-viewed : (r : Result View ViewFault) (version : ℕ) (v : View) → result_map_both (λ seen. seen) (fault_at version) r ≡ Ok v → r ≡ Ok v
+pub viewed : (r : Result View ViewFault) (version : ℕ) (v : View) → result_map_both (λ seen. seen) (fault_at version) r ≡ Ok v → r ≡ Ok v
 viewed (Ok s) version v e = ap Ok (sym (the_view s v e))
 viewed (Err fault) version v e = cc
 
@@ -86,11 +87,7 @@ tries (Err (Refused FullToGrants)) old new candidate known e =
     ((only_full (is_full old) (is_shown old candidate.view) (length old.entries) (Granted candidate.grant) e.0, known), e.1)
 tries (Err (Refused (Stale at))) old new candidate known e =
     let other = only_stale (is_full old) (is_shown old candidate.view) (length old.entries) at (Granted candidate.grant) e.0 in
-    ((λ current. clash (is_shown old candidate.view) (just_shown (view old.track (scene_now old) candidate.view.train) (length old.entries) candidate.view current) other), e.1)
-  where
-    clash : (b : Bool) → b ≡ true → b ≡ false → ⊥
-    clash true p q = cc
-    clash false p q = cc
+    ((λ current. both_ways (is_shown old candidate.view) other (just_shown (view old.track (scene_now old) candidate.view.train) (length old.entries) candidate.view current)), e.1)
 tries (Err Memory) old new candidate known e = (known, e.1)
 
 -- ---- trains that are there

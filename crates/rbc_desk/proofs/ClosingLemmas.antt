@@ -7,6 +7,7 @@ use Rattle.std.proofs.lemmas.List.{append-nil, length-set, get_or-set_same, get_
 use Rattle.std.proofs.lemmas.List.Folds.{list_any-append, list_any_none, list_any_at}
 use Rattle.std.proofs.lemmas.List.Concat.{flat_map-append}
 use Rattle.std.proofs.lemmas.Bool.Decides.{nat_tests}
+use Rattle.std.proofs.lemmas.Option.{same_Some, none-some}
 use Rattle.rbc_model.specs.Histories.{Entry, Receipt, IsAtPlace, IsLegal, Matches}
 use Rattle.rbc_snap.specs.Records.{HistoryOnTrack}
 use Rattle.rbc_desk.specs.Seats.{Seated}
@@ -34,15 +35,9 @@ module _ (entries : List Entry) (start : ℕ) where
 
   -- each of receipts at their places is at its own
   pub each_at_place : (earlier xs : List Receipt) → AreAtPlaces entries start earlier xs → (i : ℕ) (r : Receipt) → slice_get xs i ≡ Some r → IsAtPlace entries start (earlier ++ take i xs) r
-  each_at_place earlier [] p i r e = absurd (none_some r e)
-    where
-      none_some : (r : Receipt) → None ≡ Some r → ⊥
-      none_some r e = cc
+  each_at_place earlier [] p i r e = absurd (none-some r e)
   each_at_place earlier (x ∷ xs) p zero r e =
-      subst (λ y. IsAtPlace entries start (earlier ++ []) y) (the_same x r e) (subst (λ l. IsAtPlace entries start l x) (sym (append-nil earlier)) p.0)
-    where
-      the_same : (x r : Receipt) → Some x ≡ Some r → x ≡ r
-      the_same x r e = cc
+      subst (λ y. IsAtPlace entries start (earlier ++ []) y) (same_Some x r e) (subst (λ l. IsAtPlace entries start l x) (sym (append-nil earlier)) p.0)
   each_at_place earlier (x ∷ xs) p (suc i) r e =
       subst (λ l. IsAtPlace entries start l r) (append_assoc earlier (x ∷ []) (take i xs)) (each_at_place (earlier ++ x ∷ []) xs p.1 i r e)
 

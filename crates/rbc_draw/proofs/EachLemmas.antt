@@ -1,6 +1,5 @@
 -- Texts of the parts that are left, one behind another.
-use Rattle.std.proofs.Common.{◌≡◌, ℕ, suc, ◌<◌, ◌≤◌, ◌+◌, List, [], ◌∷◌, ◌++◌, refl, sym, ap, ◌∙◌, drop, drop-cons, get_or, length, add-one, map}
-use Rattle.std.proofs.lemmas.List.{at_drop_all}
+use Rattle.std.proofs.Common.{◌≡◌, ℕ, suc, ◌<◌, ◌+◌, List, [], ◌∷◌, ◌++◌, refl, sym, ap, ◌∙◌, drop, drop-cons, get_or, length, add-one, map}
 use Rattle.std.specs.Prelude.{flat_map}
 
 -- the first of the parts that are left, and those behind it
@@ -10,10 +9,6 @@ each-next text parts index part inside same =
     ap (λ ps. flat_map text ps) (drop-cons parts index part inside)
     ∙ ap (λ p. text p ++ flat_map text (drop (suc index) parts)) (sym same)
     ∙ ap (λ i. text part ++ flat_map text (drop i parts)) (sym (add-one index))
-
--- no part is left
-pub each-end : {X : Type 0} (text : X → List ℕ) (parts : List X) (index : ℕ) → length parts ≤ index → flat_map text (drop index parts) ≡ []
-each-end text parts index past = at_drop_all (λ ps. flat_map text ps) parts index past
 
 -- the texts of what is made of each part
 pub each-map : {X Y : Type 0} (text : Y → List ℕ) (made : X → Y) (parts : List X) → flat_map text (map made parts) ≡ flat_map (λ part. text (made part)) parts

@@ -1,11 +1,12 @@
 -- The page, from line to line.
-use Rattle.std.proofs.Common.{◌≡◌, ℕ, ◌≤◌, Bool, true, false, not, ◌||◌, ◌&&◌, List, [], ◌∷◌, ◌++◌, length, Option, Some, None, Ok, inl, inr, refl, ap, ap₂, sym, ◌∙◌, subst, append_assoc, append-nil, arith, nat_lt}
+use Rattle.std.proofs.Common.{◌≡◌, ℕ, ◌≤◌, Bool, true, false, not, ◌||◌, List, [], ◌∷◌, ◌++◌, length, Option, Some, None, Ok, inl, inr, refl, ap, ap₂, sym, ◌∙◌, subst, append_assoc, append-nil, arith, nat_lt}
 use Rattle.std.specs.Prelude.{IfSome, ◌<◌}
 use Rattle.std.specs.Io.KnownBytes.{Appends, Consumes, IsAtEnd}
 use Rattle.std.specs.List.{AllByRecursion}
 use Rattle.std.proofs.KnownBytes.{Appends-trans, Consumes-whole}
 use Rattle.std.proofs.lemmas.List.{append_cancel_left}
 use Rattle.std.proofs.lemmas.List.Elements.{recursion_from_All}
+use Rattle.std.proofs.Math.Bool.{not-not}
 use Rattle.rbc_model.specs.declared.limits.TheConstants.{LONGEST_CHECK_LINE}
 use Rattle.rbc_model.specs.declared.places.Format.TheVariants.{Far}
 use Rattle.rbc_model.specs.Sessions.{lines_of}
@@ -13,7 +14,7 @@ use Rattle.rbc_model.specs.Talks.{Answered, IsTalk}
 use Rattle.rbc_model.specs.CheckText.{CheckLine, Other, check_line, goes_on, opened, ended}
 use Rattle.rbc_checks.specs.CheckAnswers.{is_not_refused, are_certified, are_all_certified}
 use Rattle.rbc_draw.specs.Pages.{Drawing, undrawn, shown_text, blocks_text, line_said, heading_text, heading_said, Keeps, AnswersSaid, AnswersDraw}
-use Rattle.rbc_model.proofs.BasicLemmas.{if_false, if_true}
+use Rattle.rbc_model.proofs.BasicLemmas.{if_false, if_true, or_not-or_not}
 
 -- ---- a line that is no part of a block
 
@@ -35,12 +36,6 @@ other_opens block = rw (not_on block) refl
 never_lost : (first last : Drawing) (lines : List (List ℕ)) (text : List ℕ) → Answered AnswersDraw first lines text last → last.lost ≡ false → first.lost ≡ false
 never_lost first last [] text (none, same) whole = ap (λ (d : Drawing). d.lost) (sym same) ∙ whole
 never_lost first last (line ∷ lines) text (reply, rest, next, answers, cut, later) whole = answers.0
-
--- a block that is refused is so after others too
-not_both : (refused first rest : Bool) → ((refused || not first) || not rest) ≡ (refused || not (first && rest))
-not_both true first rest = refl
-not_both false true rest = refl
-not_both false false rest = refl
 
 short_said : (line : List ℕ) → length line ≤ LONGEST_CHECK_LINE → line_said line ≡ check_line Far line
 short_said line short = let e : nat_lt LONGEST_CHECK_LINE (length line) ≡ false = grind arith in if_false (nat_lt LONGEST_CHECK_LINE (length line)) Other (check_line Far line) e
@@ -97,12 +92,8 @@ lines_shown first last (line ∷ lines) text short (reply, rest, next, (going, (
           ∙ ap₂ (λ r t. r ++ t) here (more.0 ∙ ap (λ (d : Drawing). blocks_text d.block lines) after),
       more.1
           ∙ ap (λ (d : Drawing). d.refused || not (are_certified Far d.block lines)) after
-          ∙ not_both first.refused (is_not_refused (ended first.block said)) (are_certified Far (opened first.block said) lines),
+          ∙ or_not-or_not first.refused (is_not_refused (ended first.block said)) (are_certified Far (opened first.block said) lines),
     )
-
-not_not : (b : Bool) → not (false || not b) ≡ b
-not_not true = refl
-not_not false = refl
 
 -- a page, by its beginning, its lines, the block that is open at their end, and its own end
 module _ (head foot : List ℕ) (left_before left_after old headed between new : Option (List ℕ)) (first last : Drawing) (begin : first ≡ undrawn) (whole : last.lost ≡ false)
@@ -125,7 +116,7 @@ module _ (head foot : List ℕ) (left_before left_after old headed between new :
         append_cancel_left held text all known ∙ append_assoc head talk.text (shown_text last.block ++ foot)
             ∙ ap (λ m. head ++ m) (sym (append_assoc talk.text (shown_text last.block) foot)) ∙ ap (λ m. head ++ (m ++ foot)) blocks,
         ap not (told ∙ shown.1 ∙ ap (λ (d : Drawing). d.refused || not (are_certified Far d.block talk.treated)) begin)
-            ∙ not_not (are_certified Far [] talk.treated) ∙ ap (are_certified Far []) lines,
+            ∙ not-not (are_certified Far [] talk.treated) ∙ ap (are_certified Far []) lines,
       )
 
   pub is_drawn : (input held text : List ℕ) → left_before ≡ Some input → old ≡ Some held → new ≡ Some (held ++ text)

@@ -9,6 +9,7 @@ use Rattle.rbc_model.specs.declared.sessions.SessionFault.{SessionFault}
 use Rattle.rbc_model.specs.declared.sessions.SessionFault.TheVariants.{Read, Write, Memory}
 use Rattle.rbc_model.specs.Sessions.{WritesText, WritesPart, Prints}
 use Rattle.rbc_model.specs.CheckText.{CheckLine, part_of, goes_on, is_head, opened, ended}
+use Rattle.rbc_model.proofs.ResultLemmas.{ok_is_no_err, read_is_not_write}
 use Rattle.rbc_checks.specs.CheckAnswers.{is_not_refused}
 use Rattle.rbc_checks.proofs.PrintingLemmas.{prints_then, prints_nothing}
 use Rattle.rbc_draw.specs.Figures.{Figure, figure_in, figure_text, drawn_text}
@@ -156,12 +157,6 @@ or_second false b both none = both
 abbrev Ended : Type 0
 Ended = Result (Unit {0}) SessionFault
 
-ok_ended : (done : Unit {0}) (fault : SessionFault) → (let r : Ended = Ok done in r) ≡ Err fault → ⊥
-ok_ended done fault e = cc
-
-read_write : (e : Ended) → e ≡ Err Read → e ≡ Err Write → ⊥
-read_write e read write = cc
-
 pub memory_read : (let r : Ended = Err Memory in r) ≡ Err Read → ⊥
 memory_read e = cc
 
@@ -172,13 +167,13 @@ module _ (lost failed : Bool) (r : Ended) (write : (r ≡ Err Write) ↔ IsTrue 
   -- where memory was refused, the reader did not fail
   pub no_read : (reader : Bool) → (r ≡ Err Read) ↔ IsTrue reader → lost ≡ true → IsTrue reader → ⊥
   no_read reader read gone fails =
-      read_write r (read.1 fails) (write.1 (or_left lost failed gone))
+      read_is_not_write (read.1 fails) (write.1 (or_left lost failed gone))
 
 pub still_going : (lost failed : Bool) (r : Ended) → (r ≡ Err Write) ↔ IsTrue (lost || failed) → lost ≡ false → OnOk r (failed ≡ false)
 still_going lost failed (Err fault) write whole = tt
 still_going lost false (Ok done) write whole = refl
 still_going true true (Ok done) write whole = absurd cc
-still_going false true (Ok done) write whole = absurd (ok_ended done Write (write.1 refl))
+still_going false true (Ok done) write whole = absurd (ok_is_no_err refl (write.1 refl))
 
 -- a block was shown, and then the page was ended
 pub ended_by : {E : Type 0} (a b c : Option (List ℕ)) (failed : Bool) (lines block : List CheckLine) (foot : List ℕ) (r : Result (Unit {0}) E) → Prints a b failed (shown_text lines) r

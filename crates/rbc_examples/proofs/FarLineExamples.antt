@@ -1,5 +1,6 @@
 -- A line of `rbc steps` beyond 32,000 m, with its reply: the profile is cut at a multiple of ten. This computes over 40,000 m, and takes a while.
 use Rattle.std.proofs.Common.{◌≡◌, ℕ, zero, suc, ◌+◌, ◌<◌, ◌≤◌, arith, List, [], ◌∷◌, ◌++◌, refl, lit≤, lit<, codes, inl}
+use Rattle.std.proofs.Math.Nat.{not-suc-le-zero}
 use Rattle.std.specs.Fmt.{digits}
 use Rattle.rbc_model.specs.declared.places.Format.TheVariants.{Far}
 use Rattle.rbc_model.specs.Levels.{speed_levels}
@@ -26,10 +27,6 @@ function = record { starts = record { rising = refl; inside = refl }; values = r
 table : IsGreatestSoundTable speed_levels 10 2 40000 runs prices
 table = greatest_by_tests speed_levels 10 2 40000 runs prices refl refl refl refl refl
 
--- no number is below 0, and 0 alone is below 1
-none_below : (k : ℕ) → k < 0 → ⊥
-none_below k h = omega arith
-
 apart : (a b : ℕ) → b < a → a ≡ b → ⊥
 apart a b h e = omega arith
 
@@ -42,7 +39,7 @@ read_off = record {
   back = (
     1,
     record { earlier = lit< tt; adds_up = refl; first = λ k h e. later k h e; start = refl; value = refl },
-    (0, record { earlier = lit< tt; adds_up = refl; first = λ k h e. none_below k h; start = refl; value = refl }, refl),
+    (0, record { earlier = lit< tt; adds_up = refl; first = λ k h e. not-suc-le-zero h; start = refl; value = refl }, refl),
   );
 }
   where

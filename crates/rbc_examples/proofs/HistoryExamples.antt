@@ -16,6 +16,7 @@ use Rattle.rbc_model.specs.Profiles.{IsBestProfile}
 use Rattle.rbc_model.specs.Lines.{speeds_from, grades_from}
 use Rattle.rbc_model.proofs.CountingLemmas.{all_below-holds}
 use Rattle.std.proofs.lemmas.Bool.{leb-true}
+use Rattle.std.proofs.lemmas.Option.{same_Some}
 use Rattle.std.specs.Prelude.{is_ok}
 use Rattle.rbc_model.specs.Events.{step}
 use Rattle.rbc_model.specs.declared.reports.Told.{Told}
@@ -136,14 +137,11 @@ grant_may_follow : MayFollow single before (Granted grant)
 grant_may_follow =
     record {
       accepted = refl;
-      best = λ g e. subst (IsBest single (replay single before)) (the_grant grant g e) (record { train_is_there = refl; best = λ t there. subst (IsBestFor single (replay single before) grant) (the_train train t there) grant_is_best });
+      best = λ g e. subst (IsBest single (replay single before)) (the_grant grant g e) (record { train_is_there = refl; best = λ t there. subst (IsBestFor single (replay single before) grant) (same_Some train t there) grant_is_best });
     }
   where
     the_grant : (g h : Grants) → Granted g ≡ Granted h → g ≡ h
     the_grant g h e = cc
-
-    the_train : (t u : Train) → Some t ≡ Some u → t ≡ u
-    the_train t u e = cc
 
 pub history_is_legal : IsLegal single entries
 history_is_legal =

@@ -1,5 +1,6 @@
 -- Worked lines of `rbc steps`, and their replies.
 use Rattle.std.proofs.Common.{◌≡◌, ℕ, ℤ, zero, suc, ◌+◌, ◌<◌, ◌≤◌, arith, List, [], ◌∷◌, ◌++◌, refl, lit≤, lit<, replicate, codes, pos, negsuc, Option, Ok, Err, inl, inr}
+use Rattle.std.proofs.Math.Nat.{not-suc-le-zero}
 use Rattle.std.specs.Fmt.{digits}
 use Rattle.rbc_model.specs.declared.places.Format.TheVariants.{Near, Far}
 use Rattle.rbc_model.specs.declared.refusals.LineFault.TheVariants.{Overlong, NotText, Command, Words, Number, Name}
@@ -215,10 +216,6 @@ line_function = record { starts = record { rising = refl; inside = refl }; value
 line_table : IsGreatestSoundTable grade_levels 1 3 200 line_runs line_prices
 line_table = greatest_by_tests grade_levels 1 3 200 line_runs line_prices refl refl refl refl refl
 
--- no number is below 0, and 0 alone is below 1
-none_below : (k : ℕ) → k < 0 → ⊥
-none_below k h = omega arith
-
 -- the steps are read off the table of prices
 read_of_line : IsReadOff grade_levels 1 3 200 line_runs line_prices line_runs
 read_of_line = record {
@@ -228,7 +225,7 @@ read_of_line = record {
   back = (
     1,
     record { earlier = lit< tt; adds_up = refl; first = λ k h e. later k h e; start = refl; value = refl },
-    (0, record { earlier = lit< tt; adds_up = refl; first = λ k h e. none_below k h; start = refl; value = refl }, refl),
+    (0, record { earlier = lit< tt; adds_up = refl; first = λ k h e. not-suc-le-zero h; start = refl; value = refl }, refl),
   );
 }
   where

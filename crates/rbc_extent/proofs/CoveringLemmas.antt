@@ -3,6 +3,8 @@ use Rattle.std.proofs.Common.{◌≡◌, ℕ, ◌+◌, ◌-◌, ◌<◌, ◌≤�
 use Rattle.std.specs.Prelude.{option_and_then}
 use Rattle.std.specs.List.{position_or_len}
 use Rattle.std.proofs.lemmas.Bool.{leb-false, or_right}
+use Rattle.std.proofs.Math.Bool.{or-false}
+use Rattle.std.proofs.lemmas.Option.{same_Some}
 use Rattle.rbc_model.specs.declared.places.Leg.{Leg}
 use Rattle.rbc_model.specs.declared.refusals.Refusal.{Refusal}
 use Rattle.rbc_model.specs.declared.tracks.BaliseGroup.{BaliseGroup}
@@ -50,11 +52,7 @@ pub one_ahead : (locks : Locks) (line longer : Line) → Some longer ≡ longer_
 one_ahead locks line longer e = one_by line longer (option_and_then (next locks) (last_leg line)) e
 
 has_leg-push : (line : Line) (leg other : Leg) → has_leg line leg ≡ false → has_leg (line ++ other ∷ []) leg ≡ leg_eq leg other
-has_leg-push [] leg other h = or_nothing (leg_eq leg other)
-  where
-    or_nothing : (t : Bool) → (t || false) ≡ t
-    or_nothing true = refl
-    or_nothing false = refl
+has_leg-push [] leg other h = or-false (leg_eq leg other)
 has_leg-push (a ∷ line) leg other h = skipped (leg_eq leg a) (has_leg line leg) (has_leg (line ++ other ∷ []) leg) (leg_eq leg other) h (λ k. has_leg-push line leg other k)
   where
     skipped : (t u v w : Bool) → (t || u) ≡ false → (u ≡ false → v ≡ w) → (t || v) ≡ w
@@ -64,11 +62,8 @@ has_leg-push (a ∷ line) leg other h = skipped (leg_eq leg a) (has_leg line leg
 -- the longer line has the leg if its last leg is this one
 pub has_leg-longer : (line longer : Line) (leg last : Leg) → IsOneAhead line longer → last_leg longer ≡ Some last → has_leg line leg ≡ false → has_leg longer leg ≡ leg_eq leg last
 has_leg-longer line longer leg last one e h =
-    let same : one.leg ≡ last = the_last one.leg last (sym (last_leg-push line one.leg) ∙ ap last_leg one.is ∙ e) in
+    let same : one.leg ≡ last = same_Some one.leg last (sym (last_leg-push line one.leg) ∙ ap last_leg one.is ∙ e) in
     ap (λ l. has_leg l leg) (sym one.is) ∙ has_leg-push line leg one.leg h ∙ ap (leg_eq leg) same
-  where
-    the_last : (a b : Leg) → Some a ≡ Some b → a ≡ b
-    the_last a b e = cc
 
 -- a leg of the line stands on it before its end
 pub position-has_leg : (line : Line) (leg : Leg) → has_leg line leg ≡ true → position_or_len (leg_eq leg) line < length line

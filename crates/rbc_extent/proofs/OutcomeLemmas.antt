@@ -1,5 +1,6 @@
 -- What a call answers where another one answered it: its refusal, or memory, or its value.
 use Rattle.std.proofs.Common.{◌≡◌, Option, Some, None, IfSome, IfErr, Result, Ok, Err, sym, subst}
+use Rattle.std.proofs.lemmas.Option.{same_Some}
 use Rattle.std.specs.Prelude.{option_map}
 use Rattle.std.specs.Result.{result_map_both}
 use Rattle.rbc_model.specs.Tracks.{Track}
@@ -18,10 +19,7 @@ refuses-weaker Memory a b h r = tt
 pub known_good : {X : Type 0} (track_of : X → Track) (train_of : X → Train) (o : Option X) (track : Track) → IfSome o (λ x. track_of x ≡ track) → IfSome o (λ x. IsGoodTrain (track_of x) (train_of x))
     → (train : Train) → option_map train_of o ≡ Some train → IsGoodTrain track train
 known_good track_of train_of None track same good train e = cc
-known_good track_of train_of (Some x) track same good train e = subst (IsGoodTrain track) (the_same (train_of x) train e) (subst (λ t. IsGoodTrain t (train_of x)) same good)
-  where
-    the_same : (a b : Train) → Some a ≡ Some b → a ≡ b
-    the_same a b e = cc
+known_good track_of train_of (Some x) track same good train e = subst (IsGoodTrain track) (same_Some (train_of x) train e) (subst (λ t. IsGoodTrain t (train_of x)) same good)
 
 -- a fact of the refusal is one of the same refusal, where another value stands in place of the answer
 pub refused-mapped : {X Y E : Type 0} (f : X → Y) (answer : Result X E) (P : E → Type 0) → IfErr answer P → IfErr (result_map_both f (λ (refusal : E). refusal) answer) P

@@ -1,5 +1,6 @@
 -- The line of JSON of a message, piece by piece.
 use Rattle.std.proofs.Common.{◌≡◌, ℕ, ◌||◌, Bool, true, false, List, [], ◌∷◌, ◌++◌, codes, decimal, pos, negsuc, ℤ, Option, Some, None, refl, sym, ap, ◌∙◌, append_assoc}
+use Rattle.std.proofs.Math.Bool.{or-false}
 use Rattle.std.specs.Fmt.{signed_decimal}
 use Rattle.json.specs.Print.{escape, quoted, escape_byte}
 use Rattle.serde_json.specs.Data.{Data, member, array, string, Members, no_members}
@@ -121,10 +122,6 @@ or_true : (later : Bool) → (later || true) ≡ true
 or_true true = refl
 or_true false = refl
 
-or_false : (later : Bool) → (later || false) ≡ later
-or_false true = refl
-or_false false = refl
-
 pub fields_text : (later : Bool) (items : List Item) → parts_text always field_part later items ++ 93 ∷ [] ≡ items_text later (field_items items)
 fields_text later [] = refl
 fields_text later (item ∷ items) =
@@ -134,17 +131,17 @@ fields_text later (item ∷ items) =
 
 grade_next : (later : Bool) (o : Option Said) (said : List Said) (rest : Bool → List ℕ) → ((l : Bool) → rest l ++ 93 ∷ [] ≡ items_text l (grade_items said))
     → (if_said (grade_part later) o ++ rest (later || is_grade o)) ++ 93 ∷ [] ≡ items_text later (grade_items (with_said o said))
-grade_next later None said rest h = ap (λ l. rest l ++ 93 ∷ []) (or_false later) ∙ h later
-grade_next later (Some (Time x)) said rest h = ap (λ l. rest l ++ 93 ∷ []) (or_false later) ∙ h later
-grade_next later (Some (Country x)) said rest h = ap (λ l. rest l ++ 93 ∷ []) (or_false later) ∙ h later
-grade_next later (Some (Group x)) said rest h = ap (λ l. rest l ++ 93 ∷ []) (or_false later) ∙ h later
-grade_next later (Some (Nominal x)) said rest h = ap (λ l. rest l ++ 93 ∷ []) (or_false later) ∙ h later
-grade_next later (Some (End x)) said rest h = ap (λ l. rest l ++ 93 ∷ []) (or_false later) ∙ h later
+grade_next later None said rest h = ap (λ l. rest l ++ 93 ∷ []) (or-false later) ∙ h later
+grade_next later (Some (Time x)) said rest h = ap (λ l. rest l ++ 93 ∷ []) (or-false later) ∙ h later
+grade_next later (Some (Country x)) said rest h = ap (λ l. rest l ++ 93 ∷ []) (or-false later) ∙ h later
+grade_next later (Some (Group x)) said rest h = ap (λ l. rest l ++ 93 ∷ []) (or-false later) ∙ h later
+grade_next later (Some (Nominal x)) said rest h = ap (λ l. rest l ++ 93 ∷ []) (or-false later) ∙ h later
+grade_next later (Some (End x)) said rest h = ap (λ l. rest l ++ 93 ∷ []) (or-false later) ∙ h later
 grade_next later (Some (Grade from z)) said rest h =
     ap (λ l. ((comma_if later ++ compact_text (grade_data from z)) ++ rest l) ++ 93 ∷ []) (or_true later)
     ∙ regroup (comma_if later) (compact_text (grade_data from z)) (rest true) (93 ∷ [])
     ∙ ap (λ l. comma_if later ++ (compact_text (grade_data from z) ++ l)) (h true)
-grade_next later (Some (Speed x y)) said rest h = ap (λ l. rest l ++ 93 ∷ []) (or_false later) ∙ h later
+grade_next later (Some (Speed x y)) said rest h = ap (λ l. rest l ++ 93 ∷ []) (or-false later) ∙ h later
 
 pub grades_text : (later : Bool) (items : List Item)
     → parts_text (λ item. is_grade (said_in item)) (λ before item. if_said (grade_part before) (said_in item)) later items ++ 93 ∷ [] ≡ items_text later (grade_items (all_said items))
@@ -154,13 +151,13 @@ grades_text later (item ∷ items) =
 
 speed_next : (later : Bool) (o : Option Said) (said : List Said) (rest : Bool → List ℕ) → ((l : Bool) → rest l ++ 93 ∷ [] ≡ items_text l (speed_items said))
     → (if_said (speed_part later) o ++ rest (later || is_speed o)) ++ 93 ∷ [] ≡ items_text later (speed_items (with_said o said))
-speed_next later None said rest h = ap (λ l. rest l ++ 93 ∷ []) (or_false later) ∙ h later
-speed_next later (Some (Time x)) said rest h = ap (λ l. rest l ++ 93 ∷ []) (or_false later) ∙ h later
-speed_next later (Some (Country x)) said rest h = ap (λ l. rest l ++ 93 ∷ []) (or_false later) ∙ h later
-speed_next later (Some (Group x)) said rest h = ap (λ l. rest l ++ 93 ∷ []) (or_false later) ∙ h later
-speed_next later (Some (Nominal x)) said rest h = ap (λ l. rest l ++ 93 ∷ []) (or_false later) ∙ h later
-speed_next later (Some (End x)) said rest h = ap (λ l. rest l ++ 93 ∷ []) (or_false later) ∙ h later
-speed_next later (Some (Grade x y)) said rest h = ap (λ l. rest l ++ 93 ∷ []) (or_false later) ∙ h later
+speed_next later None said rest h = ap (λ l. rest l ++ 93 ∷ []) (or-false later) ∙ h later
+speed_next later (Some (Time x)) said rest h = ap (λ l. rest l ++ 93 ∷ []) (or-false later) ∙ h later
+speed_next later (Some (Country x)) said rest h = ap (λ l. rest l ++ 93 ∷ []) (or-false later) ∙ h later
+speed_next later (Some (Group x)) said rest h = ap (λ l. rest l ++ 93 ∷ []) (or-false later) ∙ h later
+speed_next later (Some (Nominal x)) said rest h = ap (λ l. rest l ++ 93 ∷ []) (or-false later) ∙ h later
+speed_next later (Some (End x)) said rest h = ap (λ l. rest l ++ 93 ∷ []) (or-false later) ∙ h later
+speed_next later (Some (Grade x y)) said rest h = ap (λ l. rest l ++ 93 ∷ []) (or-false later) ∙ h later
 speed_next later (Some (Speed from kmh)) said rest h =
     ap (λ l. ((comma_if later ++ compact_text (speed_data from kmh)) ++ rest l) ++ 93 ∷ []) (or_true later)
     ∙ regroup (comma_if later) (compact_text (speed_data from kmh)) (rest true) (93 ∷ [])

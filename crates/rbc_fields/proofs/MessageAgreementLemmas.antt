@@ -18,6 +18,7 @@ use Rattle.rbc_fields.specs.Walks.{at_row, entered, further, field_of}
 use Rattle.rbc_fields.specs.Readings.{reading_of}
 use Rattle.rbc_fields.specs.Laws.{fault_in, FaultsAgree}
 use Rattle.rbc_fields.proofs.AgreementLemmas.{Agree, then_fault, go, step, fixed, under, follows_said, follows_length, follows_fixed_length, ends}
+use Rattle.rbc_packet.proofs.PacketLemmas.{pred-is}
 
 -- ---- how far an element lies
 
@@ -41,10 +42,6 @@ near_end s e ok = elim (or_cases ((s == 1) && is_from_to 1 FARTHEST_END e) ((s =
 
 pub some_left : (m : ℕ) → nat_lt 0 (suc m) ≡ true
 some_left m = grind arith
-
-pred_is : (v : ℕ) → pred v ≡ v - 1
-pred_is zero = refl
-pred_is (suc v) = omega arith
 
 pub less_one : (m : ℕ) → suc m - 1 ≡ m
 less_one m = omega arith
@@ -147,7 +144,7 @@ module _ (n : ℕ) where
       step _ _ G_A (is_from_to (1 - up) (nat_abs STEEPEST)) _ _ refl (λ v. refl) (λ v. refl) (λ size ok.
       go _ _ N_ITER (nat_le 1) _ c (λ steps. follows_length _ (nat_le 1 steps) (said == gradient_length steps) (Field N_ITER) steps _ _ c refl (λ ok fits.
       under (gradient_elements_at (frame d s e) 0 (pred steps)) _ c (
-      grades_left d s e said near (steps - 1) (pred steps) 0 0 up 7 (Some GradientHead) (pred_is steps) (omega arith) _ (λ later last. next _ said last)))) refl))))))))
+      grades_left d s e said near (steps - 1) (pred steps) 0 0 up 7 (Some GradientHead) (pred-is steps) (omega arith) _ (λ later last. next _ said last)))) refl))))))))
 
   -- ---- packet 27
 
@@ -200,7 +197,7 @@ module _ (n : ℕ) where
       fixed _ _ N_ITER 0 _ _ refl (λ v. refl) (λ v. refl) (
       go _ _ N_ITER (nat_le 1) _ c (λ steps. follows_length _ (nat_le 1 steps) (said == speed_length steps) (Field N_ITER) steps _ _ c refl (λ ok fits.
       under (speed_elements_at (frame d s e) 0 (pred steps)) _ c (
-      speeds_left d s e said near (steps - 1) (pred steps) 0 0 u 8 (Some SpeedHead) (pred_is steps) (omega arith) _ (λ later last over. next _ last over)))) refl)))))))))
+      speeds_left d s e said near (steps - 1) (pred steps) 0 0 u 8 (Some SpeedHead) (pred-is steps) (omega arith) _ (λ later last over. next _ last over)))) refl)))))))))
 
   -- ---- the message
 

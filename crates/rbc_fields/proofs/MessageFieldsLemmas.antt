@@ -1,7 +1,6 @@
 -- The walk over a message that is read has the fields of its authority's message.
-use Rattle.std.proofs.Common.{◌≡◌, ℕ, suc, inl, inr, ◌+◌, ◌-◌, ◌*◌, ◌/◌, ◌%◌, ◌<◌, ◌≤◌, ◌^◌, min, Bool, true, false, List, [], ◌∷◌, ◌++◌, length, replicate, Option, Some, None, Ok, refl, sym, ap, ◌∙◌, subst, arith, lit<, nat_lt, nat_le, if◌then◌else◌, ◌==◌, ℤ, pos, negsuc, append-nil, append_assoc, length-append}
-use Rattle.std.proofs.lemmas.Bool.{le-leb, leb-true, eq-eqb, eqb-true}
-use Rattle.std.proofs.lemmas.List.{length-replicate}
+use Rattle.std.proofs.Common.{◌≡◌, ℕ, suc, inl, inr, ◌+◌, ◌-◌, ◌*◌, ◌/◌, ◌%◌, ◌<◌, ◌≤◌, ◌^◌, min, Bool, true, false, List, [], ◌∷◌, ◌++◌, length, Option, Some, None, Ok, refl, sym, ap, ◌∙◌, subst, arith, lit<, nat_lt, nat_le, if◌then◌else◌, ◌==◌, ℤ, pos, negsuc, append-nil, append_assoc}
+use Rattle.std.proofs.lemmas.Bool.{le-leb, leb-true, eq-eqb, eqb-true, and_from}
 use Rattle.rbc_model.specs.declared.messages.Fault.TheVariants.{Short, Extra, Length}
 use Rattle.rbc_model.specs.declared.messages.FieldName.{FieldName}
 use Rattle.rbc_model.specs.declared.messages.FieldName.TheVariants.{NID_MESSAGE, L_MESSAGE, T_TRAIN, M_ACK, NID_C, NID_BG, NID_PACKET, Q_DIR, L_PACKET, Q_SCALE, V_LOA, T_LOA, N_ITER, L_ENDSECTION, Q_SECTIONTIMER, Q_ENDTIMER, Q_DANGERPOINT, Q_OVERLAP, D_GRADIENT, Q_GDIR, G_A, D_STATIC, V_STATIC, Q_FRONT}
@@ -10,17 +9,17 @@ use Rattle.rbc_model.specs.Reading.{read_message}
 use Rattle.rbc_model.specs.Bits.{IsBytes, byte_bits, bytes_of, byte_count, padded_bits}
 use Rattle.rbc_model.specs.Levels.{speed_levels, grade_levels}
 use Rattle.rbc_model.specs.Profiles.{IsProfile}
-use Rattle.rbc_model.specs.Results.{is_from_to}
 use Rattle.rbc_model.specs.Scales.{unit_of, scale_of, unit_of_scale}
 use Rattle.rbc_model.specs.Messages.{Authority, IsAuthority, direction_of, gradient_fields, gradient_elements, gradient_length, packet_21, speed_elements, speed_length, packet_27, message_length, message_3, message_bytes}
-use Rattle.rbc_model.proofs.BitLemmas.{byte_bits-bytes_of}
 use Rattle.rbc_model.proofs.CountingLemmas.{both_of}
 use Rattle.rbc_model.proofs.SpellingLemmas.{within}
 use Rattle.rbc_model.proofs.FrameLemmas.{IsFrame, frame_of_end, limits_of}
-use Rattle.rbc_model.proofs.LaterStepLemmas.{AreLater, IsUnit, both, may_have, first_later, started_of_profile, distance_of_next, distance_of_end}
-use Rattle.rbc_model.proofs.FieldRowLemmas.{Row, spelled, regroup, itself}
-use Rattle.rbc_model.proofs.MessageSizeLemmas.{length-byte_bits, length-said_3}
-use Rattle.rbc_model.proofs.RoundTripLemmas.{round_trip}
+use Rattle.rbc_model.proofs.LaterStepLemmas.{AreLater, IsUnit, may_have, first_later, started_of_profile, distance_of_next, distance_of_end}
+use Rattle.rbc_model.proofs.FieldRowLemmas.{Row, spelled, regroup}
+use Rattle.rbc_model.proofs.MessageSizeLemmas.{length-said_3}
+use Rattle.rbc_model.proofs.RoundTripLemmas.{round_trip, nominal_said, zeros_behind, byte_bits-padded, length-bytes_of_padded, spelled_bytes}
+use Rattle.rbc_model.proofs.MessageWrittenLemmas.{direction_fits, direction_allowed, grade_in_range}
+use Rattle.rbc_model.proofs.BasicLemmas.{same_number}
 use Rattle.rbc_fields.specs.declared.row.Row.{Row as WalkRow}
 use Rattle.rbc_fields.specs.declared.row.Row.TheVariants.{Header as AtHeader, GradientHead, GradientStep, SpeedHead, SpeedStep}
 use Rattle.rbc_fields.specs.declared.walk.Walk.{Walk}
@@ -40,18 +39,7 @@ no_fault : (n : ℕ) → (if nat_lt n n then Some Short else if nat_lt n n then 
 no_fault n = let e : nat_lt n n ≡ false = grind arith in rw e refl
 
 fits_count : (n : ℕ) → (if n == n then None else Some Length) ≡ None
-fits_count n = rw (itself n) refl
-
-direction_fits : (nominal : Bool) → direction_of nominal < 2 ^ 2
-direction_fits true = lit< tt
-direction_fits false = lit< tt
-
-direction_allowed : (nominal : Bool) → is_from_to 0 1 (direction_of nominal) ≡ true
-direction_allowed true = refl
-direction_allowed false = refl
-
-grade_range : (v : ℤ) → may_have grade_levels v ≡ true → grade_levels.in_range v ≡ true
-grade_range v h = (both_of (grade_levels.in_range v) true h).0
+fits_count n = rw (same_number n) refl
 
 speed_range : (v : ℕ) → may_have speed_levels v ≡ true → (5 ≤ v) × (v ≤ 600)
 speed_range v h = limits_of 5 600 v (both_of (speed_levels.in_range v) (speed_levels.is_expressible v) h).0
@@ -74,10 +62,6 @@ metre_told : {unit end e : ℕ} (s from distance f x : ℕ) → IsUnit unit end 
 metre_told {unit} {end} {e} s from distance f x u same_unit same at inside =
     let all : Metre unit = elim u.ones_or_tens [ inl one ↦ subst Metre (sym one) metre_by_one | inr ten ↦ subst Metre (sym ten) metre_by_ten ] in
     ap (λ k. k * further f distance) same_unit ∙ all end e from distance f x u.end_is u.fits same at inside
-
-direction_said : (nominal : Bool) → (direction_of nominal == 1) ≡ nominal
-direction_said true = refl
-direction_said false = refl
 
 -- a walk over a message of n bytes, whose packet 15 tells the direction d, the scale s and the end e
 module _ (n d s e : ℕ) (near : e ≤ 32000) where
@@ -118,7 +102,7 @@ module _ (n d s e : ℕ) (near : e ≤ 32000) where
   grades_told sd {unit} {end} from start f u i r [] fields more scale same is at are row next =
       let told = distance_of_end from is at are.before in
       let distance = (end - start) / unit in
-      tell D_GRADIENT refl row told.0.fits (both (le-leb 1 distance told.0.some) (same_end f from distance e near same ∙ eq-eqb (from + distance) e told.1)) refl (λ _ row.
+      tell D_GRADIENT refl row told.0.fits (and_from _ _ (le-leb 1 distance told.0.some) (same_end f from distance e near same ∙ eq-eqb (from + distance) e told.1)) refl (λ _ row.
       tell Q_GDIR refl row (lit< tt) refl refl (λ _ row.
       tell G_A refl row (lit< tt) refl refl (next 0)))
   grades_told sd {unit} {end} from start f u i r (step ∷ later) fields more {said} {bits} scale same is at are row next =
@@ -133,7 +117,7 @@ module _ (n d s e : ℕ) (near : e ≤ 32000) where
       (tell D_GRADIENT refl row told.fits (le-leb 1 distance told.some) refl (λ mid row.
       as_said (ap (λ at. Grade at step.1 ∷ (grades_said later ++ said)) metre)
       (as_fields (sym (append_assoc (gradient_fields step.1) (gradient_elements unit end step.0 later) more))
-      (later_grade sd (length later) (further f distance) u step.1 (gradient_elements unit end step.0 later ++ fields) (gradient_elements unit end step.0 later ++ more) (grade_range step.1 parts.0.value)
+      (later_grade sd (length later) (further f distance) u step.1 (gradient_elements unit end step.0 later ++ fields) (gradient_elements unit end step.0 later ++ more) (grade_in_range step.1 parts.0.value)
       (regroup (gradient_fields step.1) (gradient_elements unit end step.0 later) fields row)
       (λ up mid row. grades_told sd (from + distance) step.0 (further f distance) up 2 (Some GradientStep) later fields more scale (further_capped f from distance same) is (sym told.reaches) parts.1 row next))))))
 
@@ -147,7 +131,7 @@ module _ (n d s e : ℕ) (near : e ≤ 32000) where
   speeds_told sd {unit} {end} from start f u i r [] fields more scale same is at are row next =
       let told = distance_of_end from is at are.before in
       let distance = (end - start) / unit in
-      tell D_STATIC refl row told.0.fits (both (le-leb 1 distance told.0.some) (same_end f from distance e near same ∙ eq-eqb (from + distance) e told.1)) refl (λ _ row.
+      tell D_STATIC refl row told.0.fits (and_from _ _ (le-leb 1 distance told.0.some) (same_end f from distance e near same ∙ eq-eqb (from + distance) e told.1)) refl (λ _ row.
       tell V_STATIC refl row (lit< tt) refl refl (λ _ row.
       tell Q_FRONT refl row (lit< tt) refl refl (λ _ row.
       tell N_ITER refl row (lit< tt) refl refl (λ mid row. next _ mid refl row))))
@@ -190,13 +174,13 @@ module _ (n : ℕ) (nominal : Bool) (end : ℕ) (f : IsFrame Far end (scale_of e
       let elements = gradient_elements (unit_of end) end 0 later in
       let start : unit_of_scale (scale_of end) * 0 ≡ first.0 = omega (arith, s.start) in
       tell NID_PACKET refl row (lit< tt) refl refl (λ _ row.
-      tell Q_DIR refl row (direction_fits nominal) (itself d) refl (λ _ row.
+      tell Q_DIR refl row (direction_fits nominal) (same_number d) refl (λ _ row.
       tell L_PACKET refl row (omega arith) refl refl (λ _ row.
-      tell Q_SCALE refl row f.scale_fits (itself (scale_of end)) refl (λ _ row.
+      tell Q_SCALE refl row f.scale_fits (same_number (scale_of end)) refl (λ _ row.
       tell D_GRADIENT refl row (lit< tt) refl refl (λ mid row.
       as_said (ap (λ at. Grade at first.1 ∷ (grades_said later ++ words)) start)
       (as_fields (sym (append_assoc (gradient_fields first.1) ((N_ITER, count) ∷ elements) more))
-      (first_grade n d (scale_of end) e near (gradient_length count) first.1 ((N_ITER, count) ∷ elements ++ fields) ((N_ITER, count) ∷ elements ++ more) (grade_range first.1 s.value)
+      (first_grade n d (scale_of end) e near (gradient_length count) first.1 ((N_ITER, count) ∷ elements ++ fields) ((N_ITER, count) ∷ elements ++ more) (grade_in_range first.1 s.value)
       (regroup (gradient_fields first.1) ((N_ITER, count) ∷ elements) fields row)
       (λ up _ row. tell N_ITER refl row (omega arith) (le-leb 1 count (omega arith)) (fits_count (gradient_length count)) (λ mid row.
       subst (λ m. Tells (behind_grade n d (scale_of end) e (gradient_length count) near (Some GradientHead) 7 m 0 up (nat_lt 0 m)) mid (elements ++ more) (grades_said later ++ words)) (sym (less_one (length later)))
@@ -219,9 +203,9 @@ module _ (n : ℕ) (nominal : Bool) (end : ℕ) (f : IsFrame Far end (scale_of e
       let whole = speed_whole first.1 s.value in
       let l = speed_range first.1 s.value in
       tell NID_PACKET refl row (lit< tt) refl refl (λ _ row.
-      tell Q_DIR refl row (direction_fits nominal) (itself d) refl (λ _ row.
+      tell Q_DIR refl row (direction_fits nominal) (same_number d) refl (λ _ row.
       tell L_PACKET refl row (omega arith) refl refl (λ _ row.
-      tell Q_SCALE refl row f.scale_fits (itself (scale_of end)) refl (λ _ row.
+      tell Q_SCALE refl row f.scale_fits (same_number (scale_of end)) refl (λ _ row.
       tell D_STATIC refl row (lit< tt) refl refl (λ _ row.
       as_said (ap (λ at. Speed at (5 * (first.1 / 5)) ∷ (speeds_said later ++ words)) start ∙ ap (λ v. Speed first.0 v ∷ (speeds_said later ++ words)) whole)
       (tell V_STATIC refl row (omega (arith, l.0, l.1)) (within 1 120 (first.1 / 5) (omega (arith, l.0)) (omega (arith, l.1))) refl (λ _ row.
@@ -249,7 +233,7 @@ message_told a {bits} {filling} is row =
     let words : Bool → ℕ → List Said → List Said = λ nominal end l. Time a.time ∷ Country a.group.country ∷ Group a.group.number ∷ Nominal nominal ∷ End end ∷ l in
     let metres : unit_of_scale (scale_of a.end) * (a.end / unit_of a.end) ≡ a.end = ap (λ k. k * (a.end / unit_of a.end)) f.unit_is ∙ f.end_is in
     as_said
-    (ap (λ b. words b (unit_of_scale (scale_of a.end) * (a.end / unit_of a.end)) later) (direction_said a.nominal)
+    (ap (λ b. words b (unit_of_scale (scale_of a.end) * (a.end / unit_of a.end)) later) (nominal_said a.nominal)
     ∙ ap (λ m. words a.nominal m later) metres
     ∙ ap (λ l. words a.nominal a.end (grades_said a.grades ++ l)) (append-nil (speeds_said a.speeds)))
     (tell NID_MESSAGE refl row (lit< tt) refl refl (λ _ row.
@@ -276,29 +260,6 @@ message_told a {bits} {filling} is row =
     (λ last mid over row. told_all last mid over))))))))))))))))))))))
 
 -- ---- bytes
-
-abbrev zeros_behind : List Bool → List Bool
-zeros_behind bits = replicate (8 * byte_count (length bits) - length bits) false
-
-length-padded_bits : (bits : List Bool) → length (padded_bits bits) ≡ 8 * byte_count (length bits)
-length-padded_bits bits =
-    let long = length-replicate (8 * byte_count (length bits) - length bits) false in
-    let both = length-append bits (zeros_behind bits) in
-    omega arith
-
-byte_bits-padded : (bits : List Bool) → byte_bits (bytes_of (padded_bits bits)) ≡ padded_bits bits
-byte_bits-padded bits = byte_bits-bytes_of (padded_bits bits) (let long = length-padded_bits bits in omega arith)
-
-length-bytes_of_padded : (bits : List Bool) → length (bytes_of (padded_bits bits)) ≡ byte_count (length bits)
-length-bytes_of_padded bits =
-    let long = length-padded_bits bits in
-    let same = ap length (byte_bits-padded bits) in
-    let eight = length-byte_bits (bytes_of (padded_bits bits)) in
-    omega arith
-
-spelled_bytes : (a : Authority) → message_bytes a ≡ bytes_of (padded_bits (spelled (message_3 a)))
-unfolding spelled
-spelled_bytes a = refl
 
 record IsMessageOf (a : Authority) (bytes : List ℕ) : Type 0 where
   size : length bytes ≡ message_length a

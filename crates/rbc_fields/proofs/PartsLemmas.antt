@@ -63,7 +63,3 @@ pub flat_map-next : {X : Type 0} (text : X → List ℕ) (xs : List X) (index : 
 flat_map-next text xs index x inside =
     ap (λ l. flat_map text l) (drop-cons xs index x inside)
     ∙ ap (λ i. text (get_or xs index x) ++ flat_map text (drop i xs)) (sym (add-one index))
-
--- none is left
-pub flat_map-end : {X : Type 0} (text : X → List ℕ) (xs : List X) (index : ℕ) → length xs ≤ index → flat_map text (drop index xs) ≡ []
-flat_map-end text xs index past = at_drop_all (λ l. flat_map text l) xs index past

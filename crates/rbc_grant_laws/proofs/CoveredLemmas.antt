@@ -1,8 +1,8 @@
 -- Each metre of a line has a speed and a gradient in range, and a profile is best for each track that agrees below the end.
-use Rattle.std.proofs.Common.{◌≡◌, ℕ, zero, suc, ◌+◌, ◌-◌, ◌<◌, ◌≤◌, Bool, true, false, cond, List, [], ◌∷◌, Option, Some, None, ℤ, pos, negsuc, refl, ap, ap₂, sym, ◌∙◌, subst, arith, ◌⊎◌, inl, inr, nat_le, int_le}
+use Rattle.std.proofs.Common.{◌≡◌, ℕ, zero, suc, ◌+◌, ◌-◌, ◌<◌, ◌≤◌, Bool, true, false, cond, List, [], ◌∷◌, Option, Some, None, ℤ, pos, negsuc, refl, ap, ap₂, sym, ◌∙◌, subst, arith, inl, inr, nat_le, int_le}
 use Rattle.std.specs.Prelude.{◌==◌, option_map, option_and_then, slice_get, neg_ℤ}
 use Rattle.std.specs.Option.{option_or, option_flatten, option_map_or}
-use Rattle.std.specs.List.{AllByRecursion, list_all}
+use Rattle.std.specs.List.{AllByRecursion}
 use Rattle.std.proofs.lemmas.Bool.{leb-true, le-leb, eqb-true, and_from}
 use Rattle.std.proofs.lemmas.List.Elements.{recursion_from_All}
 use Rattle.rbc_model.specs.declared.places.Metre.{Metre}
@@ -21,25 +21,13 @@ use Rattle.std.specs.Cmp.{first_so, second_so}
 use Rattle.std.proofs.lemmas.Option.{same_Some}
 use Rattle.rbc_model.proofs.BasicLemmas.{if_in, if_past}
 use Rattle.rbc_model.proofs.MetreLemmas.{line_length-cons, metre_of_leg-of_track}
+use Rattle.rbc_model.proofs.StepListLemmas.{value_in_range}
 
 -- ---- a track's value at a metre
 
 module _ {V : Type 0} (levels : Levels V) where
   HasValue : Option V → Type 0
   HasValue o = (v : V) × (o ≡ Some v) × IsInRange levels v
-
-  later_or : (o : Option V) (b : Bool) (here v : V) → option_or o (cond b (Some here) None) ≡ Some v → (o ≡ Some v) ⊎ (here ≡ v)
-  later_or (Some w) b here v h = inl h
-  later_or None true here v h = inr cc
-  later_or None false here v h = cc
-
-  value_in_range : (steps : List (ℕ × V)) (x : ℕ) (v : V) → list_all (λ s. levels.in_range s.1) steps ≡ true → value_at steps x ≡ Some v → IsInRange levels v
-  value_in_range [] x v h e = cc
-  value_in_range (s ∷ steps) x v h e =
-      elim (later_or (value_at steps x) (nat_le s.0 x) s.1 v e) [
-        | inl later ↦ value_in_range steps x v (second_so (levels.in_range s.1) (list_all (λ (t : ℕ × V). levels.in_range t.1) steps) h) later
-        | inr here ↦ subst (IsInRange levels) here (first_so (levels.in_range s.1) (list_all (λ (t : ℕ × V). levels.in_range t.1) steps) h)
-      ]
 
   some_or : (o : Option V) (b : Bool) (here : V) → b ≡ true → (v : V) × (option_or o (cond b (Some here) None) ≡ Some v)
   some_or (Some w) b here h = (w, refl)
@@ -57,7 +45,7 @@ module _ {V : Type 0} (levels : Levels V) where
   track_value n runs x t =
       let s = t.starts in
       let v = value_there runs x s.rising in
-      (v.0, v.1, value_in_range runs x v.0 t.values v.1)
+      (v.0, v.1, value_in_range levels runs x v.0 t.values v.1)
 
 each_at : {X : Type 0} (P : X → Type 0) (xs : List X) (k : ℕ) (x : X) → AllByRecursion P xs → slice_get xs k ≡ Some x → P x
 each_at P [] k x h e = cc

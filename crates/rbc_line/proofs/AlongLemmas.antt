@@ -16,14 +16,8 @@ use Rattle.rbc_steps.proofs.PlaceLemmas.{value_at-index, in_turn, first_at_zero}
 use Rattle.rbc_line.specs.Along.{Tells, level_at, level_on, levels_from}
 use Rattle.rbc_line.proofs.ChangeLemmas.{parts_metres}
 use Rattle.rbc_line.proofs.TellingLemmas.{tells_more}
-use Rattle.rbc_model.proofs.BasicLemmas.{if_in}
+use Rattle.rbc_model.proofs.BasicLemmas.{if_in, same_or_later, next_or_later}
 use Rattle.std.proofs.lemmas.Iterator.Adapters.{option_map_id}
-
-next_or_later : (i k : ℕ) → i < k → (k ≡ i + 1) ⊎ (i + 1 < k)
-next_or_later i k h = grind arith
-
-same_or_before : (i k : ℕ) → i ≤ k → (k ≡ i) ⊎ (i < k)
-same_or_before i k h = grind arith
 
 more : (n i : ℕ) → (i + 1 < n) ⊎ (n ≤ i + 1)
 more n i = grind arith
@@ -127,7 +121,7 @@ module _ {V : Type 0} (runs : List (ℕ × V)) (rises : rises_from_zero (starts_
         top = omega (arith, s.top, begun d);
         within = omega (arith, s.within);
         begun = λ k e h. omega (arith, in_turn runs k index e rises (omega arith) (omega (arith, s.within)), same e);
-        later = λ k e h m. elim (same_or_before index k h) [
+        later = λ k e h m. elim (same_or_later index k h) [
           | inl here ↦ let eq : start_at runs e k ≡ start_at runs e index = ap (start_at runs e) here in omega (arith, eq, same e)
           | inr behind ↦ omega (arith, same e, in_turn runs index k e rises behind m)
         ];

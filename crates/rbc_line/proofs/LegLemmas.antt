@@ -1,5 +1,5 @@
 -- Lists of legs: their last one, and where a section does not stand.
-use Rattle.std.proofs.Common.{◌≡◌, ℕ, zero, suc, ◌+◌, ◌<◌, Bool, true, false, not, ◌&&◌, [], ◌∷◌, length, get_or, drop, Some, None, refl, sym, ap, ◌∙◌, arith, if◌then◌else◌}
+use Rattle.std.proofs.Common.{◌≡◌, ℕ, zero, suc, ◌+◌, ◌<◌, Bool, true, false, not, [], ◌∷◌, length, get_or, drop, Some, None, refl, sym, ap, ◌∙◌, arith, if◌then◌else◌}
 use Rattle.std.specs.Prelude.{◌==◌, option_map}
 use Rattle.std.proofs.lemmas.List.{drop_more}
 use denote.Enum.Bare.{sameb}
@@ -13,7 +13,7 @@ use Rattle.rbc_model.specs.SoundTracks.{sections_differ}
 use Rattle.rbc_model.specs.Lines.{Line, has_leg, has_section, first_leg, last_leg, metres_to_group, place_of, place_on}
 use Rattle.rbc_model.proofs.SamenessLemmas.{direction_eq-true}
 use Rattle.rbc_scene_laws.proofs.BasicLemmas.{and_left}
-use Rattle.std.proofs.lemmas.Bool.{not-true, or_parts, or_from}
+use Rattle.std.proofs.lemmas.Bool.{not-true, or_parts, or_from, and_left as false_before, and_right as false_behind}
 use Rattle.rbc_model.proofs.BasicLemmas.{flipped}
 
 pub some_first : (legs : Line) → 0 < length legs → (leg : Leg) × (first_leg legs ≡ Some leg)
@@ -33,23 +33,16 @@ lacks_leg : (legs : Line) (leg : Leg) → has_section legs leg.section ≡ false
 lacks_leg [] leg h = refl
 lacks_leg (other ∷ legs) leg h =
     or_from (leg_eq leg other) (has_leg legs leg)
-    (unlike (leg.section == other.section) (direction_eq leg.direction other.direction) (flipped other.section leg.section ((or_parts (other.section == leg.section) (has_section legs leg.section) h).0)))
+    (false_before (leg.section == other.section) (direction_eq leg.direction other.direction) (flipped other.section leg.section ((or_parts (other.section == leg.section) (has_section legs leg.section) h).0)))
     (lacks_leg legs leg ((or_parts (other.section == leg.section) (has_section legs leg.section) h).1))
-  where
-    unlike : (a b : Bool) → a ≡ false → (a && b) ≡ false
-    unlike a b e = rw e refl
 
 -- a line that begins with the section, run the other way, does not have the leg
 pub lacks_turned_leg : (leg wanted : Leg) (legs : Line) → sections_differ (leg ∷ legs) ≡ true → leg.section ≡ wanted.section → ((leg.direction ≡ wanted.direction) → ⊥) → has_leg (leg ∷ legs) wanted ≡ false
 lacks_turned_leg leg wanted legs differ same turned =
     or_from (leg_eq wanted leg) (has_leg legs wanted)
-    (other_way (wanted.section == leg.section) (direction_eq wanted.direction leg.direction) (not_same wanted.direction leg.direction turned))
+    (false_behind (wanted.section == leg.section) (direction_eq wanted.direction leg.direction) (not_same wanted.direction leg.direction turned))
     (lacks_leg legs wanted (rw (← same) (not-true (has_section legs leg.section) (and_left (not (has_section legs leg.section)) (sections_differ legs) differ))))
   where
-    other_way : (a b : Bool) → b ≡ false → (a && b) ≡ false
-    other_way true b e = e
-    other_way false b e = refl
-
     told_apart : (a b : Direction) (test : Bool) → direction_eq a b ≡ test → ((b ≡ a) → ⊥) → test ≡ false
     told_apart a b true e h = let same : a ≡ b = direction_eq-true a b e in absurd (h (cc))
     told_apart a b false e h = refl

@@ -1,5 +1,5 @@
 -- Fields in a row: each is written and read before the ones behind it. How a proof goes from field to field, both ways.
-use Rattle.std.proofs.Common.{◌≡◌, ℕ, ◌+◌, ◌<◌, ◌^◌, Bool, true, false, List, [], ◌∷◌, ◌++◌, length, refl, arith, sym, ap, ap₂, ◌∙◌, append_assoc, length-append, Result, Ok, Err, ◌==◌, subst}
+use Rattle.std.proofs.Common.{◌≡◌, ℕ, ◌+◌, ◌<◌, ◌^◌, Bool, true, false, List, [], ◌∷◌, ◌++◌, length, refl, sym, ap, ap₂, ◌∙◌, append_assoc, length-append, Result, Ok, Err, ◌==◌, subst}
 use Rattle.std.proofs.lemmas.Bool.{eqb-true}
 use Rattle.std.proofs.lemmas.List.{map-append}
 use Rattle.std.proofs.lemmas.Grind.{flat_map-append}
@@ -9,6 +9,7 @@ use Rattle.rbc_model.specs.declared.messages.Fault.{Fault}
 use Rattle.rbc_model.specs.Messages.{width_of, sized_fields}
 use Rattle.rbc_model.specs.Readers.{Reader, answer, expect, field, any_field, fixed_field, rest_of_reading}
 use Rattle.rbc_model.proofs.BitLemmas.{length-bits_of, field-wrote, field-read}
+use Rattle.rbc_model.proofs.BasicLemmas.{same_number}
 
 -- ---- the bits of some fields
 
@@ -67,12 +68,9 @@ write name allowed {value} {fields} {bits} {later} next {z} begins fits ok go =
     let parts : bits ≡ bits_of (width_of name) value ++ mid = begins.is ∙ append_assoc (bits_of (width_of name) value) (spelled fields) later in
     ap (λ u. rest_of_reading u next) (ap (field name allowed) parts ∙ field-wrote name allowed value mid fits ok) ∙ go mid (record { is = refl })
 
-pub itself : (n : ℕ) → (n == n) ≡ true
-itself n = grind arith
-
 pub write_fixed : {B : Type 0} (name : FieldName) (value : ℕ) {fields : List (FieldName × ℕ)} {bits later : List Bool} (next : ℕ → Reader B) {z : Result (B × List Bool) Fault}
     → Row ((name, value) ∷ fields) bits later → value < 2 ^ width_of name → ((mid : List Bool) → Row fields mid later → next value mid ≡ z) → rest_of_reading (fixed_field name value bits) next ≡ z
-write_fixed name value next begins fits go = write name (λ v. v == value) next begins fits (itself value) go
+write_fixed name value next begins fits go = write name (λ v. v == value) next begins fits (same_number value) go
 
 pub write_any : {B : Type 0} (name : FieldName) {value : ℕ} {fields : List (FieldName × ℕ)} {bits later : List Bool} (next : ℕ → Reader B) {z : Result (B × List Bool) Fault}
     → Row ((name, value) ∷ fields) bits later → value < 2 ^ width_of name → ((mid : List Bool) → Row fields mid later → next value mid ≡ z) → rest_of_reading (any_field name bits) next ≡ z

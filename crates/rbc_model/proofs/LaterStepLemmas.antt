@@ -1,13 +1,10 @@
 -- The steps of a profile after one that starts at a metre, and how far each lies from the one before, in the message's units.
 use Rattle.std.proofs.Common.{◌≡◌, ℕ, ◌+◌, ◌-◌, ◌*◌, ◌/◌, ◌%◌, ◌<◌, ◌≤◌, ◌^◌, Bool, true, ◌&&◌, ◌⊎◌, inl, inr, List, [], ◌∷◌, length, refl, arith, subst, sym, nat_lt, ◌==◌}
-use Rattle.std.proofs.lemmas.Bool.{ltb-true, lt-ltb, eqb-true, eq-eqb}
+use Rattle.std.proofs.lemmas.Bool.{ltb-true, lt-ltb, eqb-true, eq-eqb, and_from}
 use Rattle.std.specs.List.{list_all}
 use Rattle.rbc_model.specs.Levels.{Levels}
 use Rattle.rbc_model.specs.Profiles.{starts_of, rises_above, IsProfile}
 use Rattle.rbc_model.proofs.CountingLemmas.{both_of}
-
-pub both : {a b : Bool} → a ≡ true → b ≡ true → (a && b) ≡ true
-both {a} {b} e f = cc (e, f)
 
 -- ---- lists of steps
 
@@ -47,10 +44,10 @@ module _ {V : Type 0} (levels : Levels V) where
   pub one_more_later : {unit end from : ℕ} {step : ℕ × V} {later : List (ℕ × V)} → IsNext unit end from step → AreLater unit end step.0 later → AreLater unit end from (step ∷ later)
   one_more_later {unit} {end} {from} {step} next are = record {
     before = let a = next.after in let b = next.inside in omega arith;
-    rising = both (lt-ltb from step.0 next.after) are.rising;
-    inside = both (lt-ltb step.0 end next.inside) are.inside;
-    whole = both (eq-eqb (step.0 % unit) 0 next.whole) are.whole;
-    values = both next.value are.values;
+    rising = and_from _ _ (lt-ltb from step.0 next.after) are.rising;
+    inside = and_from _ _ (lt-ltb step.0 end next.inside) are.inside;
+    whole = and_from _ _ (eq-eqb (step.0 % unit) 0 next.whole) are.whole;
+    values = and_from _ _ next.value are.values;
   }
 
   -- ---- a whole profile
@@ -78,11 +75,11 @@ module _ {V : Type 0} (levels : Levels V) where
   profile_of_started {unit} {limit} {end} {first} {later} s whole = record {
     starts = record {
       rising = s.rest.rising;
-      inside = both (lt-ltb 0 end s.rest.before) s.rest.inside;
+      inside = and_from _ _ (lt-ltb 0 end s.rest.before) s.rest.inside;
     };
-    in_units = both (eq-eqb (0 % unit) 0 whole) s.rest.whole;
+    in_units = and_from _ _ (eq-eqb (0 % unit) 0 whole) s.rest.whole;
     few = s.few;
-    values = both s.value s.rest.values;
+    values = and_from _ _ s.value s.rest.values;
   }
 
 -- ---- distances in units

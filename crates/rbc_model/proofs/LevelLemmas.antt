@@ -6,6 +6,7 @@ use Rattle.std.proofs.lemmas.Bool.Decides.{leb_tells}
 use Rattle.std.proofs.Math.Nat.{mul-mod_left}
 use Rattle.rbc_model.specs.Levels.{speed_levels, grade_levels, IsLawful, IsInRange}
 use Rattle.rbc_model.proofs.CountingLemmas.{both_of}
+use Rattle.rbc_model.proofs.ScanLemmas.{le_or_lt}
 use Rattle.std.specs.Cmp.Derive.{both_true}
 
 -- ---- tests of order
@@ -14,11 +15,8 @@ of_not : (a : Bool) → not a ≡ true → a ≡ true → ⊥
 of_not true e f = true≢false (sym e)
 of_not false e f = true≢false (sym f)
 
-one_way : (a b : ℕ) → (a ≤ b) ⊎ (b ≤ a)
+pub one_way : (a b : ℕ) → (a ≤ b) ⊎ (b ≤ a)
 one_way a b = grind arith
-
-at_or_above : (a b : ℕ) → (a ≤ b) ⊎ (b < a)
-at_or_above a b = grind arith
 
 tests_total : (a b : ℕ) → (nat_le a b ≡ true) ⊎ (nat_le b a ≡ true)
 tests_total a b = go (one_way a b)
@@ -129,7 +127,7 @@ one_way_by a b = go (one_way (above a + below b) (above b + below a))
     go (inr h) = inr (to_order b a h)
 
 strictly : (a b : ℤ) → (int_le a b && not (int_le b a)) ≡ true → above a + below b < above b + below a
-strictly a b e = go (at_or_above (above b + below a) (above a + below b))
+strictly a b e = go (le_or_lt (above b + below a) (above a + below b))
   where
     go : (above b + below a ≤ above a + below b) ⊎ (above a + below b < above b + below a) → above a + below b < above b + below a
     go (inl h) = absurd (of_not (int_le b a) (both_of (int_le a b) (not (int_le b a)) e).1 (to_order b a h))

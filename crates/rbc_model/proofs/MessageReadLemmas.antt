@@ -1,6 +1,6 @@
 -- What is read as the parts of a message 3 was written by them.
 use Rattle.std.proofs.Common.{◌≡◌, ℕ, zero, suc, pred, ◌+◌, ◌-◌, ◌*◌, ◌/◌, ◌%◌, ◌<◌, ◌≤◌, ◌^◌, Bool, true, ◌&&◌, ◌⊎◌, inl, inr, List, [], ◌∷◌, length, ℤ, refl, arith, subst, sym, ap, ◌∙◌, nat_le, ◌==◌, Ok}
-use Rattle.std.proofs.lemmas.Bool.{le-leb, leb-true, eq-eqb, eqb-true}
+use Rattle.std.proofs.lemmas.Bool.{le-leb, leb-true, eq-eqb, eqb-true, and_from}
 use Rattle.rbc_model.specs.declared.places.Format.{Format}
 use Rattle.rbc_model.specs.declared.messages.Fault.TheVariants.{Short, Length, Extra}
 use Rattle.rbc_model.specs.declared.messages.FieldName.TheVariants.{NID_MESSAGE, L_MESSAGE, T_TRAIN, M_ACK, NID_C, NID_BG, NID_PACKET, Q_DIR, L_PACKET, Q_SCALE, V_LOA, T_LOA, N_ITER, L_ENDSECTION, Q_SECTIONTIMER, Q_ENDTIMER, Q_DANGERPOINT, Q_OVERLAP, D_GRADIENT, Q_GDIR, G_A, D_STATIC, V_STATIC, Q_FRONT}
@@ -13,7 +13,7 @@ use Rattle.rbc_model.specs.Reading.{Header, header_at, Frame, packet_15_at, sign
 use Rattle.rbc_model.proofs.CountingLemmas.{both_of}
 use Rattle.rbc_model.proofs.SpellingLemmas.{within}
 use Rattle.rbc_model.proofs.FrameLemmas.{IsFrame, frame_read, limits_of}
-use Rattle.rbc_model.proofs.LaterStepLemmas.{AreLater, IsUnit, both, may_have, none_later, one_more_later, profile_of_started, reached}
+use Rattle.rbc_model.proofs.LaterStepLemmas.{AreLater, IsUnit, may_have, none_later, one_more_later, profile_of_started, reached}
 use Rattle.rbc_model.proofs.FieldRowLemmas.{Row, as_value, row, rows, no_row, read, read_any, read_fixed, came_by, tested, the_answer}
 
 -- ---- packet 15
@@ -101,8 +101,8 @@ record IsReadGrade (v : ℤ) (bits rest : List Bool) : Type 0 where
 
 grade_said : (uphill size : ℕ) {bits rest : List Bool} → uphill < 2 → is_from_to (1 - uphill) 254 size ≡ true → Row ((Q_GDIR, uphill) ∷ (G_A, size) ∷ []) bits rest → IsReadGrade (signed_value uphill size) bits rest
 grade_said zero zero fits ok r = absurd cc
-grade_said zero (suc n) fits ok r = let l = limits_of 1 254 (suc n) ok in record { range = both (both (le-leb n 253 (omega (arith, l.1))) refl) refl; row_is = r }
-grade_said (suc zero) n fits ok r = let l = limits_of 0 254 n ok in record { range = both (le-leb n 254 l.1) refl; row_is = r }
+grade_said zero (suc n) fits ok r = let l = limits_of 1 254 (suc n) ok in record { range = and_from _ _ (and_from _ _ (le-leb n 253 (omega (arith, l.1))) refl) refl; row_is = r }
+grade_said (suc zero) n fits ok r = let l = limits_of 0 254 n ok in record { range = and_from _ _ (le-leb n 254 l.1) refl; row_is = r }
 grade_said (suc (suc k)) n fits ok r = absurd (omega arith)
 
 grade-read : (bits : List Bool) {v : ℤ} {rest : List Bool} → gradient_value_at bits ≡ Ok (v, rest) → IsReadGrade v bits rest
@@ -201,7 +201,7 @@ speed_said fives {bits} {rest} ok r =
     let l = limits_of 1 120 fives ok in
     let same : fives ≡ 5 * fives / 5 = omega arith in
     record {
-      range = both (within 5 600 (5 * fives) (omega (arith, l.0)) (omega (arith, l.1))) (eq-eqb (5 * fives % 5) 0 (omega arith));
+      range = and_from _ _ (within 5 600 (5 * fives) (omega (arith, l.0)) (omega (arith, l.1))) (eq-eqb (5 * fives % 5) 0 (omega arith));
       row_is = subst (λ v. Row ((V_STATIC, v) ∷ (Q_FRONT, 0) ∷ (N_ITER, 0) ∷ []) bits rest) same r;
     }
 

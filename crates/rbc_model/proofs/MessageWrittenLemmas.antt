@@ -1,6 +1,6 @@
 -- What the parts of a message 3 wrote is read, whatever follows.
 use Rattle.std.proofs.Common.{◌≡◌, ℕ, suc, ◌+◌, ◌-◌, ◌*◌, ◌/◌, ◌%◌, ◌<◌, ◌≤◌, ◌^◌, Bool, true, false, ◌&&◌, List, [], ◌∷◌, ◌++◌, length, ℤ, pos, negsuc, refl, arith, sym, ap, ◌∙◌, nat_le, ◌==◌, lit<, Ok}
-use Rattle.std.proofs.lemmas.Bool.{le-leb, leb-true, eq-eqb, eqb-true}
+use Rattle.std.proofs.lemmas.Bool.{le-leb, leb-true, eq-eqb, eqb-true, and_from}
 use Rattle.rbc_model.specs.declared.places.Format.{Format}
 use Rattle.rbc_model.specs.GroupNames.{GroupName}
 use Rattle.rbc_model.specs.Profiles.{IsProfile}
@@ -15,16 +15,17 @@ use Rattle.rbc_model.specs.Reading.{header_at, Frame, packet_15_at, gradient_val
 use Rattle.rbc_model.proofs.CountingLemmas.{both_of}
 use Rattle.rbc_model.proofs.SpellingLemmas.{go_on, within}
 use Rattle.rbc_model.proofs.FrameLemmas.{IsFrame, limits_of}
-use Rattle.rbc_model.proofs.LaterStepLemmas.{AreLater, IsUnit, both, may_have, first_later, started_of_profile, distance_of_next, distance_of_end}
-use Rattle.rbc_model.proofs.FieldRowLemmas.{Row, spelled, write, write_any, write_fixed, done, regroup, spelled_row, passed, itself}
+use Rattle.rbc_model.proofs.LaterStepLemmas.{AreLater, IsUnit, may_have, first_later, started_of_profile, distance_of_next, distance_of_end}
+use Rattle.rbc_model.proofs.FieldRowLemmas.{Row, spelled, write, write_any, write_fixed, done, regroup, spelled_row, passed}
+use Rattle.rbc_model.proofs.BasicLemmas.{same_number}
 
 -- ---- packet 15
 
-direction_fits : (nominal : Bool) → direction_of nominal < 2 ^ 2
+pub direction_fits : (nominal : Bool) → direction_of nominal < 2 ^ 2
 direction_fits true = lit< tt
 direction_fits false = lit< tt
 
-direction_allowed : (nominal : Bool) → is_from_to 0 1 (direction_of nominal) ≡ true
+pub direction_allowed : (nominal : Bool) → is_from_to 0 1 (direction_of nominal) ≡ true
 direction_allowed true = refl
 direction_allowed false = refl
 
@@ -50,8 +51,8 @@ packet_15-written format nominal end fields f r =
 
 -- ---- packet 21
 
-grade_range : (v : ℤ) → may_have grade_levels v ≡ true → grade_levels.in_range v ≡ true
-grade_range v h = (both_of (grade_levels.in_range v) true h).0
+pub grade_in_range : (v : ℤ) → may_have grade_levels v ≡ true → grade_levels.in_range v ≡ true
+grade_in_range v h = (both_of (grade_levels.in_range v) true h).0
 
 pub grade-written : (v : ℤ) (fields : List (FieldName × ℕ)) {bits rest : List Bool} → grade_levels.in_range v ≡ true → Row (gradient_fields v ++ fields) bits rest → gradient_value_at bits ≡ Ok (v, spelled fields ++ rest)
 grade-written (pos n) fields ok r =
@@ -70,7 +71,7 @@ pub grades-written : (frame : Frame) {unit end : ℕ} (from start : ℕ) (later 
     → Row (gradient_elements unit end start later ++ fields) bits rest → gradient_elements_at frame from (length later) bits ≡ Ok (later, spelled fields ++ rest)
 grades-written frame {unit} {end} from start [] fields scale u at are r =
     let told = distance_of_end from u at are.before in
-    write D_GRADIENT (λ d. nat_le 1 d && (from + d == frame.end)) _ r told.0.fits (both (le-leb 1 ((end - start) / unit) told.0.some) (eq-eqb (from + (end - start) / unit) frame.end told.1)) (λ _ r.
+    write D_GRADIENT (λ d. nat_le 1 d && (from + d == frame.end)) _ r told.0.fits (and_from _ _ (le-leb 1 ((end - start) / unit) told.0.some) (eq-eqb (from + (end - start) / unit) frame.end told.1)) (λ _ r.
     write_any Q_GDIR _ r (lit< tt) (λ _ r.
     write G_A (λ size. (size == 255) && (0 == 0)) _ r (lit< tt) refl (λ _ r.
     done r)))
@@ -78,7 +79,7 @@ grades-written frame {unit} {end} from start (step ∷ later) fields {rest = res
     let parts = first_later grade_levels are in
     let told = distance_of_next from u at parts.0 in
     write D_GRADIENT (nat_le 1) _ r told.fits (le-leb 1 ((step.0 - start) / unit) told.some) (λ _ r.
-    go_on _ (grade-written step.1 (gradient_elements unit end step.0 later ++ fields) (grade_range step.1 parts.0.value) (regroup (gradient_fields step.1) (gradient_elements unit end step.0 later) fields r))
+    go_on _ (grade-written step.1 (gradient_elements unit end step.0 later ++ fields) (grade_in_range step.1 parts.0.value) (regroup (gradient_fields step.1) (gradient_elements unit end step.0 later) fields r))
     (go_on _ (grades-written frame (from + (step.0 - start) / unit) step.0 later fields scale u (sym told.reaches) parts.1 (record { is = refl }))
     (ap (λ x. Ok ((x, step.1) ∷ later, spelled fields ++ rest)) (ap (λ k. k * (from + (step.0 - start) / unit)) scale ∙ told.reaches))))
 
@@ -100,9 +101,9 @@ packet_21-written nominal end (first ∷ later) fields {rest = rest} f profile r
     write_any L_PACKET _ r (omega arith) (λ _ r.
     write_fixed Q_SCALE (scale_of end) _ r f.scale_fits (λ _ r.
     write_fixed D_GRADIENT 0 _ r (lit< tt) (λ _ r.
-    go_on _ (grade-written first.1 ((N_ITER, count) ∷ elements ++ fields) (grade_range first.1 s.value) (regroup (gradient_fields first.1) ((N_ITER, count) ∷ elements) fields r))
+    go_on _ (grade-written first.1 ((N_ITER, count) ∷ elements ++ fields) (grade_in_range first.1 s.value) (regroup (gradient_fields first.1) ((N_ITER, count) ∷ elements) fields r))
     (write N_ITER (nat_le 1) _ (spelled_row ((N_ITER, count) ∷ elements ++ fields) rest) (omega arith) (le-leb 1 count (omega arith)) (λ mid r.
-    passed (gradient_length count == gradient_length count) Length mid _ (itself (gradient_length count))
+    passed (gradient_length count == gradient_length count) Length mid _ (same_number (gradient_length count))
     (go_on _ (grades-written (frame_of nominal end) 0 0 later fields f.unit_is (units_of_frame f) (omega arith) s.rest r)
     (ap (λ x. Ok ((x, first.1) ∷ later, spelled fields ++ rest)) (sym s.start))))))))))
 
@@ -128,7 +129,7 @@ pub speeds-written : (frame : Frame) {unit end : ℕ} (from start : ℕ) (later 
     → Row (speed_elements unit end start later ++ fields) bits rest → speed_elements_at frame from (length later) bits ≡ Ok (later, spelled fields ++ rest)
 speeds-written frame {unit} {end} from start [] fields scale u at are r =
     let told = distance_of_end from u at are.before in
-    write D_STATIC (λ d. nat_le 1 d && (from + d == frame.end)) _ r told.0.fits (both (le-leb 1 ((end - start) / unit) told.0.some) (eq-eqb (from + (end - start) / unit) frame.end told.1)) (λ _ r.
+    write D_STATIC (λ d. nat_le 1 d && (from + d == frame.end)) _ r told.0.fits (and_from _ _ (le-leb 1 ((end - start) / unit) told.0.some) (eq-eqb (from + (end - start) / unit) frame.end told.1)) (λ _ r.
     write_fixed V_STATIC 127 _ r (lit< tt) (λ _ r.
     write_fixed Q_FRONT 0 _ r (lit< tt) (λ _ r.
     write_fixed N_ITER 0 _ r (lit< tt) (λ _ r.
@@ -157,7 +158,7 @@ packet_27-written nominal end (first ∷ later) fields {rest = rest} f profile r
     write_fixed D_STATIC 0 _ r (lit< tt) (λ _ r.
     go_on _ (speed-written first.1 ((N_ITER, count) ∷ elements ++ fields) s.value r)
     (write N_ITER (nat_le 1) _ (spelled_row ((N_ITER, count) ∷ elements ++ fields) rest) (omega arith) (le-leb 1 count (omega arith)) (λ mid r.
-    passed (speed_length count == speed_length count) Length mid _ (itself (speed_length count))
+    passed (speed_length count == speed_length count) Length mid _ (same_number (speed_length count))
     (go_on _ (speeds-written (frame_of nominal end) 0 0 later fields f.unit_is (units_of_frame f) (omega arith) s.rest r)
     (ap (λ x. Ok ((x, first.1) ∷ later, spelled fields ++ rest)) (sym s.start))))))))))
 

@@ -51,7 +51,7 @@ filling-read bits h =
 
 -- ---- the whole message, written and read
 
-nominal_said : (nominal : Bool) → (direction_of nominal == 1) ≡ nominal
+pub nominal_said : (nominal : Bool) → (direction_of nominal == 1) ≡ nominal
 nominal_said true = refl
 nominal_said false = refl
 
@@ -103,7 +103,7 @@ message-read format bytes bits {a} {rest} h =
 -- ---- bytes
 
 -- zeros up to a whole byte
-abbrev zeros_behind : List Bool → List Bool
+abbrev pub zeros_behind : List Bool → List Bool
 zeros_behind bits = replicate (8 * byte_count (length bits) - length bits) false
 
 zeros-filling : (bits : List Bool) → IsFilling (zeros_behind bits)
@@ -112,16 +112,16 @@ zeros-filling bits =
     let long = length-replicate count false in
     record { short = omega arith; none = number_of_zeros count }
 
-length-padded_bits : (bits : List Bool) → length (padded_bits bits) ≡ 8 * byte_count (length bits)
+pub length-padded_bits : (bits : List Bool) → length (padded_bits bits) ≡ 8 * byte_count (length bits)
 length-padded_bits bits =
     let long = length-replicate (8 * byte_count (length bits) - length bits) false in
     let both = length-append bits (zeros_behind bits) in
     omega arith
 
-byte_bits-padded : (bits : List Bool) → byte_bits (bytes_of (padded_bits bits)) ≡ padded_bits bits
+pub byte_bits-padded : (bits : List Bool) → byte_bits (bytes_of (padded_bits bits)) ≡ padded_bits bits
 byte_bits-padded bits = byte_bits-bytes_of (padded_bits bits) (let long = length-padded_bits bits in omega arith)
 
-length-bytes_of_padded : (bits : List Bool) → length (bytes_of (padded_bits bits)) ≡ byte_count (length bits)
+pub length-bytes_of_padded : (bits : List Bool) → length (bytes_of (padded_bits bits)) ≡ byte_count (length bits)
 length-bytes_of_padded bits =
     let long = length-padded_bits bits in
     let same = ap length (byte_bits-padded bits) in
@@ -140,7 +140,7 @@ padded_of_filling bytes bits filling e fill =
 
 -- ---- both ways
 
-spelled_bytes : (a : Authority) → message_bytes a ≡ bytes_of (padded_bits (spelled (message_3 a)))
+pub spelled_bytes : (a : Authority) → message_bytes a ≡ bytes_of (padded_bits (spelled (message_3 a)))
 unfolding spelled
 spelled_bytes a = refl
 

@@ -1,23 +1,23 @@
 -- The runs of a track's first metres have its values there.
-use Rattle.std.proofs.Common.{zero, suc, Bool, subst, ◌⊎◌, inl, inr, true, ◌≡◌, ℕ, ◌<◌, false, List, [], ◌∷◌, ◌++◌, Option, Some, None, refl, arith, ap, sym, ◌∙◌, nat_le, if◌then◌else◌}
+use Rattle.std.proofs.Common.{zero, suc, Bool, subst, inl, inr, true, ◌≡◌, ℕ, ◌<◌, false, List, [], ◌∷◌, ◌++◌, Option, Some, None, refl, arith, ap, sym, ◌∙◌, nat_le, if◌then◌else◌}
 use Rattle.std.specs.Option.{option_or, option_map_or}
 use Rattle.std.proofs.lemmas.Bool.{le-leb, lt-leb}
 use Rattle.rbc_model.specs.Levels.{Levels, is_same, IsInRange, IsLawful}
 use Rattle.rbc_model.specs.Profiles.{value_at, runs_over}
-use Rattle.rbc_model.proofs.CountingLemmas.{both_of}
+use Rattle.rbc_model.proofs.CountingLemmas.{both_of, last_or_below}
 
-assoc : {V : Type 0} (a b c : Option V) → option_or a (option_or b c) ≡ option_or (option_or a b) c
-assoc None b c = refl
-assoc (Some x) b c = refl
+pub option_or_assoc : {V : Type 0} (a b c : Option V) → option_or a (option_or b c) ≡ option_or (option_or a b) c
+option_or_assoc None b c = refl
+option_or_assoc (Some x) b c = refl
 
-or_none : {V : Type 0} (a : Option V) → option_or a None ≡ a
-or_none None = refl
-or_none (Some x) = refl
+pub option_or_none : {V : Type 0} (a : Option V) → option_or a None ≡ a
+option_or_none None = refl
+option_or_none (Some x) = refl
 
 -- one run more behind the others
 value_at-push : {V : Type 0} (runs : List (ℕ × V)) (n : ℕ) (v : V) (x : ℕ) → value_at (runs ++ (n, v) ∷ []) x ≡ option_or (if nat_le n x then Some v else None) (value_at runs x)
-value_at-push [] n v x = sym (or_none (if nat_le n x then Some v else None))
-value_at-push (run ∷ runs) n v x = ap (λ o. option_or o (if nat_le run.0 x then Some run.1 else None)) (value_at-push runs n v x) ∙ sym (assoc (if nat_le n x then Some v else None) (value_at runs x) (if nat_le run.0 x then Some run.1 else None))
+value_at-push [] n v x = sym (option_or_none (if nat_le n x then Some v else None))
+value_at-push (run ∷ runs) n v x = ap (λ o. option_or o (if nat_le run.0 x then Some run.1 else None)) (value_at-push runs n v x) ∙ sym (option_or_assoc (if nat_le n x then Some v else None) (value_at runs x) (if nat_le run.0 x then Some run.1 else None))
 
 value_at-push_before : {V : Type 0} (runs : List (ℕ × V)) (n : ℕ) (v : V) (x : ℕ) → x < n → value_at (runs ++ (n, v) ∷ []) x ≡ value_at runs x
 value_at-push_before runs n v x h = value_at-push runs n v x ∙ rw (lt-leb n x h) refl
@@ -26,7 +26,7 @@ value_at-push_there : {V : Type 0} (runs : List (ℕ × V)) (n : ℕ) (v : V) �
 value_at-push_there runs n v = value_at-push runs n v n ∙ rw (le-leb n n (omega arith)) refl
 
 module _ {V : Type 0} (levels : Levels V) (lawful : IsLawful levels) where
-  one_value : (a b : V) → IsInRange levels a → IsInRange levels b → is_same levels a b ≡ true → a ≡ b
+  pub one_value : (a b : V) → IsInRange levels a → IsInRange levels b → is_same levels a b ≡ true → a ≡ b
   one_value a b ra rb same =
       let both = both_of (levels.at_most a b) (levels.at_most b a) same in
       lawful.ordered.antisymmetric a b ra rb both.0 both.1
@@ -52,9 +52,6 @@ module _ {V : Type 0} (levels : Levels V) (lawful : IsLawful levels) where
   -- each of the first n metres of the track has a value in range
   abbrev pub IsCovered : ℕ → (ℕ → Option V) → Type 0
   IsCovered n track = (x : ℕ) → x < n → (v : V) × (track x ≡ Some v) × IsInRange levels v
-
-  last_or_before : (n x : ℕ) → x < suc n → (x ≡ n) ⊎ (x < n)
-  last_or_before n x h = grind arith
 
   none_in_range : (w : V) → None ≡ Some w → IsInRange levels w
   none_in_range w e = cc
@@ -83,7 +80,7 @@ module _ {V : Type 0} (levels : Levels V) (lawful : IsLawful levels) where
       let here = covered n (omega arith) in
       let runs = runs_over levels n track in
       let test = option_map_or (is_same levels here.0) (value_at runs n) false in
-      elim (last_or_before n x h) [
+      elim (last_or_below n x h) [
         | inl e ↦ rw (e, here.1) (new_value test runs n here.0 here.2 (runs_over-in_range n track (λ y l. covered y (omega arith))) refl)
         | inr e ↦ rw here.1 (old_value test runs n here.0 x e ∙ value_at-runs_over n track (λ y l. covered y (omega arith)) x e)
       ]

@@ -6,8 +6,9 @@ use Rattle.rbc_model.specs.Levels.{Levels}
 use Rattle.rbc_model.specs.Messages.{width_of}
 use Rattle.rbc_model.specs.Readers.{answer, rest_of_reading, field}
 use Rattle.rbc_model.proofs.BitLemmas.{field-read}
+use Rattle.rbc_model.proofs.SpellingLemmas.{go_on}
 use Rattle.rbc_packet.specs.Layouts.{Layout, elements_at, steps_at}
-use Rattle.rbc_packet.proofs.ReadingLemmas.{reads_ok, reads_fault}
+use Rattle.rbc_packet.proofs.ReadingLemmas.{reads_fault}
 use Rattle.rbc_packet.proofs.EndLemmas.{farther}
 use Rattle.rbc_packet.proofs.RisingLemmas.{HaveRisen, first_risen, step_risen}
 
@@ -41,7 +42,7 @@ module _ {V : Type 0} (layout : Layout V) (levels : Levels V) (unit end : ℕ) w
   one_element : (from n distance : ℕ) (value : V) (bits mid later : List Bool) → field layout.distance (nat_le 1) bits ≡ Ok (distance, mid) → layout.value_at mid ≡ Ok (value, later)
       → elements_at layout unit end from (suc n) bits ≡ in_front ((unit * (from + distance), value) ∷ []) (elements_at layout unit end (from + distance) n later)
   one_element from n distance value bits mid later far told =
-      reads_ok _ far (reads_ok _ told (one_in_front (unit * (from + distance), value) (elements_at layout unit end (from + distance) n later)))
+      go_on _ far (go_on _ told (one_in_front (unit * (from + distance), value) (elements_at layout unit end (from + distance) n later)))
 
   one_left : (count index : ℕ) → index < count → count - index ≡ suc (count - (index + 1))
   one_left count index h = omega arith
@@ -75,4 +76,4 @@ module _ {V : Type 0} (layout : Layout V) (levels : Levels V) (unit end : ℕ) w
       → field layout.distance (nat_le 1) bits ≡ Ok (distance, mid) → layout.value_at mid ≡ Err fault
       → AreRead first count index from all bits steps → steps_at layout unit end first (count - 1) all ≡ Err fault
   no_value first count index from distance all bits mid steps fault more far told so_far =
-      so_far.reads ∙ ap (λ k. in_front steps (elements_at layout unit end from k bits)) (one_left count index more) ∙ ap (in_front steps) (reads_ok _ far (reads_fault _ told))
+      so_far.reads ∙ ap (λ k. in_front steps (elements_at layout unit end from k bits)) (one_left count index more) ∙ ap (in_front steps) (go_on _ far (reads_fault _ told))

@@ -1,5 +1,5 @@
 -- The packet that tells where an authority ends, and how far its steps lie apart.
-use Rattle.std.proofs.Common.{◌≡◌, ℕ, ◌+◌, ◌-◌, ◌*◌, ◌/◌, ◌^◌, ◌<◌, ◌≤◌, ◌⊎◌, inl, inr, Bool, true, false, List, [], ◌∷◌, All, arith, subst, sym, lit<}
+use Rattle.std.proofs.Common.{◌≡◌, ℕ, ◌+◌, ◌-◌, ◌*◌, ◌/◌, ◌^◌, ◌<◌, ◌≤◌, ◌⊎◌, inl, inr, Bool, true, List, [], ◌∷◌, All, arith, subst, sym, lit<}
 use Rattle.std.proofs.lemmas.List.Elements.{All-from_recursion}
 use Rattle.rbc_model.specs.declared.limits.TheConstants.{AUTHORITY_PACKET, AUTHORITY_BITS, NO_TIME_OUT}
 use Rattle.rbc_model.specs.declared.places.Format.TheVariants.{Far}
@@ -9,6 +9,7 @@ use Rattle.rbc_model.specs.Messages.{width_of, direction_of}
 use Rattle.rbc_model.specs.Scales.{is_expressible, unit_of, scale_of}
 use Rattle.rbc_model.proofs.FrameLemmas.{frame_of_end}
 use Rattle.rbc_model.proofs.ScaleLemmas.{one_or_ten}
+use Rattle.rbc_model.proofs.MessageWrittenLemmas.{direction_fits}
 
 -- the packet of this direction and scale, of an end after `count` units
 abbrev pub end_packet : ℕ → ℕ → ℕ → List (FieldName × ℕ)
@@ -31,10 +32,6 @@ end_packet direction scale count =
 abbrev pub Fits : FieldName × ℕ → Type 0
 Fits field = field.1 < 2 ^ width_of field.0
 
-direction_below : (nominal : Bool) → direction_of nominal < 2 ^ 2
-direction_below true = lit< tt
-direction_below false = lit< tt
-
 end_packet-fits : (direction scale count : ℕ) → direction < 2 ^ 2 → scale < 2 ^ 2 → count < 2 ^ 15 → All Fits (end_packet direction scale count)
 end_packet-fits direction scale count way kind low =
     let small : 0 < 2 = lit< tt in
@@ -46,7 +43,7 @@ pub packet_15-fits : (nominal : Bool) (end direction scale unit : ℕ) → is_ex
 packet_15-fits nominal end direction scale unit e way kind counted =
     let frame = frame_of_end Far end e in
     end_packet-fits direction scale (end / unit)
-    (subst (λ n. n < 2 ^ 2) (sym way) (direction_below nominal))
+    (subst (λ n. n < 2 ^ 2) (sym way) (direction_fits nominal))
     (subst (λ n. n < 2 ^ 2) (sym kind) frame.scale_fits)
     (subst (λ n. end / n < 2 ^ 15) (sym counted) frame.count_fits)
 

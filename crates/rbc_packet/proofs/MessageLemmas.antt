@@ -1,18 +1,19 @@
 -- The parts that were read of a message make its authority.
-use Rattle.std.proofs.Common.{◌≡◌, ℕ, ℤ, ◌*◌, ◌/◌, Bool, true, false, ◌==◌, List, [], length, Option, Some, Result, Ok, refl, sym, ap, ap₂, ◌∙◌, subst}
+use Rattle.std.proofs.Common.{◌≡◌, ℕ, ℤ, ◌*◌, ◌/◌, Bool, true, List, [], length, Option, Some, Result, Ok, sym, ap, ap₂, ◌∙◌, subst}
 use Rattle.rbc_model.specs.declared.messages.Fault.{Fault}
 use Rattle.rbc_model.specs.declared.places.Format.TheVariants.{Far}
 use Rattle.rbc_model.specs.Bits.{byte_bits}
 use Rattle.rbc_model.specs.Levels.{Levels, speed_levels, grade_levels}
-use Rattle.rbc_model.specs.Messages.{Authority, is_writable, authority_of, direction_of}
+use Rattle.rbc_model.specs.Messages.{Authority, is_writable, authority_of}
 use Rattle.rbc_model.specs.Profiles.{StepFunction, IsProfile}
 use Rattle.rbc_model.specs.Reading.{header_at, packet_15_at, packet_21_at, packet_27_at, filling_at, value_of, read_message}
 use Rattle.rbc_model.specs.Scales.{is_expressible, unit_of, scale_of, unit_of_scale}
 use Rattle.rbc_model.proofs.FrameLemmas.{frame_of_end}
 use Rattle.rbc_model.proofs.MessageReadLemmas.{packet_15-read, packet_21-read, packet_27-read}
 use Rattle.rbc_model.proofs.ScaleLemmas.{writable, makes_authority}
+use Rattle.rbc_model.proofs.RoundTripLemmas.{nominal_said}
+use Rattle.rbc_model.proofs.SpellingLemmas.{go_on}
 use Rattle.rbc_packet.proofs.PacketLemmas.{unit_said}
-use Rattle.rbc_packet.proofs.ReadingLemmas.{reads_ok}
 use Rattle.rbc_packet.specs.Authorities.{authority_with}
 use Rattle.rbc_packet.specs.Frames.{header_view, frame_view}
 use Rattle.rbc_packet.specs.declared.header.Header.{Header as TrainHeader}
@@ -21,10 +22,6 @@ use Rattle.rbc_packet.specs.declared.packet_15.Frame.{Frame as TrainFrame}
 -- the end in metres is told by its scale and count
 end_told : (end : ℕ) → is_expressible Far end ≡ true → unit_of_scale (scale_of end) * (end / unit_of end) ≡ end
 end_told end far = ap (λ u. u * (end / unit_of end)) (unit_said end) ∙ (frame_of_end Far end far).end_is
-
-nominal_told : (nominal : Bool) → (direction_of nominal == 1) ≡ nominal
-nominal_told true = refl
-nominal_told false = refl
 
 -- a profile that ends at a metre that a message can give, with steps in units of it, is one that the message can give
 writable_to : {V : Type 0} (levels : Levels V) (end told : ℕ) (profile : StepFunction V) → is_expressible Far end ≡ true → profile.end ≡ end → told ≡ end
@@ -61,9 +58,9 @@ module _ (header : TrainHeader) (frame : TrainFrame) (speeds : StepFunction ℕ)
   pub message_tells : (message : List ℕ) (b₁ b₂ b₃ b₄ : List Bool) → AreRead (byte_bits message) b₁ b₂ b₃ b₄ (length message)
       → read_message Far message ≡ Ok (authority_with header.time header.group frame.nominal speeds grades)
   message_tells message b₁ b₂ b₃ b₄ are =
-      ap value_of (reads_ok _ are.header_read (reads_ok _ are.frame_read (reads_ok _ are.grades_read (reads_ok _ are.speeds_read (reads_ok _ are.filling_read
+      ap value_of (go_on _ are.header_read (go_on _ are.frame_read (go_on _ are.grades_read (go_on _ are.speeds_read (go_on _ are.filling_read
       (ap₂ (λ (nominal : Bool) (end : ℕ). Ok (record { time = header.time; group = header.group; nominal = nominal; end = end; speeds = speeds.steps; grades = grades.steps }, []))
-      (nominal_told frame.nominal) (end_told frame.end are.far ∙ sym are.speeds_end)))))))
+      (nominal_said frame.nominal) (end_told frame.end are.far ∙ sym are.speeds_end)))))))
 
   -- so what is made of them is what the message tells
   pub tells_made : (message : List ℕ) (b₁ b₂ b₃ b₄ : List Bool) (made : Option Authority) (authority : Authority) → AreRead (byte_bits message) b₁ b₂ b₃ b₄ (length message)

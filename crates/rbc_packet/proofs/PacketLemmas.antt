@@ -9,7 +9,7 @@ use Rattle.rbc_model.specs.Profiles.{StepFunction}
 use Rattle.rbc_model.specs.Readers.{Reader, answer, rest_of_reading, expect, field, any_field, fixed_field}
 use Rattle.rbc_model.specs.Reading.{Frame, gradient_elements_at, speed_elements_at, packet_21_at, packet_27_at}
 use Rattle.rbc_model.specs.Scales.{unit_of, scale_of, unit_of_scale}
-use Rattle.rbc_packet.proofs.ReadingLemmas.{reads_ok}
+use Rattle.rbc_model.proofs.SpellingLemmas.{go_on}
 use Rattle.rbc_packet.specs.Layouts.{Layout, elements_at, steps_at, profile_by, profile_at, ReadsProfile, gradient_layout, speed_layout}
 
 -- what begins alike and goes on alike is one
@@ -28,7 +28,7 @@ pub read_on : {V : Type 0} (all later : Reader (List (ℕ × V))) (end : ℕ) (o
 read_on all later end old mid new (Ok profile) same read = (same ∙ read.0, read.1)
 read_on all later end old mid new (Err fault) same read = same ∙ read
 
-pred-is : (n : ℕ) → pred n ≡ n - 1
+pub pred-is : (n : ℕ) → pred n ≡ n - 1
 pred-is zero = refl
 pred-is (suc n) = omega arith
 
@@ -44,7 +44,7 @@ pub read_head : {V : Type 0} (layout : Layout V) (direction end packet way said 
     → expect (said == layout.bits count) Length later ≡ Ok (tt, later)
     → profile_at layout direction end all ≡ steps_at layout (unit_of end) (end / unit_of end) first (count - 1) later
 read_head layout direction end packet way said scale start first count all b₁ b₂ b₃ b₄ b₅ b₆ later e₁ e₂ e₃ e₄ e₅ e₆ e₇ e₈ =
-    reads_ok _ e₁ (reads_ok _ e₂ (reads_ok _ e₃ (reads_ok _ e₄ (reads_ok _ e₅ (reads_ok _ e₆ (reads_ok _ e₇ (reads_ok _ e₈ (ap (λ n. steps_at layout (unit_of end) (end / unit_of end) first n later) (pred-is count)))))))))
+    go_on _ e₁ (go_on _ e₂ (go_on _ e₃ (go_on _ e₄ (go_on _ e₅ (go_on _ e₆ (go_on _ e₇ (go_on _ e₈ (ap (λ n. steps_at layout (unit_of end) (end / unit_of end) first n later) (pred-is count)))))))))
 
 module _ {V : Type 0} (layout : Layout V) (unit end : ℕ) (elements : ℕ → ℕ → Reader (List (ℕ × V))) where
   -- how elements with distances in units go on

@@ -1,11 +1,7 @@
 -- Readers one after another.
-use Rattle.std.proofs.Common.{◌≡◌, List, Bool, Result, Ok, Err, ap, ◌∙◌}
+use Rattle.std.proofs.Common.{◌≡◌, List, Bool, Result, Err, ap}
 use Rattle.rbc_model.specs.declared.messages.Fault.{Fault}
 use Rattle.rbc_model.specs.Readers.{Reader, rest_of_reading}
-
--- the first one's value and the bits after it go on to the next
-pub reads_ok : {A B : Type 0} {t : Result (A × List Bool) Fault} (next : A → Reader B) {x : A} {mid : List Bool} {z : Result (B × List Bool) Fault} → t ≡ Ok (x, mid) → next x mid ≡ z → rest_of_reading t next ≡ z
-reads_ok next e later = ap (λ u. rest_of_reading u next) e ∙ later
 
 -- the first one's fault is the fault of all
 pub reads_fault : {A B : Type 0} {t : Result (A × List Bool) Fault} (next : A → Reader B) {fault : Fault} → t ≡ Err fault → rest_of_reading t next ≡ Err fault

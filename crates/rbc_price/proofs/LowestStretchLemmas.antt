@@ -3,6 +3,7 @@ use Rattle.std.proofs.Common.{◌≡◌, refl, sym, ◌∙◌, arith, ℕ, zero,
 use Rattle.rbc_model.specs.Levels.{Levels, IsLawful}
 use Rattle.rbc_model.specs.Profiles.{StepFunction, IsTrackFunction}
 use Rattle.rbc_model.specs.Scales.{unit_of}
+use Rattle.rbc_model.proofs.CountingLemmas.{last_or_below}
 use Rattle.rbc_table_laws.proofs.LeastLemmas.{other_lower}
 use Rattle.rbc_price.specs.Columns.{stretches_of}
 use Rattle.rbc_price.specs.Costs.{IsLowestStretch, is_stretch_at_most, stretch_value}
@@ -33,9 +34,6 @@ module _ {V : Type 0} (levels : Levels V) (lawful : IsLawful levels) (track : St
   before_at_behind : (i k : ℕ) → (i < k) ⊎ ((i ≡ k) ⊎ (k < i))
   before_at_behind i k = grind arith
 
-  last_or_before : (i k : ℕ) → i < suc k → (i ≡ k) ⊎ (i < k)
-  last_or_before i k h = grind arith
-
   with_last : (from to lowest : ℕ) (test : Bool) → is_stretch_at_most levels track to lowest ≡ test → to < stretches_of track → IsLowestStretch levels track from to lowest
       → (next : ℕ) × IsLowestStretch levels track from (suc to) next
   with_last from to lowest true e h l =
@@ -61,7 +59,7 @@ module _ {V : Type 0} (levels : Levels V) (lawful : IsLawful levels) (track : St
           low = l.low;
           high = omega arith;
           before = l.before;
-          behind = λ i after before. elim (last_or_before i to before) [ inl same ↦ rw same e | inr less ↦ l.behind i after less ];
+          behind = λ i after before. elim (last_or_below to i before) [ inl same ↦ rw same e | inr less ↦ l.behind i after less ];
         },
       )
 

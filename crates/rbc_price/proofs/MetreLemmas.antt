@@ -1,5 +1,6 @@
 -- A walk over a track and a profile, and the first metre at which the profile is above.
-use Rattle.std.proofs.Common.{◌≡◌, refl, ◌∙◌, arith, ℕ, ◌<◌, ◌≤◌, ◌⊎◌, inl, inr, true, List, get_or, Option, Some, None}
+use Rattle.std.proofs.Common.{◌≡◌, refl, ◌∙◌, arith, ℕ, ◌<◌, ◌≤◌, inl, inr, true, List, get_or, Option, Some, None}
+use Rattle.std.proofs.lemmas.Bool.{cases_lt}
 use Rattle.rbc_model.specs.declared.prices.Reason.TheVariants.{Above}
 use Rattle.rbc_model.specs.Levels.{Levels}
 use Rattle.rbc_model.specs.Profiles.{StepFunction, value_at, is_within}
@@ -17,14 +18,11 @@ module _ {V : Type 0} (levels : Levels V) where
   pub within_is : (o p : Option V) (track given : V) → o ≡ Some track → p ≡ Some given → is_within levels o p ≡ levels.at_most given track
   within_is o p track given e f = rw (e, f) refl
 
-  before_or_on : (x from : ℕ) → (x < from) ⊎ (from ≤ x)
-  before_or_on x from = grind arith
-
   -- a stretch further
   pub within_on : (runs steps : List (ℕ × V)) (from to : ℕ) (track given : V) → AreWithin levels runs steps from
       → ((y : ℕ) → from ≤ y → y < to → value_at runs y ≡ Some track) → ((y : ℕ) → from ≤ y → y < to → value_at steps y ≡ Some given)
       → levels.at_most given track ≡ true → AreWithin levels runs steps to
-  within_on runs steps from to track given before r s h = λ x below. elim (before_or_on x from) [
+  within_on runs steps from to track given before r s h = λ x below. elim (cases_lt x from) [
     | inl early ↦ before x early
     | inr late ↦ within_is (value_at runs x) (value_at steps x) track given (r x late below) (s x late below) ∙ h
   ]

@@ -2,13 +2,13 @@
 use Rattle.std.proofs.Common.{◌≡◌, ℕ, ◌+◌, ◌-◌, ◌<◌, ◌≤◌, max, Bool, true, false, ◌&&◌, [], ◌∷◌, Option, Some, None, refl, ap, sym, subst, ◌∙◌, arith, ◌⊎◌, inl, inr, nat_lt, nat_le}
 use Rattle.std.specs.Prelude.{if◌then◌else◌}
 use Rattle.std.specs.Option.{option_or}
-use Rattle.std.proofs.lemmas.Bool.{ltb-true, lt-ltb, false_from_ne_true}
+use Rattle.std.proofs.lemmas.Bool.{ltb-true, lt-ltb, false_from_ne_true, both_ways}
 use Rattle.rbc_model.specs.declared.places.Leg.{Leg}
 use Rattle.rbc_model.specs.Tracks.{Track, metres_of}
 use Rattle.rbc_model.specs.Lines.{Line, line_length}
 use Rattle.rbc_model.proofs.ScanLemmas.{le_or_lt}
 use Rattle.rbc_reach_laws.specs.Spans.{lies_in, first_in, first_by}
-use Rattle.rbc_reach_laws.proofs.BasicLemmas.{clash, below, is_below}
+use Rattle.rbc_reach_laws.proofs.BasicLemmas.{below, is_below}
 use Rattle.rbc_reach_laws.proofs.FirstLemmas.{IsFirstFrom, IsFound, IsFound-same, IsFound-then}
 use Rattle.rbc_model.proofs.BasicLemmas.{if_in, if_past}
 use Rattle.rbc_model.proofs.MetreLemmas.{line_length-cons}
@@ -66,7 +66,7 @@ IsFound-first_in start p m (a, b) h = by_order (nat_lt (max start (p + a)) (p + 
       where
         past : (p + b ≤ max start (p + a)) ⊎ (max start (p + a) < p + b) → p + b ≤ max start (p + a)
         past (inl k) = k
-        past (inr k) = absurd (clash (nat_lt (max start (p + a)) (p + b)) (lt-ltb (max start (p + a)) (p + b) k) e)
+        past (inr k) = absurd (both_ways (nat_lt (max start (p + a)) (p + b)) e (lt-ltb (max start (p + a)) (p + b) k))
 
 -- ---- the spans of all legs
 

@@ -3,10 +3,9 @@ use Rattle.std.specs.List.{range_with_len, list_any, find}
 use Rattle.std.proofs.Common.{◌≡◌, ℕ, ◌-◌, ◌<◌, ◌≤◌, min, max, Bool, true, false, ◌||◌, List, [], ◌∷◌, Option, Some, None, refl, sym, subst, ◌∙◌, arith, ◌⊎◌, inl, inr, nat_lt}
 use Rattle.std.specs.Prelude.{not, unwrap_or, fold, if◌then◌else◌}
 use Rattle.std.specs.Option.{option_or}
-use Rattle.std.proofs.lemmas.Bool.{ltb-true, lt-ltb, or_from, or_left, or_right}
+use Rattle.std.proofs.lemmas.Bool.{ltb-true, lt-ltb, or_from, or_left, or_right, both_ways}
 use Rattle.rbc_model.proofs.ScanLemmas.{first_blocked, le_or_lt, find-numbers, find-numbers_none}
 use Rattle.rbc_reach_laws.specs.Nearest.{nearer}
-use Rattle.rbc_reach_laws.proofs.BasicLemmas.{clash}
 use Rattle.std.proofs.Math.Bool.{or-false}
 
 -- i is the first number from low up to high that passes
@@ -32,7 +31,7 @@ pub record IsNearest (test : ℕ → Bool) (a b i : ℕ) : Type 0 where
 nearer_one : (test : ℕ → Bool) (low end a b : ℕ) → IsNearest test low end a → IsNearest test low end b → a < b → ⊥
 nearer_one test low end a b x y h =
     let z = y.le in
-    clash (test a) (x.passes (omega arith)) (y.before a (x.low (omega arith)) h)
+    both_ways (test a) (y.before a (x.low (omega arith)) h) (x.passes (omega arith))
 
 pub IsNearest-unique : (test : ℕ → Bool) (low end a b : ℕ) → IsNearest test low end a → IsNearest test low end b → a ≡ b
 IsNearest-unique test low end a b x y = by_order (le_or_lt a b) (le_or_lt b a)
@@ -119,7 +118,7 @@ IsNearest-then test low mid next end a b far e f g = by_test (nat_lt a mid) refl
       where
         past_end : (mid ≤ a) ⊎ (a < mid) → nat_lt a mid ≡ false → mid ≤ a
         past_end (inl k) h = k
-        past_end (inr k) h = absurd (clash (nat_lt a mid) (lt-ltb a mid k) h)
+        past_end (inr k) h = absurd (both_ways (nat_lt a mid) h (lt-ltb a mid k))
 
 -- ---- one test beside the other
 

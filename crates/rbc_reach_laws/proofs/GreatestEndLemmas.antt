@@ -2,7 +2,7 @@
 use Rattle.std.specs.List.{range_with_len, filter}
 use Rattle.std.proofs.Common.{◌≡◌, ℕ, ◌+◌, ◌-◌, ◌*◌, ◌/◌, ◌%◌, ◌<◌, ◌≤◌, ◌↔◌, min, max, Bool, true, false, ◌&&◌, Option, Some, None, refl, ap, sym, subst, ◌∙◌, arith, ◌⊎◌, inl, inr, nat_lt, nat_le, ◌==◌}
 use Rattle.std.specs.Prelude.{if◌then◌else◌}
-use Rattle.std.proofs.lemmas.Bool.{leb-true, ltb-true, lt-ltb, le-leb, eqb-true, eq-eqb, or_cases, and_from, false_from_ne_true, or_right}
+use Rattle.std.proofs.lemmas.Bool.{leb-true, ltb-true, lt-ltb, le-leb, eqb-true, eq-eqb, or_cases, and_from, false_from_ne_true, or_right, both_ways}
 use Rattle.rbc_model.specs.declared.places.Format.{Format}
 use Rattle.rbc_model.specs.declared.places.Format.TheVariants.{Near, Far}
 use Rattle.rbc_model.specs.Results.{is_from_to}
@@ -14,7 +14,7 @@ use Rattle.rbc_model.specs.Views.{reach, last_of, is_expressible_end, greatest_e
 use Rattle.rbc_model.proofs.ScanLemmas.{IsLast, filter-numbers, filter-numbers_none, le_or_lt}
 use Rattle.rbc_reach_laws.specs.Laws.{IsGreatestUpTo}
 use Rattle.rbc_reach_laws.specs.Nearest.{greatest_up_to, nearest_end, is_ahead, greatest_end_by}
-use Rattle.rbc_reach_laws.proofs.BasicLemmas.{and_left, and_right, clash}
+use Rattle.rbc_reach_laws.proofs.BasicLemmas.{and_left, and_right}
 use Rattle.rbc_model.proofs.BasicLemmas.{if_true, if_false}
 use Rattle.rbc_model.proofs.FrameLemmas.{limits_of}
 use Rattle.rbc_model.proofs.SpellingLemmas.{within}
@@ -150,7 +150,7 @@ module _ (track : Track) (train : Train) where
         by_order beyond below (inr h) =
             let inside = last_inside (omega arith) in
             let low = l.low in
-            absurd (clash (test last) (last_passes (omega arith)) (l.behind last h (omega arith)))
+            absurd (both_ways (test last) (l.behind last h (omega arith)) (last_passes (omega arith)))
 
     by_last : (o : Option ℕ) → last_of (filter test (range_with_len (max (train.front + 1) train.to) (r + 1 - max (train.front + 1) train.to))) ≡ o → o ≡ greatest_end_by track.format train r
     by_last (Some i) h =
@@ -164,8 +164,8 @@ module _ (track : Track) (train : Train) where
         let to = x.1 in
         let origin = x.2 in
         let inside = last_inside origin in
-        clash (test last) (last_passes origin)
-        (filter-numbers_none test (max (train.front + 1) train.to) (r + 1 - max (train.front + 1) train.to) h last (omega arith) (omega arith)))))
+        both_ways (test last) (filter-numbers_none test (max (train.front + 1) train.to) (r + 1 - max (train.front + 1) train.to) h last (omega arith) (omega arith))
+        (last_passes origin))))
 
 -- the greatest end is told by the reach
 pub greatest_end-by_reach : (track : Track) (scene : Scene) (train : Train) → greatest_end track scene train ≡ greatest_end_by track.format train (reach track scene train)
@@ -183,8 +183,8 @@ module _ (track : Track) (scene : Scene) (train : Train) where
 
   none_there : greatest_end track scene train ≡ None → NoEndIs
   none_there h end front to inside said =
-      clash (is_expressible_end track train end) said
-      (filter-numbers_none (is_expressible_end track train) (max (train.front + 1) train.to) (reach track scene train + 1 - max (train.front + 1) train.to) h end (omega arith) (omega arith))
+      both_ways (is_expressible_end track train end) (filter-numbers_none (is_expressible_end track train) (max (train.front + 1) train.to) (reach track scene train + 1 - max (train.front + 1) train.to) h end (omega arith) (omega arith))
+      said
 
   none_found : NoEndIs → greatest_end track scene train ≡ None
   none_found none = elim (some_or_none (greatest_end track scene train)) [

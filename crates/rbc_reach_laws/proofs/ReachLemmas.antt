@@ -3,7 +3,7 @@ use Rattle.std.specs.List.{list_any, find}
 use Rattle.std.proofs.Common.{◌≡◌, ℕ, ◌+◌, ◌<◌, max, Bool, true, false, ◌&&◌, ◌||◌, cond, List, [], ◌∷◌, Option, Some, None, refl, ap, ap₂, sym, subst, ◌∙◌, arith, nat_le}
 use Rattle.std.specs.Prelude.{not, is_some, is_none, ◌==◌, if◌then◌else◌, option_map, option_and_then}
 use Rattle.std.specs.Option.{option_map_or}
-use Rattle.std.proofs.lemmas.Bool.{leb-true, le-leb, eqb-true, false_from_ne_true}
+use Rattle.std.proofs.lemmas.Bool.{leb-true, le-leb, eqb-true, false_from_ne_true, both_ways}
 use Rattle.rbc_model.specs.declared.places.Leg.{Leg}
 use Rattle.rbc_model.specs.declared.places.Metre.{Metre}
 use Rattle.rbc_model.specs.declared.refusals.Obstacle.{Obstacle}
@@ -18,7 +18,6 @@ use Rattle.rbc_model.specs.Obstacles.{first_some, no_link, not_locked, own, occu
 use Rattle.rbc_model.specs.Views.{start_of, way_end, reach}
 use Rattle.rbc_reach_laws.specs.Spans.{first_occupied_by, first_held_by, first_unlocked}
 use Rattle.rbc_reach_laws.specs.Nearest.{nearer, first_limit, reach_by_legs}
-use Rattle.rbc_reach_laws.proofs.BasicLemmas.{clash}
 use Rattle.rbc_reach_laws.proofs.FirstLemmas.{IsFirstFrom, IsFound, IsNearest, IsNearest-unique, IsNearest-same, IsNearest-nothing, IsNearest-nearer, IsNearest-each, IsNearest-first_blocked}
 use Rattle.rbc_reach_laws.proofs.PlaceLemmas.{extent_at, authority_at, IsFound-first_occupied_by, IsFound-first_held_by, IsFound-first_unlocked}
 use Rattle.rbc_model.proofs.BasicLemmas.{same_number}
@@ -137,7 +136,7 @@ module _ (track : Track) (scene : Scene) (train : Train) where
       }
       by_test place false h = record {
         some = λ i e. absurd (let bad : ⊥ = cc in bad);
-        none = λ e j l u. false_from_ne_true (j == place) (λ p. clash (nat_le from place) (le-leb from place (let q = eqb-true j place p in omega arith)) h);
+        none = λ e j l u. false_from_ne_true (j == place) (λ p. both_ways (nat_le from place) h (le-leb from place (let q = eqb-true j place p in omega arith)));
       }
 
   -- ---- Law 2: the reach

@@ -8,11 +8,8 @@ use Rattle.rbc_model.specs.Profiles.{runs_over, with_run}
 use Rattle.rbc_model.specs.Tracks.{Track, metres_of, metre_of_leg}
 use Rattle.rbc_model.specs.Lines.{Line, at_place, line_length, legs_begun_before, metre_speed, metre_grade, met, speeds_from, grades_from, speeds, grades}
 use Rattle.rbc_model.proofs.ScanLemmas.{le_or_lt}
-use Rattle.rbc_model.proofs.BasicLemmas.{if_in, if_past}
+use Rattle.rbc_model.proofs.BasicLemmas.{if_in, if_past, take_one_more}
 use Rattle.rbc_model.proofs.MetreLemmas.{line_length-cons}
-
-take_one_more : (leg : Leg) (k : ℕ) (line : Line) → take (1 + k) (leg ∷ line) ≡ leg ∷ take k line
-take_one_more leg k line = ap (λ j. take j (leg ∷ line)) (let e : 1 + k ≡ suc k = omega arith in e)
 
 none_begun : (track : Track) (line : Line) → take (legs_begun_before track 0 line) line ≡ []
 none_begun track [] = refl

@@ -1,7 +1,6 @@
 -- The legs that a train is shown lead to the end that it may be granted.
-use Rattle.std.proofs.Common.{◌≡◌, ℕ, ◌+◌, ◌-◌, ◌≤◌, [], ◌∷◌, length, take, drop, Ok, refl, sym, ap, ◌∙◌, subst, suc, arith, inl, inr}
+use Rattle.std.proofs.Common.{◌≡◌, ℕ, ◌+◌, ◌-◌, ◌≤◌, [], ◌∷◌, length, take, drop, Ok, refl, sym, ap, ◌∙◌, subst, arith, inl, inr}
 use Rattle.std.proofs.lemmas.List.{take_at, take-append-drop}
-use Rattle.rbc_model.specs.declared.places.Leg.{Leg}
 use Rattle.rbc_model.specs.Histories.{Grants}
 use Rattle.rbc_model.specs.Lines.{Line, legs_begun_before, line_length}
 use Rattle.rbc_model.specs.Obstacles.{way}
@@ -15,11 +14,8 @@ use Rattle.rbc_scene_laws.proofs.BasicLemmas.{the_some}
 use Rattle.rbc_grant_laws.specs.Candidates.{IsCandidateOf}
 use Rattle.rbc_grant_laws.proofs.CandidateLemmas.{IsSeen, IsThere, is_seen, is_there, placed_well}
 use Rattle.rbc_grant.specs.Steps.{LeadTo}
-use Rattle.rbc_model.proofs.BasicLemmas.{if_in}
+use Rattle.rbc_model.proofs.BasicLemmas.{if_in, take_one_more}
 use Rattle.rbc_model.proofs.MetreLemmas.{line_length-cons}
-
-take_one_more : (leg : Leg) (k : ℕ) (line : Line) → take (1 + k) (leg ∷ line) ≡ leg ∷ take k line
-take_one_more leg k line = ap (λ j. take j (leg ∷ line)) (let e : 1 + k ≡ suc k = omega arith in e)
 
 -- the legs of a line that begin before a place of it have each metre before the place
 reach_it : (track : Track) (line : Line) (to : ℕ) → to ≤ line_length track line → to ≤ line_length track (take (legs_begun_before track to line) line)

@@ -1,5 +1,5 @@
 -- Steps that fit make a profile.
-use Rattle.std.proofs.Common.{◌≡◌, refl, ap, ◌∙◌, arith, ℕ, ◌≤◌, Bool, true, ◌&&◌, List, [], ◌∷◌, None, Result, Ok, Err, length, nat_le, nat_lt}
+use Rattle.std.proofs.Common.{◌≡◌, refl, ap, ◌∙◌, arith, ℕ, ◌≤◌, Bool, true, ◌&&◌, List, [], ◌∷◌, None, Result, Ok, length, nat_le, nat_lt}
 use Rattle.std.specs.List.{list_all}
 use Rattle.std.proofs.lemmas.Bool.{le-leb, and_from}
 use Rattle.rbc_model.specs.declared.functions.ProfileFault.{ProfileFault}
@@ -38,7 +38,3 @@ pub made_is : {V : Type 0} (p : StepFunction V) (steps : List (ℕ × V)) (end :
 made_is p steps end made is_p is_made =
     let same : p ≡ record { steps = steps; end = end } = cc in
     (ap (λ q. q.steps) same, ap (λ q. q.end) same)
-
-pub made_ok : {V : Type 0} (fault : ProfileFault) (steps : List (ℕ × V)) (end : ℕ) (made : Result (StepFunction V) ProfileFault)
-    → made ≡ Err fault → made ≡ Ok (record { steps = steps; end = end }) → ⊥
-made_ok fault steps end made is_fault is_made = cc

@@ -1,11 +1,13 @@
 -- Tables of prices whose first columns are filled.
-use Rattle.std.proofs.Common.{◌≡◌, refl, ap, sym, ◌∙◌, arith, subst, ℕ, zero, suc, ◌+◌, ◌<◌, ◌≤◌, ◌⊎◌, inl, inr, List, [], ◌∷◌, ◌++◌, length, length-append, get_or, map, set, min, Option, Some, None}
+use Rattle.std.proofs.Common.{◌≡◌, refl, ap, sym, ◌∙◌, arith, subst, ℕ, zero, suc, ◌+◌, ◌<◌, ◌≤◌, inl, inr, List, [], ◌∷◌, ◌++◌, length, length-append, get_or, map, set, min, Option, Some, None}
 use Rattle.std.specs.Prelude.{slice_get}
 use Rattle.std.specs.Option.{option_map_or}
 use Rattle.std.specs.Global.{Vec}
 use Rattle.std.proofs.lemmas.List.{map-id}
+use Rattle.std.proofs.lemmas.Bool.{cases_lt}
 use Rattle.rbc_costs.proofs.TotalLemmas.{last_or_before}
 use Rattle.rbc_reduce.specs.Rows.{AreAlike, AreFilled, IsCheapest, IsColumn, IsColumnMore, price_up_to, row_at, row_in}
+use Rattle.rbc_model.proofs.BasicLemmas.{next_or_at_most}
 
 -- ---- one price more in a row
 
@@ -112,12 +114,9 @@ module _ (cost : ℕ → ℕ → ℕ) (count : ℕ) (row : ℕ → List ℕ) (co
       let low = cheap 0 (suc i) (omega arith) (omega arith) in
       omega arith
 
-  inside_or_behind : (j n : ℕ) → (j < n) ⊎ (n ≤ j)
-  inside_or_behind j n = grind arith
-
   pub small_prices : (j i : ℕ) → get_or (row j) i 0 ≤ most
-  small_prices j i = elim (inside_or_behind j count) [
-    | inl h ↦ elim (inside_or_behind i columns) [
+  small_prices j i = elim (cases_lt j count) [
+    | inl h ↦ elim (cases_lt i columns) [
       | inl inside ↦ small_inside j i h inside
       | inr out ↦ let wide = f.wide j h in let zero = behind_zero (row j) i (omega arith) in omega arith
     ]
@@ -214,10 +213,7 @@ module _ (cost : ℕ → ℕ → ℕ) (count : ℕ) (row : ℕ → List ℕ) (co
 -- from the row `first` on they are all as that one
 pub alike_from : (first count : ℕ) (row : ℕ → List ℕ) → AreAlike (suc first) count row → (j : ℕ) → first ≤ j → j < count → row j ≡ row first
 alike_from first count row alike zero far few = ap row (let e : zero ≡ first = omega arith in e)
-alike_from first count row alike (suc j) far few = elim (reached first j far) [
+alike_from first count row alike (suc j) far few = elim (next_or_at_most first j far) [
   | inl there ↦ ap row (sym there)
   | inr behind ↦ alike j (omega arith) few ∙ alike_from first count row alike j behind (omega arith)
 ]
-  where
-    reached : (first j : ℕ) → first ≤ suc j → (first ≡ suc j) ⊎ (first ≤ j)
-    reached first j h = grind arith

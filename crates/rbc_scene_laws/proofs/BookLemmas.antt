@@ -1,5 +1,5 @@
 -- What keeps authorities apart and locked, change by change, without the other facts of a good scene.
-use Rattle.std.proofs.Common.{◌≡◌, ℕ, ◌<◌, false, arith, ◌⊎◌}
+use Rattle.std.proofs.Common.{◌≡◌, ℕ, false}
 use Rattle.std.specs.Prelude.{◌==◌, not, AllPairs, All}
 use Rattle.std.proofs.lemmas.List.Elements.{recursion_from_All}
 use Rattle.rbc_model.specs.Tracks.{Track}
@@ -39,6 +39,3 @@ AuthoritiesAreApart-without_train track scene number apart =
     AllPairs-from_recursion (Apart track) (without_train scene number).trains (pairs_filter (Apart track) (λ (t : Train). not (t.report.train == number)) scene.trains (recursion_from_AllPairs (Apart track) scene.trains apart))
 
 -- ---- at most one train holds a metre
-
-order_of : (i j : ℕ) → (i < j) ⊎ ((i ≡ j) ⊎ (j < i))
-order_of i j = grind arith

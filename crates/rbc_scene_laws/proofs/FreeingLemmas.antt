@@ -1,5 +1,5 @@
 -- A section that is freed: no train stands on it or holds it, so the scene stays good.
-use Rattle.std.proofs.Common.{◌≡◌, ℕ, zero, suc, ◌+◌, ◌-◌, ◌<◌, ◌≤◌, Bool, true, false, cond, Option, Some, None, Ok, Err, refl, ap, sym, ◌∙◌, subst, arith, ◌⊎◌, inl, inr, length-set}
+use Rattle.std.proofs.Common.{◌≡◌, ℕ, zero, suc, ◌+◌, ◌-◌, ◌<◌, ◌≤◌, Bool, true, false, cond, Option, Some, None, Ok, Err, refl, ap, sym, ◌∙◌, subst, arith, inl, inr, length-set}
 use Rattle.std.specs.Prelude.{is_some, ◌==◌, slice_set, option_map, find}
 use Rattle.std.specs.Result.{result_map_both}
 use Rattle.std.specs.Option.{option_map_or}
@@ -25,6 +25,7 @@ use Rattle.rbc_scene_laws.proofs.TrainListLemmas.{find-none}
 use Rattle.rbc_scene_laws.proofs.AuthorityLemmas.{IsHeldLocked}
 use Rattle.std.proofs.lemmas.Bool.{or_parts, both_ways}
 use Rattle.rbc_model.proofs.BasicLemmas.{same_number}
+use Rattle.rbc_model.proofs.ScanLemmas.{at_or_past}
 
 -- ---- what an accepted one tells
 
@@ -72,9 +73,6 @@ none_of_range test a (suc n) h i low high =
       | inl e ↦ subst (λ k. test k ≡ false) (sym e) ((or_parts (test a) (list_any test (range_with_len (a + 1) n)) h).0)
       | inr past ↦ none_of_range test (a + 1) n ((or_parts (test a) (list_any test (range_with_len (a + 1) n)) h).1) i past (omega arith)
     ]
-  where
-    at_or_past : (a i : ℕ) → a ≤ i → (i ≡ a) ⊎ (a + 1 ≤ i)
-    at_or_past a i low = grind arith
 
 -- the metre where a leg stands
 metre_there : (track : Track) (line : Line) (i : ℕ) (leg : Leg) → leg_at track line i ≡ Some leg → (k : ℕ) × (metre_at track line i ≡ Some (metre_of_leg track leg k))

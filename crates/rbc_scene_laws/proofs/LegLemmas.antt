@@ -1,9 +1,9 @@
 -- One leg of a line: the places of its section's metres, and when an extent or an authority has some of them.
-use Rattle.std.proofs.Common.{◌≡◌, ℕ, zero, suc, ◌+◌, ◌-◌, ◌<◌, ◌≤◌, min, max, Bool, true, false, ◌&&◌, ◌||◌, [], ◌∷◌, ◌++◌, Some, refl, ap, ap₂, sym, ◌∙◌, arith, ◌⊎◌, inl, inr, nat_lt, nat_le}
+use Rattle.std.proofs.Common.{◌≡◌, ℕ, zero, suc, ◌+◌, ◌-◌, ◌<◌, ◌≤◌, min, max, Bool, false, ◌&&◌, ◌||◌, [], ◌∷◌, ◌++◌, Some, refl, ap, ap₂, sym, ◌∙◌, arith, ◌⊎◌, inl, inr, nat_lt, nat_le}
 use Rattle.std.specs.Prelude.{◌==◌}
 use Rattle.std.specs.Option.{option_map_or}
 use Rattle.std.specs.List.{list_any, range_with_len}
-use Rattle.std.proofs.lemmas.Bool.{leb-true, ltb-true, lt-ltb, le-leb, le-ltb, lt-leb, and_from, cases_Bool, or_parts, or_from, or_left, both_ways}
+use Rattle.std.proofs.lemmas.Bool.{leb-true, ltb-true, lt-ltb, le-leb, le-ltb, lt-leb, and_from, cases_Bool, or_parts, or_from, or_left, both_ways, and_left as false_before, and_right as false_behind}
 use Rattle.rbc_model.specs.declared.places.Metre.{Metre}
 use Rattle.rbc_model.specs.declared.places.Leg.{Leg}
 use Rattle.rbc_model.specs.Tracks.{Track, metres_of, metre_of_leg}
@@ -13,7 +13,7 @@ use Rattle.rbc_model.specs.Events.{stands_on}
 use Rattle.rbc_model.proofs.ScanLemmas.{le_or_lt}
 use Rattle.rbc_scene_laws.proofs.BasicLemmas.{and_left, and_right}
 use Rattle.rbc_scene_laws.proofs.SpotLemmas.{at_place-append_left, at_place-append_right}
-use Rattle.rbc_model.proofs.BasicLemmas.{same_number, if_in, if_past}
+use Rattle.rbc_model.proofs.BasicLemmas.{same_number, if_in, if_past, or_second}
 
 -- ---- whether a train stands on a section, by the leg's ends
 
@@ -47,27 +47,20 @@ is_in-leg track a b leg i before behind =
       | inr front ↦
           is_in-by track leg.section (a ++ leg ∷ b) a i i (at_place-append_left (metre_of_leg track) track a (leg ∷ b) i front)
           ∙ is_in-lacks track leg.section a i before
-          ∙ sym (not_first (nat_le n i) (nat_lt i (n + m)) (lt-leb n i front))
+          ∙ sym (false_before (nat_le n i) (nat_lt i (n + m)) (lt-leb n i front))
       | inl on ↦
           is_in-by track leg.section (a ++ leg ∷ b) (leg ∷ b) i (i - n) (at_place-append_right (metre_of_leg track) track a (leg ∷ b) i on)
           ∙ elim (le_or_lt m (i - n)) [
             | inl past ↦
                 is_in-by track leg.section (leg ∷ b) b (i - n) (i - n - m) (if_past (Some (metre_of_leg track leg (i - n))) (metre_at track b (i - n - m)) (i - n) m past)
                 ∙ is_in-lacks track leg.section b (i - n - m) behind
-                ∙ sym (not_second (nat_le n i) (nat_lt i (n + m)) (le-ltb i (n + m) (omega arith)))
+                ∙ sym (false_behind (nat_le n i) (nat_lt i (n + m)) (le-ltb i (n + m) (omega arith)))
             | inr here ↦
                 ap (λ o. option_map_or (λ (metre : Metre). metre.section == leg.section) o false) (if_in (Some (metre_of_leg track leg (i - n))) (metre_at track b (i - n - m)) (i - n) m here)
                 ∙ same_number leg.section
                 ∙ sym (and_from (nat_le n i) (nat_lt i (n + m)) (le-leb n i on) (lt-ltb i (n + m) (omega arith)))
           ]
     ]
-  where
-    not_first : (p q : Bool) → p ≡ false → (p && q) ≡ false
-    not_first p q e = rw e refl
-
-    not_second : (p q : Bool) → q ≡ false → (p && q) ≡ false
-    not_second true q e = e
-    not_second false q e = refl
 
 -- some number of a row passes if the row meets the stretch that passes, and only then
 any_by : (test other : ℕ → Bool) (a n : ℕ) → ((i : ℕ) → test i ≡ other i) → list_any test (range_with_len a n) ≡ list_any other (range_with_len a n)
@@ -84,14 +77,11 @@ any_between low high a (suc n) =
           or_left (nat_le low a && nat_lt a high) (list_any (λ i. nat_le low i && nat_lt i high) (range_with_len (a + 1) n)) e
           ∙ sym (lt-ltb (max a low) (min (a + suc n) high) (omega arith))
       | inr e ↦
-          or_skip (nat_le low a && nat_lt a high) (list_any (λ i. nat_le low i && nat_lt i high) (range_with_len (a + 1) n)) e
+          or_second (nat_le low a && nat_lt a high) (list_any (λ i. nat_le low i && nat_lt i high) (range_with_len (a + 1) n)) e
           ∙ any_between low high (a + 1) n
           ∙ same_test (out low high a e)
     ]
   where
-    or_skip : (p q : Bool) → p ≡ false → (p || q) ≡ q
-    or_skip p q e = rw e refl
-
     out : (low high a : ℕ) → (nat_le low a && nat_lt a high) ≡ false → (a < low) ⊎ (high ≤ a)
     out low high a e = elim (le_or_lt low a) [
       | inl on ↦ elim (le_or_lt high a) [ inl past ↦ inr past | inr here ↦ absurd (both_ways (nat_le low a && nat_lt a high) e (and_from (nat_le low a) (nat_lt a high) (le-leb low a on) (lt-ltb a high here))) ]

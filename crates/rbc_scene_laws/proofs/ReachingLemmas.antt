@@ -1,11 +1,10 @@
 -- How far the legs that a line keeps reach.
 use Rattle.std.proofs.Common.{◌≡◌, ℕ, zero, suc, ◌+◌, ◌-◌, ◌≤◌, [], ◌∷◌, ◌++◌, length, take, ap, ◌∙◌, arith, inl, inr}
 use Rattle.std.proofs.Math.Seq.{take-append-add}
-use Rattle.rbc_model.specs.declared.places.Leg.{Leg}
 use Rattle.rbc_model.specs.Tracks.{Track, metres_of}
 use Rattle.rbc_model.specs.Lines.{Line, line_length, legs_begun_before, legs_ending_by}
 use Rattle.rbc_model.proofs.ScanLemmas.{le_or_lt}
-use Rattle.rbc_model.proofs.BasicLemmas.{if_in, if_past}
+use Rattle.rbc_model.proofs.BasicLemmas.{if_in, if_past, take_one_more}
 use Rattle.rbc_model.proofs.MetreLemmas.{line_length-cons}
 
 -- more legs, more metres
@@ -16,9 +15,6 @@ line_length-take_more track (suc j) (suc k) [] h = omega arith
 line_length-take_more track (suc j) (suc k) (leg ∷ line) h =
     let ih = line_length-take_more track j k line (omega arith) in
     omega (arith, line_length-cons track leg (take j line), line_length-cons track leg (take k line))
-
-take_one_more : (leg : Leg) (k : ℕ) (line : Line) → take (1 + k) (leg ∷ line) ≡ leg ∷ take k line
-take_one_more leg k line = ap (λ j. take j (leg ∷ line)) (let e : 1 + k ≡ suc k = omega arith in e)
 
 -- the legs begun before a place of the line reach it
 pub begun_reach : (track : Track) (i : ℕ) (line : Line) → i ≤ line_length track line → i ≤ line_length track (take (legs_begun_before track i line) line)

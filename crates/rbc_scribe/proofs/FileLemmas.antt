@@ -1,27 +1,22 @@
 -- Lemmas on files whose lines tell entries.
-use Rattle.std.proofs.Common.{◌≡◌, ℕ, zero, suc, ◌≤◌, ◌⊎◌, ⊎_elim, inl, inr, List, [], ◌∷◌, ◌++◌, length, refl, sym, ap, ◌∙◌, subst, arith, length-append, Option, Some, None}
+use Rattle.std.proofs.Common.{◌≡◌, ℕ, zero, suc, ◌≤◌, ◌⊎◌, ⊎_elim, inl, inr, List, [], ◌∷◌, ◌++◌, length, refl, sym, ap, ◌∙◌, subst, arith, length-append, Some}
+use Rattle.std.proofs.lemmas.Option.{none-some, same_Some}
 use Rattle.std.specs.Prelude.{slice_get}
 use Rattle.rbc_journal.specs.Journal.{recovered, IsBeforeOrAfter}
 use Rattle.rbc_scribe.specs.Told.{AreTold, HasLines}
 
 module _ {A : Type 0} where
-  the_same : (a b : A) → (let o : Option A = Some a in o) ≡ Some b → a ≡ b
-  the_same a b e = cc
-
-  none_is_some : (b : A) → (let o : Option A = None in o) ≡ Some b → ⊥
-  none_is_some b e = cc
-
   -- what stands in the front stands in the whole
   pub front_get : (xs ys : List A) (place : ℕ) (x : A) → slice_get xs place ≡ Some x → slice_get (xs ++ ys) place ≡ Some x
-  front_get [] ys place x is = absurd (none_is_some x is)
+  front_get [] ys place x is = absurd (none-some x is)
   front_get (y ∷ xs) ys zero x is = is
   front_get (y ∷ xs) ys (suc place) x is = front_get xs ys place x is
 
   -- what holds of all, place by place, and of one more behind them
   pub by_place : (P : ℕ → A → Type 0) (xs : List A) (last : A) → ((place : ℕ) (x : A) → slice_get xs place ≡ Some x → P place x) → P (length xs) last
       → (place : ℕ) (x : A) → slice_get (xs ++ last ∷ []) place ≡ Some x → P place x
-  by_place P [] last all here zero x is = subst (P 0) (the_same last x is) here
-  by_place P [] last all here (suc place) x is = absurd (none_is_some x is)
+  by_place P [] last all here zero x is = subst (P 0) (same_Some last x is) here
+  by_place P [] last all here (suc place) x is = absurd (none-some x is)
   by_place P (y ∷ xs) last all here zero x is = all 0 x is
   by_place P (y ∷ xs) last all here (suc place) x is = by_place (λ k. P (suc k)) xs last (λ k. all (suc k)) here place x is
 

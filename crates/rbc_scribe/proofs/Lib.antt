@@ -1,5 +1,3 @@
-mod BeginningLemmas
-mod AddingLemmas
 mod MarkLemmas
-mod FileLemmas
+pub mod FileLemmas
 mod PageLemmas

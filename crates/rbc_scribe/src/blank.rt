@@ -14,7 +14,7 @@ pub struct Blank {
 impl Model for Blank {
     ghost use Rattle.std.specs.Prelude.{◌≡◌, []};
     ghost use Rattle.logbook.specs.Pages.{Book};
-    ghost use Rattle.rbc_scribe.specs.Marks.{head_of};
+    ghost use Rattle.rbc_logbook_laws.specs.Counts.{head_of};
 
     ghost Value = { Book };
 

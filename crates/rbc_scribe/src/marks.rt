@@ -2,7 +2,8 @@
 
 ghost use Rattle.std.specs.Prelude.{◌≡◌, ◌+◌, ◌^◌, ◌<◌, ◌++◌, ◌∷◌, [], length, IfSome};
 ghost use mathlib.Core.List.{IsPrefix};
-ghost use Rattle.rbc_scribe.specs.Marks.{head_of, latest};
+ghost use Rattle.rbc_logbook_laws.specs.Counts.{head_of};
+ghost use Rattle.rbc_scribe.specs.Marks.{latest};
 ghost use Rattle.rbc_scribe.specs.Stamps.{stamp_of};
 
 use crate::stamp::{Add, Law, Nothing};
@@ -61,7 +62,7 @@ impl<N: ScribeName> Mark<N> {
     }
 
     /// Goes on to what the other has, if that is not less.
-    #[tactic(auto, using(crate::proofs::BeginningLemmas::prefix_itself))]
+    #[tactic(auto, using(rbc_logbook_laws::proofs::BeginningLemmas::prefix_itself))]
     pub(crate) fn go_on(&mut self, other: Mark<N>)
         ensures stays { IsPrefix self.old self.new }
         ensures heard { IsPrefix other self.new }
@@ -136,7 +137,7 @@ pub(crate) struct Marks<N: ScribeName> {
 
 impl<N: ScribeName> Model for Marks<N> {
     ghost use Rattle.std.specs.Prelude.{◌≡◌, List, length};
-    ghost use Rattle.rbc_scribe.specs.Marks.{head_of};
+    ghost use Rattle.rbc_logbook_laws.specs.Counts.{head_of};
     ghost use Rattle.rbc_scribe.specs.declared.stamp.Stamp.{Stamp};
 
     ghost Value = { List Stamp };

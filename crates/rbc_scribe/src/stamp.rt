@@ -17,7 +17,7 @@ pub struct Law;
 impl Rule<Stamp, u64> for Law {
     ghost use Rattle.std.specs.Prelude.{[]};
     ghost use base.Fml.{ftrue};
-    ghost use Rattle.rbc_scribe.specs.Marks.{IsCounted};
+    ghost use Rattle.rbc_logbook_laws.specs.Counts.{IsCounted};
 
     ghost holds = { λ cells stamps. IsCounted cells stamps };
 
@@ -44,7 +44,7 @@ impl Gain<Stamp, u64> for Nothing {
 pub(crate) struct Add;
 
 impl Play<Stamp, u64> for Add {
-    ghost use Rattle.rbc_scribe.specs.Marks.{Adds};
+    ghost use Rattle.rbc_logbook_laws.specs.Counts.{Adds};
 
     ghost then = { Adds };
 }

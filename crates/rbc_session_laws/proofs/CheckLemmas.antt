@@ -1,9 +1,10 @@
 -- What a check wrote is what the function answers, where memory was not refused.
-use Rattle.std.proofs.Common.{◌≡◌, ℕ, ◌≤◌, Bool, true, false, not, ◌||◌, ◌&&◌, List, [], ◌∷◌, ◌++◌, length, Option, Some, Result, Ok, Err, inl, inr, refl, ap, ap₂, sym, ◌∙◌, subst, append_assoc, append-nil, codes, decimal}
+use Rattle.std.proofs.Common.{◌≡◌, ℕ, ◌≤◌, Bool, not, ◌||◌, List, [], ◌∷◌, ◌++◌, length, Option, Some, Result, Ok, Err, inl, inr, refl, ap, ap₂, sym, ◌∙◌, subst, append_assoc, append-nil, codes, decimal}
 use Rattle.std.specs.List.{AllByRecursion}
 use Rattle.std.proofs.KnownBytes.{Appends-trans}
 use Rattle.std.proofs.lemmas.List.{append_cancel_left}
 use Rattle.std.proofs.lemmas.List.Elements.{recursion_from_All}
+use Rattle.std.proofs.Math.Bool.{not-not}
 use Rattle.rbc_model.specs.declared.limits.TheConstants.{LONGEST_CHECK_LINE}
 use Rattle.rbc_model.specs.declared.places.Format.{Format}
 use Rattle.rbc_model.specs.declared.prices.Reason.{Reason}
@@ -15,6 +16,7 @@ use Rattle.rbc_model.specs.Sessions.{lines_of}
 use Rattle.rbc_model.specs.Talks.{Answered, IsTalk}
 use Rattle.rbc_model.specs.Words.{line_of}
 use Rattle.rbc_model.specs.CheckText.{CheckLine, SpeedHead, GradeHead, ProfileLine, PriceLine, Bad, Other, check_line, opened, ended, speed_of, verdict_of, verdict_text, refusal_text, reason_words, block_text, memory_text, AnswersBlock, Checking, unchecked, LeavesOpen, AnswersCheck, EndsCheck, check_text}
+use Rattle.rbc_model.proofs.BasicLemmas.{or_not-or_not}
 use Rattle.rbc_session_laws.specs.CheckAnswers.{is_not_refused, are_certified, ChecksAreAnswered}
 use Rattle.rbc_session_laws.proofs.TextLemmas.{IsWhole, line_ends, lines_of-whole, IsNotMemory, all_of_both, no_memory_line}
 
@@ -89,12 +91,6 @@ left_open block refused said reply more after (inr (some, memory, same)) whole k
     let behind = (both_kept said (memory_text ++ more) whole (subst IsKept all kept)).1 in
     absurd (no_memory (both_kept memory_text more memory_whole behind).0)
 
--- a block that is refused is so after others too
-not_both : (refused first rest : Bool) → ((refused || not first) || not rest) ≡ (refused || not (first && rest))
-not_both true first rest = refl
-not_both false true rest = refl
-not_both false false rest = refl
-
 -- ---- a whole input
 
 module _ (format : Format) (said : List ℕ) (bad : Bool) where
@@ -118,12 +114,8 @@ module _ (format : Format) (said : List ℕ) (bad : Bool) where
         more.1
             ∙ ap (λ (s : Checking). s.refused || not (are_certified format s.block lines)) left.1
             ∙ ap (λ b. (first.refused || b) || not (are_certified format (opened first.block read) lines)) here.1
-            ∙ not_both first.refused (is_not_refused over) (are_certified format (opened first.block read) lines),
+            ∙ or_not-or_not first.refused (is_not_refused over) (are_certified format (opened first.block read) lines),
       )
-
-not_not : (b : Bool) → not (false || not b) ≡ b
-not_not true = refl
-not_not false = refl
 
 module _ (format : Format) (input old text : List ℕ) (all : Bool) (last : Checking) (between : Option (List ℕ)) (kept : IsKept text) where
   by_outcome : (outcome : Result (Unit {0}) SessionFault) → IsTalk LONGEST_CHECK_LINE (AnswersCheck format) unchecked last input (Some old) between outcome
@@ -136,7 +128,7 @@ module _ (format : Format) (input old text : List ℕ) (all : Bool) (last : Chec
       let short = recursion_from_All (λ line. length line ≤ LONGEST_CHECK_LINE) talk.treated talk.ends.1 in
       let is = answered format said bad unchecked last talk.treated talk.text short talk.answered answers (subst IsKept whole kept) in (
         whole ∙ is.0 ∙ ap (check_text format []) lines,
-        tells ∙ ap not is.1 ∙ not_not (are_certified format [] talk.treated) ∙ ap (are_certified format []) lines,
+        tells ∙ ap not is.1 ∙ not-not (are_certified format [] talk.treated) ∙ ap (are_certified format []) lines,
       )
 
 pub checks_are_answered : ChecksAreAnswered

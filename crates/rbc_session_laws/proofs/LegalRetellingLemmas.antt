@@ -1,10 +1,10 @@
 -- The lines of a legal history lead to its entries, where lines can tell them and each grant has the chosen profiles.
-use Rattle.std.proofs.Common.{◌≡◌, ℕ, zero, suc, ◌+◌, ◌<◌, Bool, true, false, not, ◌||◌, cond, List, [], ◌∷◌, ◌++◌, length, take, Option, Some, None, Result, Ok, Err, refl, ap, sym, ◌∙◌, subst, arith, nat_lt}
+use Rattle.std.proofs.Common.{◌≡◌, ℕ, zero, suc, ◌+◌, ◌<◌, Bool, true, false, not, cond, List, [], ◌∷◌, ◌++◌, length, take, Option, Some, None, Result, Ok, Err, refl, ap, sym, ◌∙◌, subst, arith, nat_lt}
 use Rattle.std.specs.Prelude.{bytes_eq, slice_get, is_ok}
 use Rattle.std.specs.List.{list_any, position, position_or_len}
 use Rattle.std.specs.Option.{option_map_or}
 use Rattle.std.specs.Result.{result_map_both}
-use Rattle.std.proofs.lemmas.Bool.{lt-ltb}
+use Rattle.std.proofs.lemmas.Bool.{lt-ltb, not-true, or_parts}
 use Rattle.std.proofs.lemmas.List.{length-take}
 use Rattle.std.proofs.lemmas.List.Folds.{list_any-append}
 use Rattle.std.proofs.lemmas.Option.{slice_get_within}
@@ -45,14 +45,6 @@ module _ {X : Type 0} (name_of : X → List ℕ) where
     none : list_any (has_name x) earlier ≡ false
     place_is : position_or_len (has_name x) xs ≡ place
 
-  no_of : (b : Bool) → not b ≡ true → b ≡ false
-  no_of true h = cc
-  no_of false h = refl
-
-  neither : (a b : Bool) → (a || b) ≡ false → (a ≡ false) × (b ≡ false)
-  neither true b h = cc
-  neither false b h = (refl, h)
-
   the_item : (a b : X) → (let o : Option X = Some a in o) ≡ Some b → a ≡ b
   the_item a b e = cc
 
@@ -68,12 +60,12 @@ module _ {X : Type 0} (name_of : X → List ℕ) where
       let is = the_item y x here in
       let b = both_of (is_new bytes_eq name_of earlier y) (each_passes (is_new bytes_eq name_of) (earlier ++ y ∷ []) xs) new in
       subst (λ z. IsFirst earlier (y ∷ xs) zero z) is
-      (record { none = no_of (list_any (has_name y) earlier) b.0; place_is = ap (λ m. cond (not m) (1 + position_or_len (has_name y) xs) 0) (same_name y) })
+      (record { none = not-true (list_any (has_name y) earlier) b.0; place_is = ap (λ m. cond (not m) (1 + position_or_len (has_name y) xs) 0) (same_name y) })
   first_named earlier (y ∷ xs) (suc place) x new here =
       let b = both_of (is_new bytes_eq name_of earlier y) (each_passes (is_new bytes_eq name_of) (earlier ++ y ∷ []) xs) new in
       let rest = first_named (earlier ++ y ∷ []) xs place x b.1 here in
-      let n = neither (list_any (has_name x) earlier) (list_any (has_name x) (y ∷ [])) (sym (list_any-append (has_name x) earlier (y ∷ [])) ∙ rest.none) in
-      let other = neither (has_name x y) false n.1 in
+      let n = or_parts (list_any (has_name x) earlier) (list_any (has_name x) (y ∷ [])) (sym (list_any-append (has_name x) earlier (y ∷ [])) ∙ rest.none) in
+      let other = or_parts (has_name x y) false n.1 in
       let next = rest.place_is in
       record { none = n.0; place_is = ap (λ m. cond (not m) (1 + position_or_len (has_name x) xs) 0) other.0 ∙ omega arith }
 

@@ -3,7 +3,7 @@ use Rattle.std.proofs.Common.{◌≡◌, ℕ, ◌<◌, List, length, take, Optio
 use Rattle.std.specs.Prelude.{bytes_eq}
 use Rattle.std.specs.List.{position}
 use Rattle.std.specs.Result.{result_map_both}
-use Rattle.std.proofs.lemmas.Option.{slice_get_within}
+use Rattle.std.proofs.lemmas.Option.{slice_get_within, none-some}
 use Rattle.rbc_model.specs.declared.refusals.LineFault.{LineFault}
 use Rattle.rbc_model.specs.declared.refusals.ViewFault.{ViewFault}
 use Rattle.rbc_model.specs.declared.refusals.ViewFault.TheVariants.{UnknownTrain, Blocked}
@@ -23,7 +23,7 @@ use Rattle.rbc_session_laws.specs.declared.demand.Demand.TheVariants.{Nothing, E
 use Rattle.rbc_session_laws.specs.Demands.{known, looked_up, demand_in, IsDemandOfTrack}
 use Rattle.rbc_session_laws.specs.Answers.{asker_answer, demand_answer, line_answer, grant_of}
 use Rattle.rbc_session_laws.specs.Retelling.{IsEntryOfTrack, RetoldEntriesAreOfTrack}
-use Rattle.rbc_session_laws.proofs.RetellingLemmas.{found_at, the_demand, no_demand, no_entry, told_entry, granted_entry}
+use Rattle.rbc_session_laws.proofs.RetellingLemmas.{found_at, the_demand, no_demand, told_entry, granted_entry}
 
 -- what is found by its name in a table stands in it
 within : {X : Type 0} (name_of : X → List ℕ) (xs : List X) (name : List ℕ) (place : ℕ) → position (λ x. bytes_eq (name_of x) name) xs ≡ Some place → place < length xs
@@ -59,17 +59,17 @@ module _ (track : Track) (before : List Entry) (entry : Entry) where
 
   of_asker : (train : ℕ) (seen : Result View ViewFault) → (asker_answer track before train seen).added ≡ Some entry → IsEntryOfTrack track entry
   of_asker train (Ok shown) h = of_grant shown (granted_entry track before entry shown (is_full before) h)
-  of_asker train (Err (Blocked obstacle at)) h = absurd (no_entry entry h)
-  of_asker train (Err UnknownTrain) h = absurd (no_entry entry h)
+  of_asker train (Err (Blocked obstacle at)) h = absurd (none-some entry h)
+  of_asker train (Err UnknownTrain) h = absurd (none-some entry h)
 
   of_demand : (line : List ℕ) (demand : Result Demand SessionRefusal) → demand_in track line ≡ demand → (demand_answer track before demand).added ≡ Some entry
       → IsEntryOfTrack track entry
-  of_demand line (Ok Nothing) e h = absurd (no_entry entry h)
+  of_demand line (Ok Nothing) e h = absurd (none-some entry h)
   of_demand line (Ok (Event told)) e h =
       subst (IsEntryOfTrack track) (told_entry track before entry told (is_full before) (step track (replay track before) (Tell told)) h)
       (read_there track (parse_session line) (Event told) e)
   of_demand line (Ok (Authority train)) e h = of_asker train (view track (replay track before) train) h
-  of_demand line (Err refusal) e h = absurd (no_entry entry h)
+  of_demand line (Err refusal) e h = absurd (none-some entry h)
 
   of_line : (line : List ℕ) → (line_answer track before line).added ≡ Some entry → IsEntryOfTrack track entry
   unfolding line_answer

@@ -3,7 +3,7 @@ use Rattle.std.proofs.Common.{◌≡◌, ℕ, ◌+◌, ◌<◌, Bool, true, fals
 use Rattle.std.specs.Prelude.{bytes_eq, ◌==◌}
 use Rattle.std.specs.List.{list_all, before_first, after_first}
 use Rattle.std.specs.Option.{option_map_or}
-use Rattle.std.proofs.lemmas.Bool.{leb-true}
+use Rattle.std.proofs.lemmas.Bool.{leb-true, and_from}
 use Rattle.rbc_model.specs.declared.limits.TheConstants.{LONGEST_TRACK, MOST_STEPS}
 use Rattle.rbc_model.specs.declared.places.Format.{Format}
 use Rattle.rbc_model.specs.declared.refusals.LineFault.{LineFault}
@@ -17,7 +17,7 @@ use Rattle.rbc_model.specs.Words.{number_in}
 use Rattle.rbc_model.specs.RequestText.{request_words, number_at, line_in}
 use Rattle.rbc_model.specs.StepsText.{StepsRequest, StepsLine, Blank, Speed, Grade, run_in_word, runs_in, request_in, words_line, parse_steps, track_in}
 use Rattle.rbc_model.proofs.CountingLemmas.{both_of}
-use Rattle.rbc_steps.proofs.JoinedLemmas.{and, IsTrackFunction-joined}
+use Rattle.rbc_steps.proofs.JoinedLemmas.{IsTrackFunction-joined}
 use Rattle.rbc_model.proofs.SaidLineLemmas.{bound, allowed}
 
 -- ---- answers in a row
@@ -75,7 +75,7 @@ module _ {V : Type 0} (kind : Kind V) (format : Format) where
       let rest = bound (runs_in kind format limit (i + 1) (next ∷ last ∷ more)) (λ rest. Ok (record rest { runs = run.0 ∷ rest.runs })) request run.2 in
       let before = runs_read limit (i + 1) (next ∷ last ∷ more) rest.0 rest.1 in
       subst (IsRead limit) (the_request (record rest.0 { runs = run.0 ∷ rest.0.runs }) request rest.2)
-      (record { limit_is = before.limit_is; expressible = before.expressible; values = and (value_read i word run.0 run.1) before.values })
+      (record { limit_is = before.limit_is; expressible = before.expressible; values = and_from _ _ (value_read i word run.0 run.1) before.values })
 
   -- what is asked for is in form, but for the order of its runs
   pub record IsAsked (request : StepsRequest V) : Type 0 where

@@ -6,6 +6,7 @@ use Rattle.std.specs.Option.{option_map_or}
 use Rattle.std.specs.Result.{result_map_both}
 use Rattle.std.proofs.lemmas.Bool.{leb-true, ltb-true}
 use Rattle.std.proofs.lemmas.Slice.Eq.{bytes_eq-Decides}
+use Rattle.std.proofs.lemmas.Option.{none-some, same_Some}
 use Rattle.rbc_model.specs.declared.refusals.LineFault.{LineFault}
 use Rattle.rbc_model.specs.declared.refusals.Refusal.{Refusal}
 use Rattle.rbc_model.specs.declared.refusals.ViewFault.{ViewFault}
@@ -122,22 +123,16 @@ leads_by track line entry demand (Err fault) e h same = absurd (no_demand (BadLi
 
 -- ---- the entry that an answer adds
 
-the_entry : (a b : Entry) → (let o : Option Entry = Some a in o) ≡ Some b → a ≡ b
-the_entry a b e = cc
-
-pub no_entry : (b : Entry) → (let o : Option Entry = None in o) ≡ Some b → ⊥
-no_entry b e = cc
-
 module _ (track : Track) (before : List Entry) (entry : Entry) where
   pub told_entry : (told : Told) (full : Bool) (after : Result Scene Refusal)
       → (cond full (refused track before Full) (told_answer track before told after)).added ≡ Some entry → Heard told ≡ entry
-  told_entry told true after h = absurd (no_entry entry h)
-  told_entry told false (Ok after) h = the_entry (Heard told) entry h
-  told_entry told false (Err refusal) h = absurd (no_entry entry h)
+  told_entry told true after h = absurd (none-some entry h)
+  told_entry told false (Ok after) h = same_Some (Heard told) entry h
+  told_entry told false (Err refusal) h = absurd (none-some entry h)
 
   pub granted_entry : (shown : View) (full : Bool) → (cond full (refused track before Full) (grant_answer track before shown)).added ≡ Some entry → Granted (grant_of shown) ≡ entry
-  granted_entry shown true h = absurd (no_entry entry h)
-  granted_entry shown false h = the_entry (Granted (grant_of shown)) entry h
+  granted_entry shown true h = absurd (none-some entry h)
+  granted_entry shown false h = same_Some (Granted (grant_of shown)) entry h
 
   -- the train that is granted an authority is the one that asked
   asked_entry : (train : ℕ) (seen : Result View ViewFault) → view track (replay track before) train ≡ seen → (asker_answer track before train seen).added ≡ Some entry
@@ -145,17 +140,17 @@ module _ (track : Track) (before : List Entry) (entry : Entry) where
   unfolding grant_of
   asked_entry train (Ok shown) e h =
       ap (entry_request track) (sym (granted_entry shown (is_full before) h)) ∙ ap Ask (view-train track (replay track before) train shown e)
-  asked_entry train (Err (Blocked obstacle at)) e h = absurd (no_entry entry h)
-  asked_entry train (Err UnknownTrain) e h = absurd (no_entry entry h)
+  asked_entry train (Err (Blocked obstacle at)) e h = absurd (none-some entry h)
+  asked_entry train (Err UnknownTrain) e h = absurd (none-some entry h)
 
   demanded_entry : (line : List ℕ) (demand : Result Demand SessionRefusal) → demand_in track line ≡ demand → (demand_answer track before demand).added ≡ Some entry → Leads track line entry
-  demanded_entry line (Ok Nothing) e h = absurd (no_entry entry h)
+  demanded_entry line (Ok Nothing) e h = absurd (none-some entry h)
   demanded_entry line (Ok (Event told)) e h =
       leads_by track line entry (Event told) (parse_session line) refl e
       (ap (entry_request track) (sym (told_entry told (is_full before) (step track (replay track before) (Tell told)) h)))
   demanded_entry line (Ok (Authority train)) e h =
       leads_by track line entry (Authority train) (parse_session line) refl e (asked_entry train (view track (replay track before) train) refl h)
-  demanded_entry line (Err refusal) e h = absurd (no_entry entry h)
+  demanded_entry line (Err refusal) e h = absurd (none-some entry h)
 
   leads : (line : List ℕ) → (line_answer track before line).added ≡ Some entry → Leads track line entry
   unfolding line_answer
@@ -196,9 +191,9 @@ module _ (track : Track) where
   to_each : (before entries : List Entry) → Retells before entries → (place : ℕ) (entry : Entry) → slice_get entries place ≡ Some entry
       → (line_answer track (before ++ take place entries) (entry_line track entry)).added ≡ Some entry
   unfolding Retells
-  to_each before [] are place entry here = absurd (no_entry entry here)
+  to_each before [] are place entry here = absurd (none-some entry here)
   to_each before (first ∷ entries) are zero entry here =
-      subst (λ e. (line_answer track (before ++ []) (entry_line track e)).added ≡ Some e) (the_entry first entry here)
+      subst (λ e. (line_answer track (before ++ []) (entry_line track e)).added ≡ Some e) (same_Some first entry here)
       (subst (λ b. (line_answer track b (entry_line track first)).added ≡ Some first) (sym (append-nil before)) are.0)
   to_each before (first ∷ entries) are (suc place) entry here =
       subst (λ b. (line_answer track b (entry_line track entry)).added ≡ Some entry) (append_assoc before (first ∷ []) (take place entries))

@@ -1,6 +1,5 @@
 mod FigureLemmas
 mod MetreLemmas
 mod StairLemmas
-mod TrainLemmas
 mod WayLemmas
 pub use Rattle.rbc_draw.proofs.ShowLemmas

@@ -3,12 +3,13 @@ use Rattle.std.proofs.Common.{◌≡◌, ℕ, zero, suc, ◌+◌, ◌-◌, ◌<�
 use Rattle.std.specs.Prelude.{filter}
 use Rattle.std.specs.List.{range_with_len}
 use Rattle.std.proofs.lemmas.List.FromFn.{length-range_with_len}
+use Rattle.std.proofs.lemmas.Bool.{both_ways, cases_lt}
 use Rattle.rbc_model.specs.declared.places.Leg.{Leg}
 use Rattle.rbc_model.specs.Tracks.{Track, metres_of, metre_of_leg}
 use Rattle.rbc_model.specs.Trains.{Train}
 use Rattle.rbc_model.specs.Scenes.{extent_has, authority_has}
 use Rattle.rbc_reach_laws.specs.Spans.{lies_in, leg_span, extent_span, authority_span}
-use Rattle.rbc_reach_laws.proofs.BasicLemmas.{is_below, clash}
+use Rattle.rbc_reach_laws.proofs.BasicLemmas.{is_below}
 use Rattle.rbc_reach_laws.proofs.LegSpanLemmas.{extent_has-span, authority_has-span, leg_span-on}
 use Rattle.rbc_show.specs.declared.bars.Bar.{Bar}
 use Rattle.rbc_show.specs.declared.bars.Span.{Span}
@@ -32,21 +33,18 @@ none_from a b h = ap (range_with_len a) (let e : b - a ≡ zero = omega arith in
 first_from : (a b : ℕ) → a < b → from_to a b ≡ a ∷ from_to (a + 1) b
 first_from a b h = ap (range_with_len a) (let e : b - a ≡ suc (b - (a + 1)) = omega arith in e)
 
-order : (a b : ℕ) → (a < b) ⊎ (b ≤ a)
-order a b = grind arith
-
 module _ (low high : ℕ) where
   passes_on : (a : ℕ) → (a < low) ⊎ (low ≤ a) → (a < high) ⊎ (high ≤ a) → lies_in (low, high) a ≡ false → from_to (max (a + 1) low) high ≡ from_to (max a low) high
   passes_on a (inl before) o t = ap (λ m. from_to m high) (let e : max (a + 1) low ≡ max a low = omega arith in e)
-  passes_on a (inr behind) (inl before) t = absurd (clash (lies_in (low, high) a) (is_below low high a behind before) t)
+  passes_on a (inr behind) (inl before) t = absurd (both_ways (lies_in (low, high) a) t (is_below low high a behind before))
   passes_on a (inr behind) (inr past) t = none_from (max (a + 1) low) high (omega arith) ∙ sym (none_from (max a low) high (omega arith))
 
   takes_first : (a : ℕ) → (a < low) ⊎ (low ≤ a) → (a < high) ⊎ (high ≤ a) → lies_in (low, high) a ≡ true → a ∷ from_to (max (a + 1) low) high ≡ from_to (max a low) high
-  takes_first a (inl before) o t = absurd (clash (lies_in (low, high) a) t (not_before a before))
+  takes_first a (inl before) o t = absurd (both_ways (lies_in (low, high) a) (not_before a before) t)
     where
       not_before : (a : ℕ) → a < low → lies_in (low, high) a ≡ false
       not_before a h = grind arith
-  takes_first a (inr behind) (inr past) t = absurd (clash (lies_in (low, high) a) t (not_past a past))
+  takes_first a (inr behind) (inr past) t = absurd (both_ways (lies_in (low, high) a) (not_past a past) t)
     where
       not_past : (a : ℕ) → high ≤ a → lies_in (low, high) a ≡ false
       not_past a h = grind arith
@@ -55,8 +53,8 @@ module _ (low high : ℕ) where
       ∙ sym (first_from a high before) ∙ ap (λ m. from_to m high) (let e : a ≡ max a low = omega arith in e)
 
   by_first : (b : Bool) (a : ℕ) (l : List ℕ) → lies_in (low, high) a ≡ b → l ≡ from_to (max (a + 1) low) high → cond b (a ∷ l) l ≡ from_to (max a low) high
-  by_first true a l t e = ap (λ m. a ∷ m) e ∙ takes_first a (order a low) (order a high) t
-  by_first false a l t e = e ∙ passes_on a (order a low) (order a high) t
+  by_first true a l t e = ap (λ m. a ∷ m) e ∙ takes_first a (cases_lt a low) (cases_lt a high) t
+  by_first false a l t e = e ∙ passes_on a (cases_lt a low) (cases_lt a high) t
 
   -- those that lie in a span
   filter_span : (a n : ℕ) → high ≤ a + n → filter (lies_in (low, high)) (range_with_len a n) ≡ from_to (max a low) high

@@ -1,5 +1,3 @@
-mod BeginningLemmas
 pub mod LaterLemmas
 mod MomentLemmas
-mod AddingLemmas
 mod StepLemmas

@@ -7,7 +7,7 @@ use Rattle.rbc_model.specs.Histories.{IsLegal}
 use Rattle.rbc_record.specs.Records.{HistoryOnTrack}
 use Rattle.rbc_snap.specs.Later.{IsLater}
 use Rattle.rbc_snap.specs.Sights.{last_of, latest, GoOnFrom, AreMoments}
-use Rattle.rbc_snap.proofs.BeginningLemmas.{prefix_shorter}
+use Rattle.rbc_logbook_laws.proofs.BeginningLemmas.{prefix_shorter}
 use Rattle.rbc_snap.proofs.LaterLemmas.{later_itself, later_still, later_as_long}
 
 pub last_added : (d : HistoryOnTrack) (xs : List HistoryOnTrack) (h : HistoryOnTrack) → last_of d (xs ++ h ∷ []) ≡ h

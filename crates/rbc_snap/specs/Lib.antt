@@ -1,6 +1,5 @@
 pub mod Later
 pub mod Sights
-pub mod Journals
 pub mod Knowing
 pub mod Looks
 pub use Rattle.rbc_record.specs.BookEntries

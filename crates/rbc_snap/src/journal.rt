@@ -1,7 +1,7 @@
 //! Where the moments of a history are counted.
 
 ghost use Rattle.std.specs.Prelude.{◌≡◌, ◌+◌, ◌^◌, ◌<◌, ◌++◌, ◌∷◌, [], length, IfSome};
-ghost use Rattle.rbc_snap.specs.Journals.{head_of};
+ghost use Rattle.rbc_logbook_laws.specs.Counts.{head_of};
 ghost use Rattle.rbc_snap.specs.Sights.{seen_of};
 
 use crate::Sight;
@@ -27,7 +27,7 @@ pub struct Journal {
 impl Model for Journal {
     ghost use Rattle.std.specs.Prelude.{◌≡◌, []};
     ghost use Rattle.logbook.specs.Pages.{Book};
-    ghost use Rattle.rbc_snap.specs.Journals.{head_of};
+    ghost use Rattle.rbc_logbook_laws.specs.Counts.{head_of};
 
     ghost Value = { Book };
 

@@ -9,7 +9,7 @@ pub struct Law;
 impl Rule<Record, u64> for Law {
     ghost use Rattle.std.specs.Prelude.{[]};
     ghost use base.Fml.{ftrue};
-    ghost use Rattle.rbc_snap.specs.Journals.{IsCounted};
+    ghost use Rattle.rbc_logbook_laws.specs.Counts.{IsCounted};
 
     ghost holds = { λ cells moments. IsCounted cells moments };
 
@@ -36,7 +36,7 @@ impl Gain<Record, u64> for Nothing {
 pub(crate) struct Add;
 
 impl Play<Record, u64> for Add {
-    ghost use Rattle.rbc_snap.specs.Journals.{Adds};
+    ghost use Rattle.rbc_logbook_laws.specs.Counts.{Adds};
 
     ghost then = { Adds };
 }

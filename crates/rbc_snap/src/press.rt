@@ -2,7 +2,7 @@
 
 ghost use Rattle.std.specs.Prelude.{◌≡◌, ◌<◌, ◌^◌, [], length, take, replicate, IfOk, IfSome, drop, fold};
 ghost use Rattle.left_right.specs.Sides.{view as known_to};
-ghost use Rattle.rbc_snap.specs.Journals.{head_of};
+ghost use Rattle.rbc_logbook_laws.specs.Counts.{head_of};
 ghost use Rattle.rbc_snap.specs.Knowing.{knower};
 ghost use Rattle.rbc_snap.specs.Later.{IsLater};
 ghost use Rattle.rbc_snap.specs.Sights.{seen_of};
@@ -35,7 +35,7 @@ pub struct Press<J: HistoryName> {
 impl<J: HistoryName> Model for Press<J> {
     ghost use Rattle.std.specs.Prelude.{◌≡◌, [], drop};
     ghost use Rattle.rbc_record.specs.Records.{HistoryOnTrack};
-    ghost use Rattle.rbc_snap.specs.Journals.{head_of};
+    ghost use Rattle.rbc_logbook_laws.specs.Counts.{head_of};
 
     ghost Value = { HistoryOnTrack };
 

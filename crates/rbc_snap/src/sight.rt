@@ -2,7 +2,7 @@
 
 ghost use Rattle.std.specs.Prelude.{◌≡◌, ◌<◌, ◌∷◌, [], length, MatchBool};
 ghost use Rattle.rbc_model.specs.Histories.{IsLegal};
-ghost use Rattle.rbc_snap.specs.Journals.{head_of};
+ghost use Rattle.rbc_logbook_laws.specs.Counts.{head_of};
 ghost use Rattle.rbc_snap.specs.Later.{IsLater};
 ghost use Rattle.rbc_snap.specs.Sights.{seen_of};
 

@@ -3,7 +3,7 @@ use Rattle.std.proofs.Common.{◌≡◌, ℕ, zero, suc, ◌+◌, ◌-◌, ◌<�
 use Rattle.std.specs.Int.{from_bool}
 use Rattle.std.specs.List.{list_all}
 use Rattle.std.specs.Option.{option_or}
-use Rattle.std.proofs.lemmas.Bool.{lt-ltb, ltb-true, le-leb, lt-leb}
+use Rattle.std.proofs.lemmas.Bool.{lt-ltb, ltb-true, le-leb, lt-leb, and_from, not-true}
 use Rattle.std.proofs.lemmas.Bool.Decides.{nat_tests}
 use Rattle.std.proofs.lemmas.List.{length-drop, get_or_read}
 use Rattle.std.proofs.Math.Seq.{take-length}
@@ -11,8 +11,10 @@ use Rattle.rbc_model.specs.Levels.{Levels, is_same, IsLawful, IsInRange}
 use Rattle.rbc_model.specs.Profiles.{value_at, starts_of, rises_above, is_joined, IsTrackFunction, Follows}
 use Rattle.rbc_model.specs.declared.limits.TheConstants.{LONGEST_TRACK}
 use Rattle.rbc_model.proofs.CountingLemmas.{both_of}
-use Rattle.rbc_steps.proofs.JoinedLemmas.{and, rises_split, rises_lower, zero_split, all_split, one_value}
-use Rattle.rbc_steps.proofs.JoinLemmas.{value_at-append, value_at-some, RisesFrom, is_joined-tail, IsTrackFunction-append}
+use Rattle.rbc_model.proofs.StepListLemmas.{rises_split, zero_split, all_split, value_at-some}
+use Rattle.rbc_model.proofs.RunLemmas.{one_value}
+use Rattle.rbc_steps.proofs.JoinedLemmas.{rises_lower}
+use Rattle.rbc_steps.proofs.JoinLemmas.{value_at-append, RisesFrom, is_joined-tail, IsTrackFunction-append}
 use Rattle.rbc_steps.proofs.PlaceLemmas.{value_at-index, below_end, first_at_zero}
 
 both_moved : (a x n : ℕ) → nat_le (a + n) (n + x) ≡ nat_le a x
@@ -25,13 +27,13 @@ module _ {V : Type 0} (n : ℕ) where
 
   rises-moved : (low : ℕ) (rows : List (ℕ × V)) → rises_above low (starts_of rows) ≡ true → rises_above (low + n) (starts_of (moved rows)) ≡ true
   rises-moved low [] e = refl
-  rises-moved low (row ∷ rows) e = let s = rises_split low row.0 (starts_of rows) e in and (lt-ltb (low + n) (row.0 + n) (omega arith)) (rises-moved row.0 rows s.1)
+  rises-moved low (row ∷ rows) e = let s = rises_split low row.0 (starts_of rows) e in and_from _ _ (lt-ltb (low + n) (row.0 + n) (omega arith)) (rises-moved row.0 rows s.1)
 
   inside-moved : (m : ℕ) (rows : List (ℕ × V)) → list_all (λ start. nat_lt start m) (starts_of rows) ≡ true → list_all (λ start. nat_lt start (n + m)) (starts_of (moved rows)) ≡ true
   inside-moved m [] e = refl
   inside-moved m (row ∷ rows) e =
       let a = all_split (λ start. nat_lt start m) row.0 (starts_of rows) e in
-      and (lt-ltb (row.0 + n) (n + m) (omega (arith, ltb-true row.0 m a.0))) (inside-moved m rows a.1)
+      and_from _ _ (lt-ltb (row.0 + n) (n + m) (omega (arith, ltb-true row.0 m a.0))) (inside-moved m rows a.1)
 
   values-moved : (test : V → Bool) (rows : List (ℕ × V)) → list_all (λ row. test row.1) (moved rows) ≡ list_all (λ row. test row.1) rows
   values-moved test [] = refl
@@ -55,7 +57,7 @@ module _ {V : Type 0} (n : ℕ) where
   moved_from low rows e = λ p h. rises_lower p (low + n) (starts_of (moved rows)) (omega arith) (rises-moved low rows e)
 
   all_from : (head : ℕ × V) (rows : List (ℕ × V)) → rises_above head.0 (starts_of rows) ≡ true → RisesFrom n (moved (head ∷ rows))
-  all_from head rows e = λ p h. and (lt-ltb p (head.0 + n) (omega arith)) (rises-moved head.0 rows e)
+  all_from head rows e = λ p h. and_from _ _ (lt-ltb p (head.0 + n) (omega arith)) (rises-moved head.0 rows e)
 
 in_range_at : {V : Type 0} (levels : Levels V) (rows : List (ℕ × V)) (i : ℕ) (d : ℕ × V) → list_all (λ row. levels.in_range row.1) rows ≡ true → i < length rows → IsInRange levels (get_or rows i d).1
 in_range_at levels [] i d e h = absurd (omega arith)
@@ -77,14 +79,10 @@ module _ {V : Type 0} (levels : Levels V) (lawful : IsLawful levels) (n m : ℕ)
         let a = all_split (λ row. levels.in_range row.1) head second two.values in
         one_value levels lawful head.1 (get_or first i e).1 a.0 (in_range_at levels first i e one.values (omega arith)) (sym (seam i e h) ∙ j)
 
-  not_true : (b : Bool) → not b ≡ true → b ≡ false
-  not_true true e = cc
-  not_true false e = refl
-
   differs_from_next : (head : ℕ × V) (second : List (ℕ × V)) (last : V) (d : ℕ × V) → head.1 ≡ last → is_joined levels (head ∷ second) ≡ true → 0 < length (moved n second) → is_same levels (get_or (moved n second) 0 d).1 last ≡ false
   differs_from_next head [] last d e j h = absurd (omega arith)
   differs_from_next head (next ∷ second) last d e j h =
-      subst (λ v. is_same levels next.1 v ≡ false) e (not_true (is_same levels next.1 head.1) (both_of (not (is_same levels next.1 head.1)) (is_joined levels (next ∷ second)) j).0)
+      subst (λ v. is_same levels next.1 v ≡ false) e (not-true (is_same levels next.1 head.1) (both_of (not (is_same levels next.1 head.1)) (is_joined levels (next ∷ second)) j).0)
 
   track_of : (joined : Bool) (head : ℕ × V) (second : List (ℕ × V)) → IsTrackFunction levels m (head ∷ second) → ((i : ℕ) (e : ℕ × V) → i + 1 ≡ length first → joined ≡ is_same levels head.1 (get_or first i e).1)
       → IsTrackFunction levels (n + m) (first ++ behind joined (head ∷ second))

@@ -1,51 +1,36 @@
 -- A list of steps in its one spelling is a list of steps with the same values.
-use Rattle.std.proofs.Common.{◌≡◌, ℕ, ◌<◌, ◌≤◌, Bool, true, false, not, ◌&&◌, cond, List, [], ◌∷◌, Option, Some, None, refl, arith, ap, sym, ◌∙◌, nat_le, nat_lt, ◌==◌, if◌then◌else◌}
+use Rattle.std.proofs.Common.{◌≡◌, ℕ, ◌<◌, ◌≤◌, Bool, true, false, not, cond, List, [], ◌∷◌, Option, Some, None, refl, arith, ap, sym, ◌∙◌, nat_le, nat_lt, if◌then◌else◌}
 use Rattle.std.specs.List.{list_all, dedup_from}
 use Rattle.std.specs.Option.{option_or}
-use Rattle.std.proofs.lemmas.Bool.{le-leb, lt-ltb, ltb-true, leb-true, eqb-true}
+use Rattle.std.proofs.lemmas.Bool.{le-leb, lt-ltb, leb-true, and_from}
 use Rattle.std.proofs.lemmas.List.Folds.{list_all-map}
 use Rattle.rbc_model.specs.Levels.{Levels, is_same, IsInRange, IsLawful}
 use Rattle.rbc_model.specs.Profiles.{value_at, starts_of, rises_above, rises_from_zero, joined_steps, is_joined, IsTrackFunction}
-use Rattle.rbc_model.proofs.CountingLemmas.{both_of}
-
-pub and : {a b : Bool} → a ≡ true → b ≡ true → (a && b) ≡ true
-and {a} {b} e f = cc (e, f)
-
--- the first start is above the number, and the later ones rise above it
-pub rises_split : (low start : ℕ) (later : List ℕ) → rises_above low (start ∷ later) ≡ true → (low < start) × (rises_above start later ≡ true)
-rises_split low start later e = let b = both_of (nat_lt low start) (rises_above start later) e in (ltb-true low start b.0, b.1)
+use Rattle.rbc_model.proofs.StepListLemmas.{all_split, rises_split, zero_split}
+use Rattle.rbc_model.proofs.RunLemmas.{one_value}
 
 -- what rises above a number rises above each lower one
 pub rises_lower : (low high : ℕ) (starts : List ℕ) → low ≤ high → rises_above high starts ≡ true → rises_above low starts ≡ true
 rises_lower low high [] h e = refl
-rises_lower low high (start ∷ later) h e = let s = rises_split high start later e in and (lt-ltb low start (omega arith)) s.1
-
-pub zero_split : (start : ℕ) (later : List ℕ) → rises_from_zero (start ∷ later) ≡ true → (start ≡ 0) × (rises_above start later ≡ true)
-zero_split start later e =
-    let b = both_of (start == 0) (rises_above 0 later) e in
-    let first : start ≡ 0 = eqb-true start 0 b.0 in
-    (first, rw first b.1)
-
-pub all_split : {X : Type 0} (test : X → Bool) (x : X) (xs : List X) → list_all test (x ∷ xs) ≡ true → (test x ≡ true) × (list_all test xs ≡ true)
-all_split test x xs e = both_of (test x) (list_all test xs) e
+rises_lower low high (start ∷ later) h e = let s = rises_split high start later e in and_from _ _ (lt-ltb low start (omega arith)) s.1
 
 module _ {V : Type 0} (same : (ℕ × V) → (ℕ × V) → Bool) where
   list_all-dedup_from : (test : (ℕ × V) → Bool) (kept : ℕ × V) (rows : List (ℕ × V)) → test kept ≡ true → list_all test rows ≡ true → list_all test (dedup_from same kept rows) ≡ true
-  list_all-dedup_from test kept [] e f = and e refl
+  list_all-dedup_from test kept [] e f = and_from _ _ e refl
   list_all-dedup_from test kept (row ∷ rows) e f =
       let s = all_split test row rows f in
       elim (same row kept) as (λ b. list_all test (cond b (dedup_from same kept rows) (kept ∷ dedup_from same row rows)) ≡ true) [
         | true ↦ list_all-dedup_from test kept rows e s.1
-        | false ↦ and e (list_all-dedup_from test row rows s.0 s.1)
+        | false ↦ and_from _ _ e (list_all-dedup_from test row rows s.0 s.1)
       ]
 
   rises-dedup_from : (low : ℕ) (kept : ℕ × V) (rows : List (ℕ × V)) → low < kept.0 → rises_above kept.0 (starts_of rows) ≡ true → rises_above low (starts_of (dedup_from same kept rows)) ≡ true
-  rises-dedup_from low kept [] l e = and (lt-ltb low kept.0 l) refl
+  rises-dedup_from low kept [] l e = and_from _ _ (lt-ltb low kept.0 l) refl
   rises-dedup_from low kept (row ∷ rows) l e =
       let s = rises_split kept.0 row.0 (starts_of rows) e in
       elim (same row kept) as (λ b. rises_above low (starts_of (cond b (dedup_from same kept rows) (kept ∷ dedup_from same row rows))) ≡ true) [
         | true ↦ rises-dedup_from low kept rows l (rises_lower kept.0 row.0 (starts_of rows) (omega arith) s.1)
-        | false ↦ and (lt-ltb low kept.0 l) (rises-dedup_from kept.0 row rows s.0 s.1)
+        | false ↦ and_from _ _ (lt-ltb low kept.0 l) (rises-dedup_from kept.0 row rows s.0 s.1)
       ]
 
   rises_from_zero-dedup_from : (kept : ℕ × V) (rows : List (ℕ × V)) → rises_from_zero (starts_of (kept ∷ rows)) ≡ true → rises_from_zero (starts_of (dedup_from same kept rows)) ≡ true
@@ -77,11 +62,6 @@ module _ {V : Type 0} (levels : Levels V) where
   row_in_range row = levels.in_range row.1
 
   module _ (lawful : IsLawful levels) where
-    pub one_value : (a b : V) → IsInRange levels a → IsInRange levels b → is_same levels a b ≡ true → a ≡ b
-    one_value a b ra rb same =
-        let s = both_of (levels.at_most a b) (levels.at_most b a) same in
-        lawful.ordered.antisymmetric a b ra rb s.0 s.1
-
     value_at-dedup_from : (kept : ℕ × V) (rows : List (ℕ × V)) (x : ℕ) → rises_above kept.0 (starts_of rows) ≡ true → IsInRange levels kept.1 → list_all row_in_range rows ≡ true
         → value_at (dedup_from same_rows kept rows) x ≡ value_at (kept ∷ rows) x
     value_at-dedup_from kept [] x e k r = refl
@@ -93,7 +73,7 @@ module _ {V : Type 0} (levels : Levels V) where
           | true ↦ λ same.
               value_at-dedup_from kept rows x (rises_lower kept.0 row.0 (starts_of rows) (omega arith) s.1) k a.1
               ∙ left_out (value_at rows x) kept.1 kept.0 row.0 x s.0
-              ∙ ap (λ v. here (option_or (value_at rows x) (if nat_le row.0 x then Some v else None))) (sym (one_value row.1 kept.1 a.0 k same))
+              ∙ ap (λ v. here (option_or (value_at rows x) (if nat_le row.0 x then Some v else None))) (sym (one_value levels lawful row.1 kept.1 a.0 k same))
           | false ↦ λ same. ap here (value_at-dedup_from row rows x s.1 a.0 a.1)
         ] refl
 
@@ -113,7 +93,7 @@ module _ {V : Type 0} (levels : Levels V) where
       ]
 
   one_more : (kept row : ℕ × V) (steps tail : List (ℕ × V)) → steps ≡ row ∷ tail → is_same levels row.1 kept.1 ≡ false → is_joined levels steps ≡ true → is_joined levels (kept ∷ steps) ≡ true
-  one_more kept row steps tail e s j = rw e (and (ap not s) (rw e at j))
+  one_more kept row steps tail e s j = rw e (and_from _ _ (ap not s) (rw e at j))
 
   is_joined-dedup_from : (kept : ℕ × V) (rows : List (ℕ × V)) → is_joined levels (dedup_from same_rows kept rows) ≡ true
   is_joined-dedup_from kept [] = refl

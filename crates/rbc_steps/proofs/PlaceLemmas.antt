@@ -4,8 +4,9 @@ use Rattle.std.specs.List.{list_all}
 use Rattle.std.specs.List.Sorted.{IsNonDecreasingBy, IsPartitionPoint}
 use Rattle.std.proofs.lemmas.Bool.{le-leb, leb-true, ltb-true, lt-leb}
 use Rattle.std.proofs.lemmas.Bool.Decides.{leb_tells}
+use Rattle.std.proofs.Math.Nat.{eq-or-lt_of_le}
 use Rattle.rbc_model.specs.Profiles.{value_at, starts_of, rises_above, rises_from_zero}
-use Rattle.rbc_steps.proofs.JoinedLemmas.{rises_split, zero_split, all_split}
+use Rattle.rbc_model.proofs.StepListLemmas.{rises_split, zero_split, all_split}
 
 -- no row has started
 value_at-none : {V : Type 0} (rows : List (ℕ × V)) (x : ℕ) (d : ℕ × V) → ((k : ℕ) → k < length rows → x < (get_or rows k d).0) → value_at rows x ≡ None
@@ -39,12 +40,9 @@ in_turn (row ∷ rows) i zero d e h l = absurd (omega arith)
 in_turn (row ∷ rows) zero (suc j) d e h l = above_all row.0 rows j d (zero_split row.0 (starts_of rows) e).1 (omega arith)
 in_turn (row ∷ rows) (suc i) (suc j) d e h l = rises_in_turn row.0 rows i j d (zero_split row.0 (starts_of rows) e).1 (omega arith) (omega arith)
 
-same_or_below : (i j : ℕ) → i ≤ j → (i ≡ j) ⊎ (i < j)
-same_or_below i j h = grind arith
-
 pub starts_sorted : {V : Type 0} (rows : List (ℕ × V)) → rises_from_zero (starts_of rows) ≡ true → IsNonDecreasingBy (λ s. s.0) rows
 starts_sorted {V} rows e = λ i j d h l.
-    elim (same_or_below i j h) [
+    elim (eq-or-lt_of_le h) [
       | inl same ↦ let start : ℕ → ℕ = λ k. (get_or rows k d).0 in let eq : start i ≡ start j = ap start same in omega (arith, eq)
       | inr below ↦ omega (arith, in_turn rows i j d e below l)
     ]

@@ -5,6 +5,7 @@ use Rattle.std.proofs.Math.Nat.{mul-le-mul_left}
 use Rattle.std.proofs.lemmas.Bool.Decides.{eqb_tells}
 use Rattle.rbc_model.specs.Levels.{Levels}
 use Rattle.rbc_model.specs.Profiles.{value_at, IsStepList, sum_below, price_at, is_within, loss}
+use Rattle.rbc_model.proofs.BasicLemmas.{next_or_at_most, next_or_later}
 use Rattle.rbc_steps.proofs.PlaceLemmas.{value_at-index, in_turn, first_at_zero, below_end, some_row}
 
 module _ {V : Type 0} (n : ℕ) (rows : List (ℕ × V)) where
@@ -29,16 +30,13 @@ module _ {V : Type 0} (n : ℕ) (rows : List (ℕ × V)) where
       later = λ k d h l. omega (arith, in_turn rows 0 k d listed.rising h l);
     }
 
-    past : (i k : ℕ) → i < k → (k ≡ i + 1) ⊎ (i + 1 < k)
-    past i k h = grind arith
-
     more : (i : ℕ) → (i + 1 < length rows) ⊎ (length rows ≤ i + 1)
     more i = grind arith
 
     stops_before : (i stop : ℕ) (d : ℕ × V) → ((e : ℕ × V) → i + 1 < length rows → stop ≡ (get_or rows (i + 1) e).0) → i + 1 < length rows → Stops i stop
     stops_before i stop d next l = record {
       near = omega (arith, next d l, below_end n rows (i + 1) d listed.inside l);
-      later = λ k e h m. elim (past i k h) [
+      later = λ k e h m. elim (next_or_later i k h) [
         | inl same ↦ let start : ℕ → ℕ = λ j. (get_or rows j e).0 in let eq : start k ≡ start (i + 1) = ap start same in omega (arith, next e l, eq)
         | inr after ↦ omega (arith, next e l, in_turn rows (i + 1) k e listed.rising after m)
       ];
@@ -96,7 +94,7 @@ module _ {V : Type 0} (n : ℕ) (rows : List (ℕ × V)) where
 -- the sum over a stretch of metres that cost the same
 sum_below-stretch : (f : ℕ → ℕ) (from to c : ℕ) → from ≤ to → ((y : ℕ) → from ≤ y → y < to → f y ≡ c) → sum_below to f ≡ sum_below from f + (to - from) * c
 sum_below-stretch f from zero c h same = let e : from ≡ 0 = omega arith in rw e (omega arith)
-sum_below-stretch f from (suc to) c h same = elim (reached from to h) [
+sum_below-stretch f from (suc to) c h same = elim (next_or_at_most from to h) [
   | inl e ↦ rw e (let z : suc to - suc to ≡ 0 = omega arith in omega (arith, ap (λ k. k * c) z))
   | inr l ↦
       let here = same to l (omega arith) in
@@ -105,9 +103,6 @@ sum_below-stretch f from (suc to) c h same = elim (reached from to h) [
       let product : (suc to - from) * c ≡ (to - from) * c + c = ap (λ k. k * c) longer ∙ omega arith in
       omega (arith, here, before, product)
 ]
-  where
-    reached : (from to : ℕ) → from ≤ suc to → (from ≡ suc to) ⊎ (from ≤ to)
-    reached from to h = grind arith
 
 module _ {V : Type 0} (levels : Levels V) (runs steps : List (ℕ × V)) where
   price_there : (o p : Option V) (track given : V) → o ≡ Some track → p ≡ Some given → price_at levels o p ≡ levels.price track given

@@ -2,18 +2,18 @@
 use Rattle.std.proofs.Common.{◌≡◌, ℕ, zero, suc, ◌+◌, ◌<◌, ◌≤◌, Bool, true, false, List, [], ◌∷◌, ◌++◌, length, get_or, Option, Some, refl, arith, nat_lt, if◌then◌else◌}
 use Rattle.std.specs.Option.{option_map_or}
 use Rattle.std.specs.List.{list_all}
-use Rattle.std.proofs.lemmas.Bool.{lt-ltb, ltb-true}
+use Rattle.std.proofs.lemmas.Bool.{lt-ltb, ltb-true, and_from}
 use Rattle.rbc_model.specs.Levels.{Levels, is_same, IsInRange, IsLawful}
 use Rattle.rbc_model.specs.Profiles.{value_at, starts_of, runs_over, IsTrackFunction}
 use Rattle.rbc_model.proofs.RunLemmas.{IsCovered}
+use Rattle.rbc_model.proofs.StepListLemmas.{all_split}
 use Rattle.rbc_steps.proofs.JoinLemmas.{IsTrackFunction-append}
-use Rattle.rbc_steps.proofs.JoinedLemmas.{and, all_split}
 use Rattle.rbc_steps.proofs.PlaceLemmas.{value_at-index, below_end}
 
 -- what lies below an end lies below a later one
 inside_more : (n m : ℕ) (starts : List ℕ) → n ≤ m → list_all (λ start. nat_lt start n) starts ≡ true → list_all (λ start. nat_lt start m) starts ≡ true
 inside_more n m [] h e = refl
-inside_more n m (start ∷ starts) h e = let a = all_split (λ start. nat_lt start n) start starts e in and (lt-ltb start m (omega (arith, ltb-true start n a.0))) (inside_more n m starts h a.1)
+inside_more n m (start ∷ starts) h e = let a = all_split (λ start. nat_lt start n) start starts e in and_from _ _ (lt-ltb start m (omega (arith, ltb-true start n a.0))) (inside_more n m starts h a.1)
 
 module _ {V : Type 0} (levels : Levels V) (lawful : IsLawful levels) where
   -- from the last start on stands the last value
@@ -36,11 +36,11 @@ module _ {V : Type 0} (levels : Levels V) (lawful : IsLawful levels) where
       → IsTrackFunction levels (suc n) (if b then rows else rows ++ (n, v) ∷ [])
   one_more true n rows v track r e = wider n rows track
   one_more false n rows v track r e =
-      IsTrackFunction-append levels n (suc n) rows ((n, v) ∷ []) (omega arith) track (λ low h. and (lt-ltb low n h) refl) (and (lt-ltb n (suc n) (omega arith)) refl) (and r refl) refl
+      IsTrackFunction-append levels n (suc n) rows ((n, v) ∷ []) (omega arith) track (λ low h. and_from _ _ (lt-ltb low n h) refl) (and_from _ _ (lt-ltb n (suc n) (omega arith)) refl) (and_from _ _ r refl) refl
       (λ i d f h. differs v (get_or rows i d).1 (value_at rows n) (last_value n rows i d track f) e)
 
   one_run : (v : V) → IsInRange levels v → IsTrackFunction levels 1 ((0, v) ∷ [])
-  one_run v r = record { starts = record { rising = refl; inside = refl }; values = and r refl; once = refl }
+  one_run v r = record { starts = record { rising = refl; inside = refl }; values = and_from _ _ r refl; once = refl }
 
   made_of_one_more : (n : ℕ) (level : ℕ → Option V) → IsCovered levels lawful (suc n) level → IsTrackFunction levels (suc n) (runs_over levels (suc n) level)
   made_of_one_more zero level cover = let here = cover 0 (omega arith) in rw here.1 (one_run here.0 here.2)

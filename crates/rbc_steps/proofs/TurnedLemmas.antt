@@ -1,14 +1,15 @@
 -- A track run the other way is a track.
-use Rattle.std.proofs.Common.{◌≡◌, ℕ, zero, suc, ◌+◌, ◌-◌, ◌<◌, ◌≤◌, ◌⊎◌, inl, inr, true, false, not, List, [], ◌∷◌, ◌++◌, length, get_or, drop, Some, None, refl, arith, ap, sym, ◌∙◌, subst, nat_le, nat_lt, if◌then◌else◌}
+use Rattle.std.proofs.Common.{◌≡◌, ℕ, zero, suc, ◌+◌, ◌-◌, ◌<◌, ◌≤◌, inl, inr, true, false, not, List, [], ◌∷◌, ◌++◌, length, get_or, drop, Some, None, refl, arith, ap, sym, ◌∙◌, subst, nat_le, nat_lt, if◌then◌else◌}
 use Rattle.std.specs.List.{list_all}
 use Rattle.std.specs.Option.{option_or}
-use Rattle.std.proofs.lemmas.Bool.{lt-ltb, ltb-true, le-leb, eq-eqb, lt-leb, not-true}
+use Rattle.std.proofs.lemmas.Bool.{lt-ltb, ltb-true, le-leb, eq-eqb, lt-leb, not-true, and_from}
 use Rattle.rbc_model.specs.Levels.{Levels, is_same}
 use Rattle.rbc_model.specs.Profiles.{value_at, starts_of, rises_above, is_joined, IsTrackFunction, Reverses}
 use Rattle.rbc_model.proofs.CountingLemmas.{both_of}
+use Rattle.rbc_model.proofs.StepListLemmas.{rises_split, zero_split, all_split, value_at-some}
+use Rattle.rbc_model.proofs.ScanLemmas.{le_or_lt}
 use Rattle.rbc_steps.specs.Mirrored.{start_or, mirrored}
-use Rattle.rbc_steps.proofs.JoinedLemmas.{and, rises_split, zero_split, all_split}
-use Rattle.rbc_steps.proofs.JoinLemmas.{value_at-append, value_at-some, IsTrackFunction-append}
+use Rattle.rbc_steps.proofs.JoinLemmas.{value_at-append, IsTrackFunction-append}
 use Rattle.rbc_steps.proofs.NegatedLemmas.{and_either_way}
 
 -- the first row of an ascending list starts above the bound, and below the end
@@ -23,9 +24,6 @@ none_low low x [] e h = refl
 none_low low x (row ∷ rows) e h =
     let s = rises_split low row.0 (starts_of rows) e in
     rw (none_low row.0 x rows s.1 (omega arith), lt-leb row.0 x (omega arith)) refl
-
-either_side : (p x : ℕ) → (p ≤ x) ⊎ (x < p)
-either_side p x = grind arith
 
 last_of_push : {X : Type 0} (xs : List X) (y d : X) (i : ℕ) → i + 1 ≡ length (xs ++ y ∷ []) → get_or (xs ++ y ∷ []) i d ≡ y
 last_of_push [] y d zero e = refl
@@ -55,7 +53,7 @@ module _ {V : Type 0} (n : ℕ) where
       let y = n - 1 - x in
       let turned = mirrored n (next ∷ rows) in
       let push : List (ℕ × V) = (n - next.0, row.1) ∷ [] in
-      value_at-append turned push x ∙ elim (either_side (n - next.0) x) [
+      value_at-append turned push x ∙ elim (le_or_lt (n - next.0) x) [
         | inl past ↦
             ap (λ t. option_or (if t then Some row.1 else None) (value_at turned x)) (le-leb (n - next.0) x past)
             ∙ ap (λ t. option_or None (if t then Some row.1 else None)) (sym (le-leb row.0 y (omega arith)))
@@ -78,7 +76,7 @@ module _ {V : Type 0} (n : ℕ) where
         let a = all_split (λ start. nat_lt start n) row.0 [] i in
         let below : row.0 < n = ltb-true row.0 n a.0 in
         record {
-          starts = record { rising = and (eq-eqb (n - n) 0 (omega arith)) refl; inside = and (lt-ltb (n - n) (n - row.0) (omega arith)) refl };
+          starts = record { rising = and_from _ _ (eq-eqb (n - n) 0 (omega arith)) refl; inside = and_from _ _ (lt-ltb (n - n) (n - row.0) (omega arith)) refl };
           values = v;
           once = refl;
         }
@@ -92,9 +90,9 @@ module _ {V : Type 0} (n : ℕ) where
         let differ : is_same levels row.1 next.1 ≡ false = and_either_way (levels.at_most row.1 next.1) (levels.at_most next.1 row.1) ∙ not-true (is_same levels next.1 row.1) k.0 in
         IsTrackFunction-append levels (n - next.0) (n - row.0) (mirrored n (next ∷ rows)) ((n - next.0, row.1) ∷ []) (omega arith)
         (mirrored_track next rows s.1 a.1 w.1 k.1)
-        (λ low h. and (lt-ltb low (n - next.0) h) refl)
-        (and (lt-ltb (n - next.0) (n - row.0) (omega arith)) refl)
-        (and w.0 refl)
+        (λ low h. and_from _ _ (lt-ltb low (n - next.0) h) refl)
+        (and_from _ _ (lt-ltb (n - next.0) (n - row.0) (omega arith)) refl)
+        (and_from _ _ w.0 refl)
         refl
         (λ i d h l. let last = last_of_push (mirrored n rows) (n - start_or n rows, next.1) d i h in ap (λ r. is_same levels row.1 r.1) last ∙ differ)
 

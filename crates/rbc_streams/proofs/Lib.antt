@@ -1,6 +1,6 @@
 mod BufferLemmas
 mod LineFeedLemmas
 pub mod LineLemmas
-mod PieceLemmas
+pub mod PieceLemmas
 mod UnderWayLemmas
 pub mod WritingLemmas

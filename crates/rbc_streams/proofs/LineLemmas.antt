@@ -16,9 +16,6 @@ no_feed_tail byte bytes none = λ k d below. none (suc k) d (omega arith)
 lines_of_front : (byte : ℕ) (bytes : List ℕ) → (byte ≡ 10 → ⊥) → lines_of (byte ∷ bytes) ≡ with_front byte (lines_of bytes)
 lines_of_front byte bytes other = rw (ne_eqb byte 10 other) refl
 
-pub lines_of_none : lines_of [] ≡ []
-lines_of_none = refl
-
 -- a line, and what comes after its line feed
 pub lines_of_line : (line rest : List ℕ) → HasNoLineFeed line → lines_of (line ++ 10 ∷ rest) ≡ line ∷ lines_of rest
 lines_of_line [] rest none = refl

@@ -1,5 +1,6 @@
 -- Stretches that stand on a track, and the edges of its runs.
-use Rattle.std.proofs.Common.{◌≡◌, ap, sym, ◌∙◌, arith, ℕ, zero, suc, ◌+◌, ◌-◌, ◌%◌, ◌<◌, ◌≤◌, ◌⊎◌, inl, inr, min, length, get_or, Some}
+use Rattle.std.proofs.Common.{◌≡◌, ap, sym, ◌∙◌, arith, ℕ, zero, suc, ◌+◌, ◌-◌, ◌%◌, ◌<◌, ◌≤◌, inl, inr, min, length, get_or, Some}
+use Rattle.std.proofs.Math.Nat.{eq-or-lt_of_le}
 use Rattle.std.specs.List.{slice_get}
 use Rattle.rbc_model.specs.Levels.{Levels, IsLawful}
 use Rattle.rbc_model.specs.Profiles.{StepFunction, IsTrackFunction}
@@ -10,9 +11,6 @@ use Rattle.rbc_table_laws.proofs.TableLawLemmas.{breaks_walked}
 use Rattle.rbc_table_laws.proofs.StretchLemmas.{breaks_to_end}
 use Rattle.rbc_stretches.specs.OnTracks.{IsStretch}
 use Rattle.rbc_stretches.specs.declared.stretch.Stretch.{Stretch}
-
-last_or_before : (i n : ℕ) → i ≤ n → (i ≡ n) ⊎ (i < n)
-last_or_before i n h = grind arith
 
 module _ {V : Type 0} (levels : Levels V) (lawful : IsLawful levels) (track : StepFunction V) (function : IsTrackFunction levels track.end track.steps) where
   pub edges_are : AreBreaks track (breaks_in track)
@@ -27,7 +25,7 @@ module _ {V : Type 0} (levels : Levels V) (lawful : IsLawful levels) (track : St
 
   -- an edge before the end is where a run starts
   pub some_run : (i : ℕ) → i ≤ length track.steps → edge i < track.end → i < length track.steps
-  some_run i h before = elim (last_or_before i (length track.steps) h) [
+  some_run i h before = elim (eq-or-lt_of_le h) [
     | inl same ↦ let last = edges_are.last in let at : edge i ≡ edge (length track.steps) = ap edge same in absurd (omega arith)
     | inr less ↦ less
   ]
@@ -58,7 +56,7 @@ module _ {V : Type 0} (levels : Levels V) (lawful : IsLawful levels) (track : St
   -- ---- from stretch to stretch
 
   module _ (unit : ℕ) (some : 0 < unit) (whole : track.end % unit ≡ 0) where
-    walked : AreBreaksFor unit track (breaks_for unit track) × AreWalked unit track (breaks_in track) (breaks_for unit track)
+    pub walked : AreBreaksFor unit track (breaks_for unit track) × AreWalked unit track (breaks_in track) (breaks_for unit track)
     walked = breaks_walked levels lawful unit some track whole function (breaks_in track) edges_are
 
     -- break i
@@ -97,7 +95,7 @@ module _ {V : Type 0} (levels : Levels V) (lawful : IsLawful levels) (track : St
 
     -- the break at which a stretch ends is the last one if it is the track's end, and only then
     pub goes_on : (i : ℕ) (s : Stretch) → IsStretch unit track i s → s.to < track.end → i + 2 < length (breaks_for unit track)
-    goes_on i s there before = elim (last_or_before (i + 2) (length (breaks_for unit track)) (let more = there.between in omega arith)) [
+    goes_on i s there before = elim (eq-or-lt_of_le (let more : i + 2 ≤ length (breaks_for unit track) = (let inside = there.between in omega arith) in more)) [
       | inl same ↦
           let last = walked.0.last in
           let to = there.to in
@@ -107,7 +105,7 @@ module _ {V : Type 0} (levels : Levels V) (lawful : IsLawful levels) (track : St
     ]
 
     pub ends : (i : ℕ) (s : Stretch) → IsStretch unit track i s → track.end ≤ s.to → i + 2 ≡ length (breaks_for unit track)
-    ends i s there after = elim (last_or_before (i + 2) (length (breaks_for unit track)) (let more = there.between in omega arith)) [
+    ends i s there after = elim (eq-or-lt_of_le (let more : i + 2 ≤ length (breaks_for unit track) = (let inside = there.between in omega arith) in more)) [
       | inl same ↦ same
       | inr less ↦
           let rises = walked.0.rise (i + 1) (omega arith) in

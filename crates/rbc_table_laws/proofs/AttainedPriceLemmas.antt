@@ -1,5 +1,6 @@
 -- The greatest sound table's last price is the least loss: some profile that fits loses just that.
-use Rattle.std.proofs.Common.{◌≡◌, refl, ap, sym, ◌∙◌, arith, subst, ℕ, zero, suc, ◌+◌, ◌-◌, ◌%◌, ◌<◌, ◌≤◌, ◌⊎◌, inl, inr, List, [], ◌∷◌, length, Option}
+use Rattle.std.proofs.Common.{◌≡◌, refl, ap, sym, ◌∙◌, arith, subst, ℕ, zero, suc, ◌+◌, ◌-◌, ◌%◌, ◌<◌, ◌≤◌, inl, inr, List, [], ◌∷◌, length, Option}
+use Rattle.std.proofs.Math.Nat.{eq-zero-or-pos}
 use Rattle.rbc_model.specs.Levels.{Levels, IsLawful}
 use Rattle.rbc_model.specs.Profiles.{value_at, loss, IsTrackFunction, Fits, IsBestProfile}
 use Rattle.rbc_model.specs.PriceTables.{table_at, row_count, stretch_count, step_cost, break_at, IsGreatestSoundTable}
@@ -72,16 +73,13 @@ module _ {V : Type 0} (levels : Levels V) (lawful : IsLawful levels) (unit limit
     pub best : IsBestProfile levels unit limit n (value_at runs) steps
     pub price : loss levels n (value_at runs) steps ≡ last_price
 
-  zero_or_more : (k : ℕ) → (k ≡ 0) ⊎ (0 < k)
-  zero_or_more k = grind arith
-
   some_stretches : 0 < stretch_count levels unit limit n runs
   some_stretches =
       let are = are_breaks levels lawful unit limit n some whole runs track in
       let first = are.first in
       let last = are.last in
       let metre = track_some levels n runs track in
-      elim (zero_or_more (stretch_count levels unit limit n runs)) [
+      elim (eq-zero-or-pos (stretch_count levels unit limit n runs)) [
         | inl none ↦
             let same : break_at levels unit limit n runs (stretch_count levels unit limit n runs) ≡ break_at levels unit limit n runs 0 = ap (break_at levels unit limit n runs) none in
             absurd (omega arith)

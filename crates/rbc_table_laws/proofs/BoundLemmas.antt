@@ -1,5 +1,6 @@
 -- No profile that fits loses less than a sound table's last price, wherever its cuts are; so one that loses just that is best.
-use Rattle.std.proofs.Common.{◌≡◌, arith, ℕ, ◌%◌, ◌<◌, ◌≤◌, ◌⊎◌, inl, inr, List, [], ◌∷◌, length}
+use Rattle.std.proofs.Common.{◌≡◌, arith, ℕ, ◌%◌, ◌<◌, ◌≤◌, inl, inr, List, [], ◌∷◌, length}
+use Rattle.std.proofs.lemmas.Bool.{cases_lt}
 use Rattle.rbc_model.specs.Levels.{Levels, IsLawful}
 use Rattle.rbc_model.specs.Profiles.{value_at, loss, IsTrackFunction, Fits, IsBestProfile}
 use Rattle.rbc_model.specs.PriceTables.{table_at, row_count, stretch_count, step_cost, break_at, IsSoundTable}
@@ -44,9 +45,6 @@ module _ {V : Type 0} (levels : Levels V) (lawful : IsLawful levels) (unit limit
       least = λ other also. let theirs = price_at_most_loss other also in omega arith;
     }
 
-    fewer_or_not : (a b : ℕ) → (a < b) ⊎ (b ≤ a)
-    fewer_or_not a b = grind arith
-
     some_step : (steps : List (ℕ × V)) → Fits levels unit limit n (value_at runs) steps → 1 ≤ length steps
     some_step [] fits = let none = fits.profile.starts.rising in absurd (cc)
     some_step (step ∷ later) fits = omega arith
@@ -58,7 +56,7 @@ module _ {V : Type 0} (levels : Levels V) (lawful : IsLawful levels) (unit limit
         → ((j : ℕ) → 1 ≤ j → j < length steps → loss levels n (value_at runs) steps < table_at rows j (stretch_count levels unit limit n runs))
         → (other : List (ℕ × V)) → IsBestProfile levels unit limit n (value_at runs) other → length steps ≤ length other
     fewest_of_rows steps fits price few higher other best =
-        elim (fewer_or_not (length other) (length steps)) [
+        elim (cases_lt (length other) (length steps)) [
           | inl fewer ↦
               let no_more = best.least steps fits in
               let theirs = row_price_at_most_loss other best.fits (length other) (omega arith) (omega arith) in

@@ -1,16 +1,16 @@
 -- The breaks of a track: they rise from 0 to its end, and where a place between two of them may be a cut, the track has one value there.
-use Rattle.std.proofs.Common.{◌≡◌, refl, sym, ◌∙◌, arith, subst, ℕ, suc, ◌+◌, ◌-◌, ◌*◌, ◌/◌, ◌%◌, ◌<◌, ◌≤◌, ◌⊎◌, inl, inr, Bool, true, false, List, [], ◌∷◌, length, get_or, Option, Some, None, nat_le, nat_lt, if◌then◌else◌, div-add-mod', mod-lt, mul-le-mul_right, lt_of_mul-lt-mul_right, suc-mul}
+use Rattle.std.proofs.Common.{◌≡◌, refl, sym, ◌∙◌, arith, ℕ, suc, ◌+◌, ◌-◌, ◌*◌, ◌/◌, ◌%◌, ◌<◌, ◌≤◌, ◌⊎◌, inl, inr, true, false, List, [], ◌∷◌, length, get_or, nat_le, nat_lt, div-add-mod', mod-lt, mul-le-mul_right, lt_of_mul-lt-mul_right, suc-mul}
 use Rattle.std.specs.List.{list_all}
-use Rattle.std.specs.Option.{option_or}
-use Rattle.std.proofs.lemmas.Bool.{le-leb, ltb-true}
+use Rattle.std.proofs.lemmas.Bool.{le-leb, ltb-true, cases_lt}
 use Rattle.std.proofs.lemmas.Bool.Decides.{nat_tests}
-use Rattle.rbc_model.specs.Levels.{Levels, IsInRange, IsLawful}
+use Rattle.rbc_model.specs.Levels.{Levels, IsLawful}
 use Rattle.rbc_model.specs.Profiles.{value_at, starts_of, IsTrackFunction}
 use Rattle.rbc_model.specs.PriceTables.{rounded_down, rounded_up, with_number, breaks_of, break_at, stretch_count}
 use Rattle.rbc_model.proofs.RunLemmas.{IsCovered}
+use Rattle.rbc_model.proofs.StepListLemmas.{zero_split, all_split, value_at-some, value_in_range}
 use Rattle.rbc_table_laws.proofs.RisingNumberLemmas.{Rises, Has, AreUpTo, rises_with, has_with, keeps_with, up_to_with, rises_at, not_between, has_first, has_last, up_to_at, has_some, AreWhole, whole_with, whole_at}
 use Rattle.std.proofs.Math.Nat.{mul-mod_left}
-use Rattle.rbc_table_laws.proofs.ChainLemmas.{AreBreaksInUnits, zero_split, all_split, value_some}
+use Rattle.rbc_table_laws.proofs.ChainLemmas.{AreBreaksInUnits}
 
 -- ---- multiples of the unit
 
@@ -47,9 +47,6 @@ module _ (unit : ℕ) (some : 0 < unit) where
       let more = suc-mul (x / unit) unit in
       omega arith
 
-  above_or_not : (a b : ℕ) → (a < b) ⊎ (b ≤ a)
-  above_or_not a b = grind arith
-
   -- ---- the list of the breaks
 
   pub breaks_rise : (n : ℕ) (starts : List ℕ) → Rises 0 (breaks_of unit n starts)
@@ -79,7 +76,7 @@ module _ (unit : ℕ) (some : 0 < unit) where
 
   module _ (n : ℕ) (whole : n % unit ≡ 0) where
     up_inside : (s : ℕ) → s < n → rounded_up unit s ≤ n
-    up_inside s h = elim (above_or_not n (rounded_up unit s)) [
+    up_inside s h = elim (cases_lt n (rounded_up unit s)) [
       | inl above ↦ let low = below_up s n whole above in absurd (omega arith)
       | inr below ↦ below
     ]
@@ -130,24 +127,13 @@ module _ {V : Type 0} where
       rw (value_same runs a y h (λ s has. none s (inr has)), same_test run.0 a y h (none run.0 (inl refl))) refl
 
 module _ {V : Type 0} (levels : Levels V) where
-  pick_range : (t : Bool) (v w : V) (o : Option V) → IsInRange levels v → (o ≡ Some w → IsInRange levels w) → option_or o (if t then Some v else None) ≡ Some w → IsInRange levels w
-  pick_range true v w None r h e = let same : v ≡ w = cc in subst (λ u. IsInRange levels u) same r
-  pick_range false v w None r h e = h e
-  pick_range t v w (Some u) r h e = h e
-
-  values_in_range : (runs : List (ℕ × V)) (x : ℕ) (w : V) → list_all (λ run. levels.in_range run.1) runs ≡ true → value_at runs x ≡ Some w → IsInRange levels w
-  values_in_range [] x w all e = absurd (cc)
-  values_in_range (run ∷ runs) x w all e =
-      let a = all_split (λ run. levels.in_range run.1) run runs all in
-      pick_range (nat_le run.0 x) run.1 w (value_at runs x) a.0 (λ f. values_in_range runs x w a.1 f) e
-
   pub covered_of : (lawful : IsLawful levels) (n : ℕ) (runs : List (ℕ × V)) → IsTrackFunction levels n runs → IsCovered levels lawful n (value_at runs)
   covered_of lawful n [] track = let none = track.starts.rising in absurd (cc)
   covered_of lawful n (run ∷ runs) track = λ x h.
       let z = zero_split run.0 (starts_of runs) track.starts.rising in
       let first = z.0 in
-      let v = value_some run runs x (omega arith) in
-      (v.0, v.1, values_in_range (run ∷ runs) x v.0 track.values v.1)
+      let v = value_at-some run runs x (omega arith) in
+      (v.0, v.1, value_in_range levels (run ∷ runs) x v.0 track.values v.1)
 
   -- a track has a metre
   pub track_some : (n : ℕ) (runs : List (ℕ × V)) → IsTrackFunction levels n runs → 0 < n

@@ -1,32 +1,23 @@
 -- A profile that fits loses no less than some way over the breaks costs.
-use Rattle.std.proofs.Common.{◌≡◌, refl, ap, ◌∙◌, arith, subst, ℕ, zero, suc, ◌+◌, ◌%◌, ◌<◌, ◌≤◌, ◌⊎◌, inl, inr, Bool, true, false, ◌&&◌, List, [], ◌∷◌, length, Option, Some, None, nat_le, nat_lt, ◌==◌}
+use Rattle.std.proofs.Common.{◌≡◌, refl, ap, ◌∙◌, arith, subst, ℕ, zero, suc, ◌+◌, ◌%◌, ◌<◌, ◌≤◌, inl, inr, true, false, ◌&&◌, List, [], ◌∷◌, length, Option, Some, None, nat_le, nat_lt, ◌==◌}
 use Rattle.std.specs.List.{list_all}
-use Rattle.std.specs.Option.{option_or}
-use Rattle.std.proofs.lemmas.Bool.{le-leb, ltb-true, eqb-true}
+use Rattle.std.proofs.lemmas.Bool.{le-leb, ltb-true, eqb-true, cases_lt}
 use Rattle.std.proofs.lemmas.Bool.Decides.{nat_tests}
+use Rattle.std.proofs.Math.Nat.{eq-zero-or-pos}
 use Rattle.rbc_model.specs.Levels.{Levels, IsAtMost, IsLawful}
-use Rattle.rbc_model.specs.Profiles.{value_at, starts_of, rises_above, rises_from_zero, is_within, price_at, sum_below, loss, Fits}
+use Rattle.rbc_model.specs.Profiles.{value_at, starts_of, rises_above, is_within, price_at, sum_below, loss, Fits}
 use Rattle.rbc_model.specs.PriceTables.{cost}
 use Rattle.rbc_model.proofs.CountingLemmas.{both_of}
 use Rattle.rbc_model.proofs.RunLemmas.{IsCovered}
+use Rattle.rbc_model.proofs.StepListLemmas.{rises_split, zero_split, all_split, value_at-some}
+use Rattle.rbc_model.proofs.LevelLemmas.{one_way}
+use Rattle.rbc_model.proofs.BasicLemmas.{next_or_at_most}
 use Rattle.rbc_table_laws.proofs.SumLemmas.{sum_between, sum_between_same, sum_rises}
 use Rattle.rbc_table_laws.proofs.LeastLemmas.{spent, IsGiven, cost_lowest}
 use Rattle.rbc_table_laws.proofs.WayLemmas.{Reach}
 use Rattle.rbc_table_laws.proofs.ExchangeLemmas.{IsFlat, IsWorld, IsChain, reach_all}
 
 -- ---- lists of steps
-
-pub rises_split : (low start : ℕ) (later : List ℕ) → rises_above low (start ∷ later) ≡ true → (low < start) × (rises_above start later ≡ true)
-rises_split low start later e = let b = both_of (nat_lt low start) (rises_above start later) e in (ltb-true low start b.0, b.1)
-
-pub zero_split : (start : ℕ) (later : List ℕ) → rises_from_zero (start ∷ later) ≡ true → (start ≡ 0) × (rises_above start later ≡ true)
-zero_split start later e =
-    let b = both_of (start == 0) (rises_above 0 later) e in
-    let first : start ≡ 0 = eqb-true start 0 b.0 in
-    (first, rw first b.1)
-
-pub all_split : {X : Type 0} (test : X → Bool) (x : X) (xs : List X) → list_all test (x ∷ xs) ≡ true → (test x ≡ true) × (list_all test xs ≡ true)
-all_split test x xs e = both_of (test x) (list_all test xs) e
 
 module _ {V : Type 0} where
   -- no step starts before the first
@@ -49,17 +40,10 @@ module _ {V : Type 0} where
       let not_yet : nat_le next.0 x ≡ false = grind (arith, nat_tests) in
       rw (none, not_yet, le-leb step.0 x low) refl
 
-  or_some : (o : Option V) (v : V) → (w : V) × (option_or o (Some v) ≡ Some w)
-  or_some None v = (v, refl)
-  or_some (Some w) v = (w, refl)
-
-  pub value_some : (row : ℕ × V) (rows : List (ℕ × V)) (x : ℕ) → row.0 ≤ x → (v : V) × (value_at (row ∷ rows) x ≡ Some v)
-  value_some row rows x h = rw (le-leb row.0 x h) (or_some (value_at rows x) row.1)
-
   -- from the next start on it is that of the later steps
   pub value_later : (x : ℕ) (step next : ℕ × V) (later : List (ℕ × V)) → next.0 ≤ x → value_at (step ∷ next ∷ later) x ≡ value_at (next ∷ later) x
   value_later x step next later h =
-      let there = value_some next later x h in
+      let there = value_at-some next later x h in
       rw there.1 refl
 
 -- ---- breaks
@@ -75,21 +59,12 @@ module _ {V : Type 0} (levels : Levels V) (unit limit n : ℕ) (track : ℕ → 
   abbrev pub costs : ℕ → ℕ → ℕ
   costs i i' = cost levels track (break i) (break i')
 
-  last_or_before : (i j : ℕ) → i ≤ suc j → (i ≡ suc j) ⊎ (i ≤ j)
-  last_or_before i j h = grind arith
-
   pub breaks_up : AreBreaksInUnits → (i j : ℕ) → i ≤ j → j ≤ m → break i ≤ break j
   breaks_up are i zero h inside = let same : break i ≡ break 0 = ap break (omega arith) in omega arith
-  breaks_up are i (suc j) h inside = elim (last_or_before i j h) [
+  breaks_up are i (suc j) h inside = elim (next_or_at_most i j h) [
     | inl e ↦ let same : break i ≡ break (suc j) = ap break e in omega arith
     | inr l ↦ let before = breaks_up are i j l (omega arith) in let up = are.rise j (omega arith) in omega arith
   ]
-
-  before_or_after : (x y : ℕ) → (x < y) ⊎ (y ≤ x)
-  before_or_after x y = grind arith
-
-  one_way : (a b : ℕ) → (a ≤ b) ⊎ (b ≤ a)
-  one_way a b = grind arith
 
   -- where the track has one value
   module _ (i : ℕ) (t : V) (one : (y : ℕ) → break i ≤ y → y < break (suc i) → track y ≡ Some t) where
@@ -113,7 +88,7 @@ module _ {V : Type 0} (levels : Levels V) (unit limit n : ℕ) (track : ℕ → 
       back = λ v x y low high rises given. record {
         in_range = given.in_range;
         expressible = given.expressible;
-        under = λ z l h u there. elim (before_or_after z x) [
+        under = λ z l h u there. elim (cases_lt z x) [
           | inl before ↦ under_there v u x z low high l (omega arith) (λ w at. given.under x (omega arith) rises w at) there
           | inr after ↦ given.under z after h u there
         ];
@@ -121,7 +96,7 @@ module _ {V : Type 0} (levels : Levels V) (unit limit n : ℕ) (track : ℕ → 
       onward = λ v x y low high inside given. record {
         in_range = given.in_range;
         expressible = given.expressible;
-        under = λ z l h u there. elim (before_or_after z y) [
+        under = λ z l h u there. elim (cases_lt z y) [
           | inl before ↦ given.under z l before u there
           | inr after ↦ under_there v u (break i) z (omega arith) (omega arith) (omega arith) h (λ w at. given.under (break i) low high w at) there
         ];
@@ -206,11 +181,8 @@ module _ {V : Type 0} (levels : Levels V) (unit limit n : ℕ) (track : ℕ → 
             chain_of next later s.1 rest.1 whole.1 ok.1 (λ x low. agree x (omega arith) ∙ value_later x step next later low),
           )
 
-    zero_or_more : (k : ℕ) → (k ≡ 0) ⊎ (0 < k)
-    zero_or_more k = grind arith
-
     some_break : 0 < n → 0 < m
-    some_break h = elim (zero_or_more m) [
+    some_break h = elim (eq-zero-or-pos m) [
       | inl none ↦ let first = are.first in let last = are.last in let same : break m ≡ break 0 = ap break none in absurd (omega arith)
       | inr some ↦ some
     ]

@@ -4,18 +4,16 @@ use Rattle.std.specs.List.{list_all}
 use Rattle.std.proofs.lemmas.Bool.{eq-eqb, and_from}
 use Rattle.rbc_model.specs.Levels.{Levels}
 use Rattle.rbc_model.specs.PriceTables.{table_at, step_cost, stretch_count, row_count, IsSoundTable, IsGreatestSoundTable}
+use Rattle.rbc_model.proofs.BasicLemmas.{next_or_at_most}
 use Rattle.rbc_table_laws.specs.LeastTables.{least_to, made, least_price, filled}
 use Rattle.rbc_table_laws.proofs.WayLemmas.{Reach, way_dearer, reach_on}
 
 -- ---- the least of the numbers at 0 to `last`
 
-last_or_before : (i last : ℕ) → i ≤ suc last → (i ≡ suc last) ⊎ (i ≤ last)
-last_or_before i last h = grind arith
-
 least_at_most : (last : ℕ) (f : ℕ → ℕ) (i : ℕ) → i ≤ last → least_to last f ≤ f i
 unfolding least_to
 least_at_most zero f i h = let same : f i ≡ f 0 = ap f (omega arith) in omega arith
-least_at_most (suc last) f i h = elim (last_or_before i last h) [
+least_at_most (suc last) f i h = elim (next_or_at_most i last h) [
   | inl e ↦ let same : f i ≡ f (suc last) = ap f e in omega arith
   | inr l ↦ let before = least_at_most last f i l in omega arith
 ]

@@ -1,9 +1,10 @@
 -- The least value of a track over a stretch, and that no value which may be given there loses less than its floor.
-use Rattle.std.proofs.Common.{◌≡◌, refl, ap, sym, ◌∙◌, arith, subst, ℕ, zero, suc, ◌+◌, ◌-◌, ◌<◌, ◌≤◌, ◌⊎◌, inl, inr, Bool, true, false, Option, Some, None, IsTrue}
+use Rattle.std.proofs.Common.{◌≡◌, refl, ap, sym, ◌∙◌, arith, subst, ℕ, zero, suc, ◌+◌, ◌-◌, ◌<◌, ◌≤◌, inl, inr, Bool, true, false, Option, Some, None, IsTrue}
 use Rattle.rbc_model.specs.Levels.{Levels, IsInRange, IsAtMost, IsLawful, is_below}
 use Rattle.rbc_model.specs.Profiles.{price_at, sum_below}
 use Rattle.rbc_model.specs.PriceTables.{least_value, cost}
 use Rattle.rbc_model.proofs.RunLemmas.{IsCovered}
+use Rattle.rbc_model.proofs.CountingLemmas.{last_or_below}
 use Rattle.rbc_table_laws.proofs.SumLemmas.{sum_at_most, sum_from}
 
 -- of two values one is no higher than the other
@@ -58,9 +59,6 @@ module _ {V : Type 0} (levels : Levels V) (n : ℕ) (track : ℕ → Option V) w
               at_most_same c.0 c.0 v (track (from + 0)) c.2 c.1 at refl;
         }
 
-    last_or_before : (x n : ℕ) → x < suc n → (x ≡ n) ⊎ (x < n)
-    last_or_before x n h = grind arith
-
     least_more : (from count : ℕ) (here : V) (test : Bool) → from + count < n → (before : IsLeast from count) → track (from + count) ≡ Some here → levels.at_most before.least here ≡ test
         → IsLeast from (suc count)
     least_more from count here true h before there e =
@@ -72,7 +70,7 @@ module _ {V : Type 0} (levels : Levels V) (n : ℕ) (track : ℕ → Option V) w
           place = before.place;
           placed = omega arith;
           there = before.there;
-          below = λ x l v at. elim (last_or_before x count l) [
+          below = λ x l v at. elim (last_or_below count x l) [
             | inl same ↦
                 let is : track (from + count) ≡ Some v = ap (λ k. track (from + k)) (sym same) ∙ at in
                 let value : here ≡ v = cc in
@@ -90,7 +88,7 @@ module _ {V : Type 0} (levels : Levels V) (n : ℕ) (track : ℕ → Option V) w
           place = count;
           placed = omega arith;
           there = there;
-          below = λ x l v at. elim (last_or_before x count l) [
+          below = λ x l v at. elim (last_or_below count x l) [
             | inl same ↦
                 let is : track (from + count) ≡ Some v = ap (λ k. track (from + k)) (sym same) ∙ at in
                 at_most_same here here v (track (from + count)) range there is refl

@@ -2,7 +2,7 @@
 use Rattle.std.proofs.Common.{◌≡◌, ◌≢◌, refl, ap, ap₂, ◌∙◌, arith, subst, ℕ, zero, suc, ◌+◌, ◌-◌, ◌%◌, ◌<◌, ◌≤◌, Bool, true, false, List, [], ◌∷◌, ◌++◌, length, Option, Some, None, option_map, ◌==◌}
 use Rattle.std.specs.Prelude.{find, unwrap_or, slice_index}
 use Rattle.std.specs.List.{list_all, range_with_len}
-use Rattle.std.proofs.lemmas.Bool.{eq-eqb, eqb-true}
+use Rattle.std.proofs.lemmas.Bool.{eq-eqb, eqb-true, both_ways}
 use Rattle.rbc_model.specs.Levels.{Levels, IsLawful}
 use Rattle.rbc_model.specs.Profiles.{value_at, IsTrackFunction}
 use Rattle.rbc_model.specs.PriceTables.{table_at, row_count, stretch_count, step_cost, break_at, IsSoundTable, IsGreatestSoundTable}
@@ -90,11 +90,8 @@ module _ {V : Type 0} (levels : Levels V) (unit limit n : ℕ) (runs : List (ℕ
 pub first_below-found : (bound : ℕ) (test : ℕ → Bool) (k : ℕ) → k < bound → test k ≡ true → IsFirst test 0 bound (first_below bound test)
 first_below-found bound test k inside passes = by_find (find test (range_with_len 0 bound)) refl
   where
-    no : (b : Bool) → b ≡ true → b ≡ false → ⊥
-    no b e f = cc
-
     by_find : (o : Option ℕ) → find test (range_with_len 0 bound) ≡ o → IsFirst test 0 bound (unwrap_or o bound)
-    by_find None e = absurd (no (test k) passes (find-numbers_none test 0 bound e k (omega arith) (omega arith)))
+    by_find None e = absurd (both_ways (test k) (find-numbers_none test 0 bound e k (omega arith) (omega arith)) passes)
     by_find (Some i) e = find-numbers test 0 bound i e
 
 not_same : (a b : ℕ) → (a == b) ≡ false → a ≢ b

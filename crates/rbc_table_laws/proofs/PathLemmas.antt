@@ -1,5 +1,6 @@
 -- Paths: ways over the breaks together with their starts, the last one first. A profile with its starts at breaks is one.
 use Rattle.std.proofs.Common.{◌≡◌, refl, ap, sym, ◌∙◌, arith, subst, ℕ, zero, suc, ◌+◌, ◌<◌, ◌≤◌, ◌⊎◌, inl, inr, List, [], ◌∷◌, length, Option}
+use Rattle.std.proofs.lemmas.Bool.{cases_lt}
 use mathlib.Core.List.{reverse_aux}
 use Rattle.rbc_model.specs.Levels.{Levels, IsLawful}
 use Rattle.rbc_model.specs.Profiles.{starts_of}
@@ -36,12 +37,9 @@ module _ {V : Type 0} (levels : Levels V) (unit limit n : ℕ) (track : ℕ → 
   abbrev Path : ℕ → ℕ → List ℕ → ℕ → Type 0
   Path = IsPath break (costs levels unit limit n track m break)
 
-  below_or_not : (i j : ℕ) → (i < j) ⊎ (j ≤ i)
-  below_or_not i j = grind arith
-
   -- of two breaks the earlier one has the lower number
   pub break_order : (i j : ℕ) → i ≤ m → break i < break j → i < j
-  break_order i j inside h = elim (below_or_not i j) [
+  break_order i j inside h = elim (cases_lt i j) [
     | inl l ↦ l
     | inr l ↦ let up = breaks_up levels unit limit n track m break are j i l inside in absurd (omega arith)
   ]
@@ -64,7 +62,7 @@ module _ {V : Type 0} (levels : Levels V) (unit limit n : ℕ) (track : ℕ → 
   path_on : (k i price rest total : ℕ) (back : List ℕ) (steps : List (ℕ × V)) → i ≤ m → price + rest ≤ total → Path k i back price
       → IsTail levels unit limit n track (break i) steps rest → AreCuts m break steps → Path (k + length steps) m (reverse_aux (starts_of steps) back) total
   path_on k i price rest total back [] inside sum p t cuts =
-      let end = end_is i inside t (below_or_not i m) in
+      let end = end_is i inside t (cases_lt i m) in
       let dearer = path_dearer break (costs levels unit limit n track m break) k i back price total (omega arith) p in
       let count : k ≡ k + 0 = omega arith in
       subst (λ c. Path c m back total) count (subst (λ e. Path k e back total) end dearer)

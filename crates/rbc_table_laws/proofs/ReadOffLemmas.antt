@@ -4,6 +4,7 @@ use Rattle.std.proofs.lemmas.List.{reverse-reverse, length-reverse}
 use Rattle.rbc_model.specs.Levels.{Levels, IsLawful}
 use Rattle.rbc_model.specs.Profiles.{value_at, IsTrackFunction}
 use Rattle.rbc_model.specs.PriceTables.{table_at, row_count, stretch_count, step_cost, break_at, IsGreatestSoundTable}
+use Rattle.rbc_model.proofs.CountingLemmas.{last_or_below}
 use Rattle.rbc_table_laws.specs.TableLaws.{row_price, last_price}
 use Rattle.rbc_table_laws.specs.Tracebacks.{IsStepBack, IsTraceback, IsOnWay, IsFound, IsReadOff, IsReadable}
 use Rattle.rbc_table_laws.proofs.LeastLemmas.{least_between}
@@ -21,9 +22,6 @@ record IsFirst (f : ℕ → ℕ) (target i : ℕ) : Type 0 where
   is : f at ≡ target
   first : (k : ℕ) → k < at → f k ≢ target
 
-last_or_before : (k i : ℕ) → k < suc i → (k ≡ i) ⊎ (k < i)
-last_or_before k i h = grind arith
-
 first_or_none : (f : ℕ → ℕ) (target i : ℕ) → IsFirst f target i ⊎ ((k : ℕ) → k < i → f k ≢ target)
 first_or_none f target zero = inr (λ k h. absurd (omega arith))
 first_or_none f target (suc i) = on (first_or_none f target i) (cases_eq (f i) target)
@@ -31,7 +29,7 @@ first_or_none f target (suc i) = on (first_or_none f target i) (cases_eq (f i) t
     on : IsFirst f target i ⊎ ((k : ℕ) → k < i → f k ≢ target) → (f i ≡ target) ⊎ (f i ≡ target → ⊥) → IsFirst f target (suc i) ⊎ ((k : ℕ) → k < suc i → f k ≢ target)
     on (inl found) here = let inside = found.inside in inl (record { at = found.at; inside = omega arith; is = found.is; first = found.first })
     on (inr none) (inl e) = inl (record { at = i; inside = omega arith; is = e; first = none })
-    on (inr none) (inr not) = inr (λ k h. elim (last_or_before k i h) [ inl same ↦ (λ e. not (ap f (sym same) ∙ e)) | inr before ↦ none k before ])
+    on (inr none) (inr not) = inr (λ k h. elim (last_or_below i k h) [ inl same ↦ (λ e. not (ap f (sym same) ∙ e)) | inr before ↦ none k before ])
 
 first_of : (f : ℕ → ℕ) (target i k : ℕ) → k < i → f k ≡ target → IsFirst f target i
 first_of f target i k h e = elim (first_or_none f target i) [ inl found ↦ found | inr none ↦ absurd (none k h e) ]

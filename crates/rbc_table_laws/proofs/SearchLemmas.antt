@@ -1,5 +1,6 @@
 -- A search from the last column of the greatest sound table backwards finds a break in each row, and ends at the start.
 use Rattle.std.proofs.Common.{◌≡◌, ◌≢◌, refl, ap, sym, arith, subst, ℕ, zero, suc, ◌+◌, ◌%◌, ◌<◌, ◌≤◌, ◌⊎◌, inl, inr, List, [], ◌∷◌, ◌++◌}
+use Rattle.std.proofs.lemmas.Bool.{cases_lt}
 use Rattle.rbc_model.specs.Levels.{Levels, IsLawful}
 use Rattle.rbc_model.specs.Profiles.{IsTrackFunction}
 use Rattle.rbc_model.specs.PriceTables.{table_at, row_count, stretch_count, step_cost, IsGreatestSoundTable}
@@ -99,9 +100,6 @@ module _ {V : Type 0} (levels : Levels V) (unit limit n : ℕ) (runs : List (ℕ
     first_is_start : (i found : ℕ) → found ≡ 0 → (i ≤ found) → i ≡ 0
     first_is_start i found e h = omega arith
 
-    before_or_not : (a b : ℕ) → (a < b) ⊎ (b ≤ a)
-    before_or_not a b = grind arith
-
     next_of : (j i' i : ℕ) → suc j ≤ row_count levels unit limit n runs → i' ≤ stretch_count levels unit limit n runs → IsOnWay levels unit limit n runs rows (suc j) i' → i < i'
         → table_at rows j i + cost i i' ≡ table_at rows (suc j) i'
         → ((k : ℕ) → k < i → table_at rows j k + cost k i' ≢ table_at rows (suc j) i') → IsOnWay levels unit limit n runs rows j i
@@ -112,7 +110,7 @@ module _ {V : Type 0} (levels : Levels V) (unit limit n : ℕ) (runs : List (ℕ
           on.first (suc k) (omega arith) (omega arith) (omega arith);
       start = λ e.
           let found = found_of j i' row column on in
-          elim (before_or_not found.0 i) [
+          elim (cases_lt found.0 i) [
             | inl before ↦ absurd (first found.0 before found.2)
             | inr h ↦ first_is_start i found.0 (found.3 e) h
           ];

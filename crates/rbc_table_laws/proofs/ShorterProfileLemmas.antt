@@ -1,6 +1,7 @@
 -- Of two steps that meet between two breaks, where the track has one value, either both have one value, and are one
 -- step, or the higher one takes from the lower one up to a break or all of it. So some profile does better.
 use Rattle.std.proofs.Common.{◌≡◌, refl, ap, sym, arith, subst, ℕ, suc, ◌+◌, ◌-◌, ◌%◌, ◌<◌, ◌≤◌, ◌⊎◌, inl, inr, Bool, true, false, List, ◌∷◌, length, Option, Some}
+use Rattle.std.proofs.lemmas.Bool.{cases_lt}
 use Rattle.rbc_model.specs.Levels.{Levels, IsInRange, IsAtMost, IsLawful, is_below}
 use Rattle.rbc_model.specs.Profiles.{price_at}
 use Rattle.rbc_model.proofs.RunLemmas.{IsCovered}
@@ -36,9 +37,6 @@ module _ {V : Type 0} (levels : Levels V) (unit limit n : ℕ) (track : ℕ → 
         short = omega arith;
         less = omega arith;
       }
-
-  before_or_after : (x y : ℕ) → (x < y) ⊎ (y ≤ x)
-  before_or_after x y = grind arith
 
   -- two steps that meet at place y
   module _ (x y z rest price : ℕ) (first second : V) (later : List (ℕ × V)) (up : x < y) (on : y < z) (cut : x % unit ≡ 0)
@@ -76,7 +74,7 @@ module _ {V : Type 0} (levels : Levels V) (unit limit n : ℕ) (track : ℕ → 
     both_given same = record {
       in_range = given.in_range;
       expressible = given.expressible;
-      under = λ k l h u there. elim (before_or_after k y) [
+      under = λ k l h u there. elim (cases_lt k y) [
         | inl before ↦ given.under k l before u there
         | inr after ↦ subst (λ v. IsAtMost levels v u) (sym same) (then.under k after h u there)
       ];
@@ -114,7 +112,7 @@ module _ {V : Type 0} (levels : Levels V) (unit limit n : ℕ) (track : ℕ → 
       when_second : levels.price t second < levels.price t first → IsBetter x ((x, first) ∷ (y, second) ∷ later) price
       when_second less =
           let back = (flat_of levels unit limit n track m break i t one).back second y z (omega arith) high on then in
-          elim (before_or_after x (break i)) [
+          elim (cases_lt x (break i)) [
             | inl before ↦
                 let gain = strictly second first less (break i) y (omega arith) low (omega arith) in
                 two_steps (break i) before (omega arith) (whole i stretch)
@@ -134,10 +132,10 @@ module _ {V : Type 0} (levels : Levels V) (unit limit n : ℕ) (track : ℕ → 
 
       -- the first value is higher: it goes on to the break, or to the second end
       when_first : levels.price t first < levels.price t second → IsBetter x ((x, first) ∷ (y, second) ∷ later) price
-      when_first less = elim (before_or_after (break (suc i)) z) [
+      when_first less = elim (cases_lt (break (suc i)) z) [
         | inl before ↦
             let gain = strictly first second less y (break (suc i)) (omega arith) high (omega arith) in
-            let end = not_last (omega arith) (before_or_after (suc i) m) in
+            let end = not_last (omega arith) (cases_lt (suc i) m) in
             two_steps (break (suc i)) (omega arith) before (whole (suc i) end) (go_on (break (suc i)) (omega arith) (omega arith))
             (record { in_range = then.in_range; expressible = then.expressible; under = λ k l h u there. then.under k (omega arith) h u there }) (omega arith)
         | inr after ↦
@@ -149,7 +147,7 @@ module _ {V : Type 0} (levels : Levels V) (unit limit n : ℕ) (track : ℕ → 
           go_on e above below = record {
             in_range = given.in_range;
             expressible = given.expressible;
-            under = λ k l h u there. elim (before_or_after k y) [
+            under = λ k l h u there. elim (cases_lt k y) [
               | inl before ↦ given.under k l before u there
               | inr after ↦
                   under_there levels unit limit n track m break i t one first u (y - 1) k (omega arith) (omega arith) (omega arith) (omega arith)

@@ -5,11 +5,13 @@ use Rattle.std.proofs.lemmas.Bool.{ltb-true, eqb-true}
 use Rattle.rbc_model.specs.Levels.{Levels, IsLawful}
 use Rattle.rbc_model.specs.Profiles.{value_at, starts_of, rises_above, is_within, price_at, loss, Fits, IsBestProfile}
 use Rattle.rbc_model.proofs.RunLemmas.{IsCovered}
+use Rattle.rbc_model.proofs.StepListLemmas.{rises_split, zero_split, all_split}
+use Rattle.rbc_model.proofs.BasicLemmas.{same_or_later}
 use Rattle.rbc_table_laws.proofs.SumLemmas.{sum_rises}
 use Rattle.rbc_table_laws.proofs.LeastLemmas.{spent, IsGiven}
 use Rattle.rbc_table_laws.proofs.TailLemmas.{IsTail, tail_dearer, tail_inside, tail_fits, tail_loss}
 use Rattle.rbc_table_laws.proofs.ExchangeLemmas.{find_in}
-use Rattle.rbc_table_laws.proofs.ChainLemmas.{AreBreaksInUnits, costs, world, rises_split, zero_split, all_split, value_last, value_here, value_later, lost, given_of, loses_of}
+use Rattle.rbc_table_laws.proofs.ChainLemmas.{AreBreaksInUnits, costs, world, value_last, value_here, value_later, lost, given_of, loses_of}
 use Rattle.rbc_table_laws.proofs.ShorterProfileLemmas.{IsBetter, better_on, better_at_cut}
 
 -- the number is a break before the last
@@ -97,9 +99,6 @@ module _ {V : Type 0} (levels : Levels V) (unit limit n : ℕ) (track : ℕ → 
         let from_zero = subst (λ x. IsTail levels unit limit n track x (step ∷ later) (lost_before (step ∷ later) fits.below n - lost_before (step ∷ later) fits.below x)) z.0 tail in
         tail_dearer levels unit limit n track 0 (step ∷ later) (loss levels n track (step ∷ later) - 0) (loss levels n track (step ∷ later)) (omega arith) from_zero
 
-    at_or_above : (x y : ℕ) → x ≤ y → (y ≡ x) ⊎ (x < y)
-    at_or_above x y h = grind arith
-
     cuts_on : (x : ℕ) (step next : ℕ × V) (later : List (ℕ × V)) (price : ℕ) → (t : IsTail levels unit limit n track x (step ∷ next ∷ later) price) → IsCut m break next.0
         → AreCuts m break later ⊎ IsBetter levels unit limit n track t.0 (next ∷ later) t.1 → AreCuts m break (next ∷ later) ⊎ IsBetter levels unit limit n track x (step ∷ next ∷ later) price
     cuts_on x step next later price t cut (inl rest) = inl (cut, rest)
@@ -119,7 +118,7 @@ module _ {V : Type 0} (levels : Levels V) (unit limit n : ℕ) (track : ℕ → 
         let there = find_in (spent levels n track) (IsGiven levels n track) m break (costs levels unit limit n track m break) (world levels unit limit n track m break lawful covered are) m t.0 (omega arith) (omega arith) in
         let low = there.low in
         let high = there.high in
-        elim (at_or_above (break there.stretch) t.0 there.low) [
+        elim (same_or_later (break there.stretch) t.0 there.low) [
           | inl e ↦
               cuts_on x step next later price t (record { at = there.stretch; inside = there.inside; is = after.2 ∙ e })
               (cuts_of t.0 next later t.1 t.7)

@@ -10,8 +10,9 @@ use Rattle.rbc_model.specs.PriceTables.{stretch_count, breaks_of, with_number, r
 use Rattle.rbc_table_laws.specs.Breaks.{AreBreaks}
 use Rattle.rbc_table_laws.proofs.RisingNumberLemmas.{Rises, rises_at}
 use Rattle.rbc_table_laws.proofs.BreakLemmas.{breaks_rise}
-use Rattle.rbc_table_laws.proofs.ChainLemmas.{rises_split, zero_split, all_split, value_last, value_here}
+use Rattle.rbc_table_laws.proofs.ChainLemmas.{value_last, value_here}
 use Rattle.rbc_model.proofs.BasicLemmas.{same_number}
+use Rattle.rbc_model.proofs.StepListLemmas.{rises_split, zero_split, all_split}
 
 -- ---- the list
 

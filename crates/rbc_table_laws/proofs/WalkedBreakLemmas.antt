@@ -10,9 +10,9 @@ use Rattle.rbc_model.specs.PriceTables.{rounded_down, rounded_up, with_number, b
 use Rattle.rbc_table_laws.specs.Stretches.{AreBreaksFor, AreWalked, break_behind, break_before}
 use Rattle.rbc_table_laws.proofs.RisingNumberLemmas.{Rises, Has, rises_at, not_between, whole_at}
 use Rattle.rbc_table_laws.proofs.BreakLemmas.{down_below, up_above, above_down, below_up, breaks_rise, has_end, has_down, has_up, breaks_whole, some_breaks, first_is, last_is, at_most_end, track_some}
-use Rattle.rbc_table_laws.proofs.ChainLemmas.{all_split}
 use Rattle.rbc_table_laws.proofs.TrackBreakLemmas.{breaks_are}
 use Rattle.rbc_model.proofs.ScanLemmas.{le_or_lt}
+use Rattle.rbc_model.proofs.StepListLemmas.{all_split}
 
 -- ---- numbers of a list
 

@@ -1,6 +1,5 @@
 -- Names that stand beside entries find the entries.
 use Rattle.std.proofs.Common.{◌≡◌, ℕ, ◌+◌, ◌<◌, ◌≤◌, Bool, true, false, not, ◌||◌, ◌&&◌, ◌==◌, cond, nat_lt, nat_eq, zero, suc, option_and_then, List, [], ◌∷◌, length, map, Option, Some, None, refl, sym, ap, ◌∙◌, arith, position, find, slice_get}
-use Rattle.std.specs.Prelude.{Result, Ok, Err, OnErr}
 use Rattle.std.specs.List.{list_all, list_any, position_or_len}
 use Rattle.std.proofs.Common.{Bor, get_or, is_some, IfSome, option_copied, ltb-false, ltb-true}
 use Rattle.std.proofs.lemmas.Option.{slice_get_read}
@@ -60,9 +59,6 @@ find-passes test good (x ∷ xs) (Some y) all e =
     found_at good x (find test xs) y (test x) both.0 (λ f. find-passes test good xs (Some y) both.1 f) e
 
 -- ---- what is known of a refusal
-pub on_err : {A E : Type 0} (result : Result A E) (P : Type 0) → P → OnErr result P
-on_err (Ok x) P h = tt
-on_err (Err e) P h = h
 
 -- ---- groups, by keys
 

@@ -5,4 +5,4 @@ mod LastingLemmas
 mod MakingLemmas
 pub mod LinkKeyLemmas
 pub mod RouteLemmas
-mod WrittenLemmas
+pub mod WrittenLemmas

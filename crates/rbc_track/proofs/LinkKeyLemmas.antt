@@ -8,6 +8,7 @@ use Rattle.rbc_model.specs.declared.places.Direction.TheVariants.{Rising, Fallin
 use Rattle.rbc_model.specs.declared.places.Leg.{Leg}
 use Rattle.rbc_model.specs.declared.tracks.Link.{Link}
 use Rattle.rbc_model.specs.Tracks.{direction_eq, leg_eq, opposite, reverse_leg, joins}
+use Rattle.rbc_model.proofs.BasicLemmas.{or_second}
 use Rattle.rbc_track.specs.declared.links.LegKey.{LegKey}
 use Rattle.rbc_track.specs.declared.links.LinkKey.{LinkKey}
 use Rattle.rbc_track.specs.LinkKeys.{is_rising, leg_key, link_key, reverse_key, back_key, leg_key_eq, link_key_eq, names, AreKeysOf}
@@ -72,9 +73,6 @@ pub looked_up : (keys : List LinkKey) (links : List Link) (from to : Leg) → Ar
 looked_up keys links from to are =
     ap₂ (λ x y. x || y) (are from to) (ap (λ key. list_any (link_key_eq key) keys) (back_same from to) ∙ are (reverse_leg to) (reverse_leg from))
     ∙ sym (both_ways from to links)
-
-or_second : (a b : Bool) → a ≡ false → (a || b) ≡ b
-or_second a b h = rw h refl
 
 module _ (keys : List LinkKey) (links : List Link) (from to : Leg) (are : AreKeysOf links keys) (key back : LinkKey) (is : key ≡ link_key from to) where
   -- the legs' key is there: they are joined

@@ -18,6 +18,7 @@ use Rattle.rbc_model.specs.Tracks.{Section, direction_eq, leg_eq, joins}
 use Rattle.rbc_model.specs.TrackParts.{LinkPart, RoutePart, section_number, leg_of, link_of, route_of}
 use Rattle.rbc_model.specs.SoundTracks.{link_refusal, is_leg_of, is_good_link, sections_differ, are_linked, but_last, is_good_entry, is_good_route}
 use Rattle.rbc_model.proofs.CountingLemmas.{both_of}
+use Rattle.rbc_model.proofs.BasicLemmas.{number_turned}
 use Rattle.rbc_track.specs.Tables.{with_links}
 use Rattle.rbc_track.proofs.JudgingLemmas.{by_refusal}
 use Rattle.rbc_track.specs.Written.{written_eq, written_reverse, writes, written_joins, are_joined, is_on, lies_on, is_good_written_link, names_differ, are_all_joined, is_good_written_entry, is_good_written_route}
@@ -32,9 +33,6 @@ bytes_turned a b = same_from_decides (bytes_eq a b) (bytes_eq b a) (bytes_eq-Dec
 
 bytes_same : (a b : List ℕ) → bytes_eq a b ≡ true → a ≡ b
 bytes_same a b = (bytes_eq-Decides a b).0
-
-number_turned : (m n : ℕ) → (m == n) ≡ (n == m)
-number_turned m n = grind arith
 
 -- ---- the place of a name
 

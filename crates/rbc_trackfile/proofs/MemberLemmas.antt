@@ -1,10 +1,8 @@
 -- The keys of a table, as TOML and as the definition look them up.
-use Rattle.std.proofs.Common.{not, None, [], ◌∷◌, ap, Ok, Err, ◌≡◌, ℕ, Bool, true, false, List, Option, Some, option_map, Ordering, Less, Equal, Greater, nat_cmp, is_eq, bytes_eq, find, cond, Decides, refl, sym, ◌∙◌}
+use Rattle.std.proofs.Common.{not, None, [], ◌∷◌, ap, Ok, Err, ◌≡◌, ℕ, Bool, true, false, List, Option, Some, option_map, Ordering, Less, Equal, Greater, nat_cmp, is_eq, bytes_eq, find, cond, refl, sym, ◌∙◌}
 use Rattle.std.specs.Ordering.{match_ordering}
 use Rattle.std.specs.Cmp.Lexicographic.{slice_cmp}
-use Rattle.std.proofs.lemmas.Slice.Eq.{bytes_eq-Decides}
 use Rattle.std.proofs.lemmas.Map.Text.{is_eq-slice_cmp}
-use Rattle.std.proofs.lemmas.Bool.Decides.{same_from_decides}
 use Rattle.toml.specs.Data.{Data, Members, no_members, member, get_member}
 use Rattle.std.specs.List.{AllByRecursion, list_any}
 use Rattle.std.specs.List.Sorted.{IsStrictlySortedBy}
@@ -19,12 +17,7 @@ use Rattle.rbc_model.specs.declared.files.FileFault.TheVariants.{Unknown}
 use Rattle.rbc_model.specs.TrackFile.{AreInKeyOrder, FileEntry, key_text, no_unknown}
 use Rattle.rbc_trackfile.specs.TomlFile.{member_list, toml_document}
 use Rattle.rbc_trackfile.specs.Told.{only_told}
-
-bytes_eq_sym : (k l : List ℕ) → bytes_eq k l ≡ bytes_eq l k
-bytes_eq_sym k l = same_from_decides (bytes_eq k l) (bytes_eq l k) (bytes_eq-Decides k l) (turned (bytes_eq l k) (bytes_eq-Decides l k))
-  where
-    turned : (b : Bool) → Decides b (l ≡ k) → Decides b (k ≡ l)
-    turned b d = (λ e. sym (d.0 e), λ e. d.1 (sym e))
+use Rattle.rbc_track.proofs.WrittenLemmas.{bytes_turned}
 
 found_here : (o : Ordering) (b : Bool) (key : List ℕ) (value : Data) (rest : Option Data) (found : Option (List ℕ × Data)) → is_eq o ≡ b → rest ≡ option_map (λ m. m.1) found
     → match_ordering o rest (Some value) rest ≡ option_map (λ m. m.1) (cond b (Some (key, value)) found)
@@ -38,7 +31,7 @@ found_here Greater true key value rest found h g = absurd (cc)
 -- both find the first key of these bytes
 pub member_found : (k : List ℕ) (ms : Members) → get_member k ms ≡ option_map (λ m. m.1) (find (λ m. bytes_eq m.0 k) (member_list ms))
 member_found k no_members = refl
-member_found k (member l value ms) = found_here (slice_cmp nat_cmp k l) (bytes_eq l k) l value (get_member k ms) (find (λ m. bytes_eq m.0 k) (member_list ms)) (is_eq-slice_cmp k l ∙ bytes_eq_sym k l) (member_found k ms)
+member_found k (member l value ms) = found_here (slice_cmp nat_cmp k l) (bytes_eq l k) l value (get_member k ms) (find (λ m. bytes_eq m.0 k) (member_list ms)) (is_eq-slice_cmp k l ∙ bytes_turned k l) (member_found k ms)
 
 -- a key that is not among these
 abbrev pub is_unknown : List Key → List ℕ × Data → Bool

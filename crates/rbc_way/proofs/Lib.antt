@@ -2,4 +2,3 @@ pub mod LegLemmas
 pub mod StopOnLegLemmas
 pub mod WayLemmas
 pub mod EndLemmas
-pub mod TableLemmas

@@ -8,6 +8,7 @@ use Rattle.std.proofs.lemmas.List.{nil_from_length}
 use Rattle.std.proofs.lemmas.List.Folds.{length-prefix_len}
 use Rattle.std.proofs.lemmas.List.Sums.{prefix_len-le-length}
 use Rattle.rbc_model.specs.Words.{words_of, is_blank}
+use Rattle.rbc_streams.proofs.PieceLemmas.{rest_from}
 
 abbrev is_space : ℕ → Bool
 is_space byte = byte == 32
@@ -116,17 +117,14 @@ blank_by_byte text start place inside =
 
 -- ---- both, as a slice is cut
 
-pub from_is_drop : (start : ℕ) (text : List ℕ) → take (length text - start) (drop start text) ≡ drop start text
-from_is_drop start text = grind (arith, common_steps)
-
 pub no_word : (text : List ℕ) (start : ℕ) → start ≡ position_or_len is_letter text → length (take (length text - start) (drop start text)) ≡ 0 → words_of text ≡ []
 no_word text start e none =
-    let nothing : drop start text ≡ [] = sym (from_is_drop start text) ∙ nil_from_length _ none in
+    let nothing : drop start text ≡ [] = sym (rest_from start text) ∙ nil_from_length _ none in
     sym (spaces_drop text) ∙ ap words_of (ap (λ (k : ℕ). drop k text) (sym e) ∙ nothing)
 
 pub one_word : (text words : List ℕ) (start : ℕ) → start ≡ position_or_len is_letter text → words ≡ take (length text - start) (drop start text) → 0 < length words
     → words_of text ≡ take (position_or_len is_space words) words ∷ words_of (drop (position_or_len is_space words) words)
 one_word text words start place e some =
-    let cut : words ≡ drop (position_or_len is_letter text) text = e ∙ from_is_drop start text ∙ ap (λ (k : ℕ). drop k text) place in
+    let cut : words ≡ drop (position_or_len is_letter text) text = e ∙ rest_from start text ∙ ap (λ (k : ℕ). drop k text) place in
     let begins : BeginsAWord words = subst BeginsAWord (sym cut) (letter_first text) in
     sym (spaces_drop text) ∙ ap words_of (sym cut) ∙ word_first words (rw (length-prefix_len (λ byte. not (is_space byte)) words) (begins some))

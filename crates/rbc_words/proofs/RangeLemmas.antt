@@ -1,7 +1,8 @@
 -- The numbers of a request are in their ranges.
-use Rattle.std.proofs.Common.{◌≡◌, ℕ, ◌+◌, ◌<◌, ◌≤◌, ◌==◌, ◌&&◌, Bool, true, false, cond, List, [], ◌∷◌, Option, Some, None, Result, Ok, Err, refl, subst, arith, codes, bytes_eq, nat_le, length, IfOk}
-use Rattle.std.proofs.lemmas.Bool.Decides.{nat_tests}
+use Rattle.std.proofs.Common.{◌≡◌, ℕ, ◌+◌, ◌<◌, ◌==◌, Bool, true, false, cond, List, [], ◌∷◌, Result, Ok, Err, refl, subst, arith, codes, bytes_eq, nat_le, length, IfOk}
+use Rattle.std.proofs.lemmas.Bool.{and_from}
 use Rattle.std.specs.List.{list_all, before_first, after_first}
+use Rattle.std.specs.Cmp.{second_so}
 use Rattle.rbc_model.specs.declared.places.Format.TheVariants.{Far}
 use Rattle.rbc_model.specs.declared.limits.TheConstants.{MOST_STEPS, LONGEST_TRACK}
 use Rattle.rbc_model.specs.declared.memory.OrMemory.{OrMemory}
@@ -14,6 +15,8 @@ use Rattle.rbc_model.specs.Scales.{is_expressible}
 use Rattle.rbc_model.specs.Words.{number_in}
 use Rattle.rbc_model.specs.RequestText.{line_in}
 use Rattle.rbc_model.specs.StepsText.{StepsRequest, StepsLine, Blank, Speed, Grade, run_in_word, runs_in, request_in, words_line}
+use Rattle.rbc_model.proofs.SaidLineLemmas.{allowed}
+use Rattle.rbc_model.proofs.FrameLemmas.{limits_of}
 use Rattle.rbc_words.specs.declared.steps_request.StepsLine.{StepsLine as ReadLine}
 use Rattle.rbc_words.specs.StepsLines.{line_view, IsRequestInRange, IsLineInRange}
 
@@ -22,25 +25,6 @@ use Rattle.rbc_words.specs.StepsLines.{line_view, IsRequestInRange, IsLineInRang
 bind_ok : {A B E : Type 0} (first : Result A E) (next : A → Result B E) (y : B) → (first >>= next) ≡ Ok y → (x : A) × (first ≡ Ok x) × (next x ≡ Ok y)
 bind_ok (Ok x) next y e = (x, refl, e)
 bind_ok (Err fault) next y e = absurd (cc)
-
-tested_at : {A E : Type 0} (x y : A) (b : Bool) (fault : E) → cond b (Ok x) (Err fault) ≡ Ok y → (b ≡ true) × (x ≡ y)
-tested_at x y true fault e = (refl, cc)
-tested_at x y false fault e = absurd (cc)
-
--- a value that is allowed passes the test
-allowed : {A E : Type 0} (test : A → Bool) (fault : E) (found : Option A) (y : A) → allowed_value test fault found ≡ Ok y → test y ≡ true
-allowed test fault None y e = absurd (cc)
-allowed test fault (Some x) y e =
-    let held = tested_at x y (test x) fault e in
-    subst (λ z. test z ≡ true) held.1 held.0
-
-both : (a b : Bool) → a ≡ true → b ≡ true → (a && b) ≡ true
-both true b e h = h
-both false b e h = absurd (cc)
-
-second : (a b : Bool) → (a && b) ≡ true → b ≡ true
-second true b e = e
-second false b e = absurd (cc)
 
 -- ---- runs and end
 
@@ -75,7 +59,7 @@ module _ {V : Type 0} (kind : Kind V) (limit : ℕ) where
       let first = bind_ok (allowed_value (is_from_to 0 LONGEST_TRACK) (Number i) start) (λ start. valued >>= λ value. Ok (start, value)) run e in
       let second_part = bind_ok valued (λ value. Ok (first.0, value)) run first.2 in
       let low : nat_le first.0 LONGEST_TRACK ≡ true =
-      second (nat_le 0 first.0) (nat_le first.0 LONGEST_TRACK) (allowed (is_from_to 0 LONGEST_TRACK) (Number i) start first.0 first.1) in
+      second_so (nat_le 0 first.0) (nat_le first.0 LONGEST_TRACK) (allowed (is_from_to 0 LONGEST_TRACK) (Number i) start first.0 first.1) in
       let it : (first.0, second_part.0) ≡ run = cc in
       subst (λ run. (nat_le run.0 LONGEST_TRACK ≡ true) × (kind.levels.in_range run.1 ≡ true)) it
       (low, allowed kind.levels.in_range (Number i) value second_part.0 second_part.1)
@@ -94,8 +78,8 @@ module _ {V : Type 0} (kind : Kind V) (limit : ℕ) where
       subst (λ request. IsRest kind limit request × (0 < length request.runs)) it (
         record {
           limit_is = rest.limit_is;
-          starts = both _ _ run.0 rest.starts;
-          values = both _ _ run.1 rest.values;
+          starts = and_from _ _ run.0 rest.starts;
+          values = and_from _ _ run.1 rest.values;
           end = rest.end;
         },
         omega arith,
@@ -109,9 +93,6 @@ module _ {V : Type 0} (kind : Kind V) (limit : ℕ) where
 
 -- ---- the request
 
-from_to : (low high n : ℕ) → is_from_to low high n ≡ true → (low ≤ n) × (n ≤ high)
-from_to low high n e = grind (arith, nat_tests)
-
 pub request_in_range : {V : Type 0} (kind : Kind V) (words : List (List ℕ)) (request : StepsRequest V) → request_in kind Far words ≡ Ok request → IsRequestInRange kind.levels request
 request_in_range kind [] request e = absurd (cc)
 request_in_range kind (a ∷ []) request e = absurd (cc)
@@ -120,7 +101,7 @@ request_in_range kind (a ∷ b ∷ c ∷ []) request e = absurd (cc)
 request_in_range kind (first ∷ a ∷ b ∷ c ∷ more) request e =
     let limited = bind_ok (allowed_value (is_from_to 1 MOST_STEPS) (Number 2) (number_in first)) (λ limit. runs_in kind Far limit 3 (a ∷ b ∷ c ∷ more)) request e in
     let rest = one_before kind limited.0 3 a b c more request (rest_in_range kind limited.0 4 (b ∷ c ∷ more)) limited.2 in
-    let limit = from_to 1 MOST_STEPS limited.0 (allowed (is_from_to 1 MOST_STEPS) (Number 2) (number_in first) limited.0 limited.1) in
+    let limit = limits_of 1 MOST_STEPS limited.0 (allowed (is_from_to 1 MOST_STEPS) (Number 2) (number_in first) limited.0 limited.1) in
     record {
       limit_low = omega (arith, rest.0.limit_is, limit.0);
       limit_high = omega (arith, rest.0.limit_is, limit.1);

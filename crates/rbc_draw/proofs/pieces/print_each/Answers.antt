@@ -1,5 +1,7 @@
 use Rattle.std.proofs.Common.{Ok}
-use Rattle.rbc_draw.proofs.EachLemmas.{each-next, each-end}
+use Rattle.std.proofs.lemmas.List.{at_drop_all}
+use Rattle.std.specs.List.{flat_map}
+use Rattle.rbc_draw.proofs.EachLemmas.{each-next}
 use Rattle.rbc_checks.proofs.PrintingLemmas.{prints_nothing, prints_then, prints_stopped}
 use Rattle.rbc_draw.proofs.pieces.print_each.Goals as goal
 
@@ -26,5 +28,5 @@ loop-part-preserved g c =
 pub returns : goal.returns
 returns g c =
     let loop = c.loop-part in
-    let none_left = each-end (g.P.Printed.text c.args.ground.now) c.args.parts.now loop.part-index c.loop-part-test.false in
+    let none_left = at_drop_all (λ parts. flat_map (g.P.Printed.text c.args.ground.now) parts) c.args.parts.now loop.part-index c.loop-part-test.false in
     loop.invariant.whole _ _ (Ok tt) (prints_nothing _ _ _ none_left loop.invariant.going)

@@ -1,6 +1,8 @@
 use Rattle.std.proofs.Common.{Ok}
+use Rattle.std.proofs.lemmas.List.{at_drop_all}
+use Rattle.std.specs.List.{flat_map}
 use Rattle.rbc_fields.specs.JsonParts.{piece_text}
-use Rattle.rbc_fields.proofs.PartsLemmas.{flat_map-next, flat_map-end}
+use Rattle.rbc_fields.proofs.PartsLemmas.{flat_map-next}
 use Rattle.rbc_words.proofs.PrintingLemmas.{prints_nothing, prints_then, prints_stopped}
 use Rattle.rbc_fields.proofs.json_line.print_pieces.Goals as goal
 
@@ -25,5 +27,5 @@ loop-piece-preserved g c =
 pub returns : goal.returns
 returns g c =
     let loop = c.loop-piece in
-    let none_left = flat_map-end piece_text c.args.pieces.now loop.piece-index c.loop-piece-test.false in
+    let none_left = at_drop_all (λ pieces. flat_map piece_text pieces) c.args.pieces.now loop.piece-index c.loop-piece-test.false in
     loop.invariant.whole _ _ (Ok tt) (prints_nothing _ _ _ none_left loop.invariant.going)

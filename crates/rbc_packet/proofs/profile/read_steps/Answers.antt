@@ -7,9 +7,10 @@ use Rattle.rbc_model.specs.declared.limits.TheConstants.{MOST_STEPS}
 use Rattle.rbc_model.specs.declared.places.Format.TheVariants.{Far}
 use Rattle.rbc_model.specs.Scales.{unit_of}
 use Rattle.rbc_model.proofs.ScaleLemmas.{one_or_ten, expressible_near_enough}
+use Rattle.rbc_model.proofs.ResultLemmas.{ok_is_no_err}
 use Rattle.rbc_packet.proofs.EndLemmas.{before_end}
 use Rattle.rbc_packet.proofs.ElementLemmas.{AreRead, first_read, one_more, no_distance, no_value}
-use Rattle.rbc_packet.proofs.RisingLemmas.{HaveRisen, profile_made, made_ok}
+use Rattle.rbc_packet.proofs.RisingLemmas.{HaveRisen, profile_made}
 use Rattle.rbc_packet.proofs.profile.read_steps.Goals as goal
 
 pub loop-index-init : goal.loop-index-init
@@ -67,4 +68,4 @@ unreachable-requires g c =
     let result : c.new.result ≡ profile_of g.V.Level.levels end steps = c.new.ensures in
     let before = before_end end from (subst (λ u. from < end / u) c.unit_of-unit.ensures.unit c.in_ok-read_end.ensures.before) in
     let near = expressible_near_enough Far end c.requires.end in
-    made_ok c.in-Err.field-0 steps end c.new.result c.in-Err.is (result ∙ profile_made g.V.Level.levels (unit * from) end steps risen before (omega (arith, near)) few)
+    ok_is_no_err (result ∙ profile_made g.V.Level.levels (unit * from) end steps risen before (omega (arith, near)) few) c.in-Err.is

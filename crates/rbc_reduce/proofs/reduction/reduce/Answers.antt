@@ -3,11 +3,12 @@ use Rattle.rbc_model.specs.Profiles.{IsChosenProfile, loss, value_at, is_within,
 use Rattle.rbc_table_laws.proofs.TableLawLemmas.{read_off_are_chosen}
 use Rattle.rbc_table_laws.specs.PriceRows.{prices_of}
 use Rattle.rbc_model.specs.Scales.{unit_of}
-use Rattle.rbc_reduce.proofs.ProfileLemmas.{made_of, made_is, made_ok}
+use Rattle.rbc_reduce.proofs.ProfileLemmas.{made_of, made_is}
 use Rattle.rbc_reduce.proofs.reduction.reduce.Given.{Over}
 use Rattle.rbc_reduce.proofs.reduction.reduce.Goals as goal
 use Rattle.rbc_reduce.proofs.reduction.reduce.Goals.{After-new}
 use Rattle.rbc_model.proofs.ScaleLemmas.{some_unit}
+use Rattle.rbc_model.proofs.ResultLemmas.{ok_is_no_err}
 
 pub fill-requires-clause-stretches : goal.fill-requires-clause-stretches
 fill-requires-clause-stretches g c κs within = rw c.deref.ensures.value c.in_ok-stretches.ensures
@@ -40,7 +41,7 @@ made_here g c =
 
 pub unreachable-requires : goal.unreachable-requires
 unreachable-requires g c =
-    made_ok c.in-Err.field-0 c.in_ok-steps.steps.items c.args.track.now.end c.new.result c.in-Err.is (made_here g (goal.at.unreachable-requires g c).After-new)
+    ok_is_no_err (made_here g (goal.at.unreachable-requires g c).After-new) c.in-Err.is
 
 pub new-requires-send-V : goal.new-requires-send-V
 new-requires-send-V g c κs within = c.type_bounds.send-V

@@ -1,5 +1,5 @@
 use Rattle.std.proofs.Common.{sym, ◌∙◌, ap}
-use Rattle.rbc_snap.proofs.AddingLemmas.{adds_moves}
+use Rattle.rbc_logbook_laws.proofs.AddingLemmas.{adds_moves}
 use Rattle.rbc_snap.proofs.journal.add.Goals as goal
 
 pub compare_exchange-found-requires : goal.compare_exchange-found-requires

@@ -1,6 +1,6 @@
-use Rattle.std.proofs.Common.{◌≡◌, ◌||◌, Bool, true, false, Err, refl, ap, sym, ◌∙◌, subst, arith, add-one, inl, inr, ℕ, ◌<◌, ◌⊎◌, nat_lt}
+use Rattle.std.proofs.Common.{◌≡◌, Bool, true, false, Err, refl, ap, sym, ◌∙◌, subst, arith, add-one, inl, inr, ℕ, ◌<◌, ◌⊎◌, nat_lt}
 use Rattle.std.specs.Bool.{IsTrue, MatchBool}
-use Rattle.std.proofs.lemmas.Bool.{ltb-true}
+use Rattle.std.proofs.lemmas.Bool.{ltb-true, or_parts}
 use Rattle.std.proofs.lemmas.Result.{err_from_is_err_and}
 use Rattle.std.proofs.lemmas.List.Elements.{All-nil}
 use Rattle.rbc_streams.specs.LineReading.{Steps, IsOverlong, HasNoLineFeed}
@@ -8,10 +8,6 @@ use Rattle.rbc_streams.proofs.LineLemmas.{lines_of_overlong}
 use Rattle.rbc_streams.proofs.UnderWayLemmas.{begins, takes, hands_on, stops_between, fails_reading, fails_handing_on, ends, has_too_many, goes_on, fails_writing, refuses, front_of, some_line}
 use Rattle.rbc_streams.proofs.session.answer_lines.Goals as goal
 use Rattle.rbc_streams.proofs.session.answer_lines.Goals.{then-count-lt-MOST_LINES, else-count-lt-MOST_LINES}
-
-both_false : (a b : Bool) → (a || b) ≡ false → (a ≡ false) × (b ≡ false)
-both_false true b none = absurd (let c : ⊥ = cc in c)
-both_false false b none = (refl, none)
 
 is_false : (test : Bool) → (IsTrue test → ⊥) → test ≡ false
 is_false true refutes = absurd (refutes refl)
@@ -112,7 +108,7 @@ loop-count-preserved g c =
     (takes g.A.Answers.longest g.A.Answers.answers c.loop-count.invariant.under_way (g.R.Source.left c.next_line.new.reader)
     c.next_line.new.lines.ended did.next.0 did.ended did.next.2 did.next.1) (g.W.Sink.written c.next_line.new.writer) did.written in
     let reply = rw c.line.ensures at c.in_ok-answer-in-Line.ensures.reply in
-    let works = both_false (g.A.Answers.broken (g.A.Answers.state c.answer.new.self)) (g.W.Sink.failed c.answer.new.writer) reply.2.failed in
+    let works = or_parts (g.A.Answers.broken (g.A.Answers.state c.answer.new.self)) (g.W.Sink.failed c.answer.new.writer) reply.2.failed in
     record {
       reader_works = is_false _ (λ failed. let e = did.read.1 failed in cc);
       writer_works = works.1;

@@ -3,6 +3,7 @@ use Rattle.std.proofs.lemmas.Grind.{common_steps}
 use Rattle.std.proofs.lemmas.List.{append-nil}
 use Rattle.std.proofs.lemmas.List.Elements.{All-filter}
 use Rattle.std.specs.Prelude.{map}
+use mathlib.Core.List.{map-map, map-id}
 use Rattle.rbc_model.specs.Tracks.{Track}
 use Rattle.rbc_model.specs.Trains.{Train}
 use Rattle.rbc_model.specs.Scenes.{others}
@@ -12,7 +13,6 @@ use Rattle.rbc_way.specs.declared.stretches.Stretch.{Stretch}
 use Rattle.rbc_way.specs.Reaches.{scene_of}
 use Rattle.rbc_scene_laws.specs.Good.{IsGoodTrain}
 use Rattle.rbc_way.specs.Stretches.{stretches_at, stretches_of}
-use Rattle.rbc_way.proofs.TableLemmas.{same_trains}
 use Rattle.rbc_way.proofs.stretches.stretches_of.Goals as goal
 
 pub loop-other-init : goal.loop-other-init
@@ -20,7 +20,8 @@ loop-other-init c =
     let track = c.args.book.now.track in
     let it = c.into_iter-other-iterator.result in
     let e : it ≡ map (on_track track) c.args.book.now.trains = c.into_iter-other-iterator.ensures.into_iter_gives ∙ c.trains-other-items.ensures.trains in
-    let same : map (λ (t : TrainOnTrack). t.train) it ≡ c.args.book.now.trains = ap (map (λ (t : TrainOnTrack). t.train)) e ∙ same_trains track c.args.book.now.trains in
+    let same : map (λ (t : TrainOnTrack). t.train) it ≡ c.args.book.now.trains =
+    ap (map (λ (t : TrainOnTrack). t.train)) e ∙ map-map (λ (t : TrainOnTrack). t.train) (on_track track) c.args.book.now.trains ∙ map-id c.args.book.now.trains in
     record {
       can = tt;
       finite = tt;

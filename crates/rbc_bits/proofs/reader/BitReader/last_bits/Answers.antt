@@ -1,6 +1,6 @@
 use Rattle.std.proofs.Common.{◌≡◌, ◌≤◌, length, arith, ap, ◌∙◌}
 use Rattle.rbc_model.specs.Bits.{byte_bits}
-use Rattle.rbc_bits.proofs.CutLemmas.{length-byte_bits}
+use Rattle.rbc_model.proofs.MessageSizeLemmas.{length-byte_bits}
 use Rattle.rbc_bits.proofs.TakingLemmas.{last_number, few_left, many_left, length_left}
 use Rattle.rbc_bits.proofs.reader.BitReader.last_bits.Goals as goal
 

@@ -2,7 +2,7 @@ use Rattle.std.proofs.Common.{◌≡◌, ◌+◌, ◌-◌, ◌/◌, ◌^◌, ◌
 use Rattle.std.proofs.Math.Nat.{pow-le-pow_right}
 use Rattle.std.proofs.lemmas.Nat.{shr_below, one_shl}
 use Rattle.rbc_model.specs.Bits.{byte_bits}
-use Rattle.rbc_bits.proofs.CutLemmas.{length-byte_bits}
+use Rattle.rbc_model.proofs.MessageSizeLemmas.{length-byte_bits}
 use Rattle.rbc_bits.proofs.TakingLemmas.{taken_value, left_bits, length_left}
 use Rattle.rbc_bits.proofs.reader.BitReader.take.Goals as goal
 

@@ -1,6 +1,6 @@
 use Rattle.std.proofs.Common.{length, arith, sym, ap, ◌∙◌}
-use Rattle.rbc_bits.proofs.CutLemmas.{length-byte_bits}
 use Rattle.rbc_fields.proofs.fields.Fields.new.Goals as goal
+use Rattle.rbc_model.proofs.MessageSizeLemmas.{length-byte_bits}
 
 pub returns-clause-counted : goal.returns-clause-counted
 returns-clause-counted c = record {

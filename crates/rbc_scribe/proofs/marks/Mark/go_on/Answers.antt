@@ -1,7 +1,7 @@
 use Rattle.std.proofs.Common.{ap, subst, arith, List}
 use mathlib.Core.List.{IsPrefix}
 use Rattle.rbc_scribe.specs.declared.stamp.Stamp.{Stamp}
-use Rattle.rbc_scribe.proofs.BeginningLemmas.{prefix_shorter}
+use Rattle.rbc_logbook_laws.proofs.BeginningLemmas.{prefix_shorter}
 use Rattle.rbc_scribe.proofs.marks.Mark.go_on.Goals as goal
 
 pub returns-then-self-other-clause-stays : goal.returns-then-self-other-clause-stays

@@ -2,8 +2,9 @@ use Rattle.std.proofs.Common.{◌≡◌, ℕ, nat_eq, ◌&&◌, List, map, not, 
 use Rattle.std.specs.List.{list_any}
 use Rattle.rbc_model.specs.GroupNames.{GroupName}
 use Rattle.rbc_model.specs.Tracks.{group_name_eq}
+use Rattle.rbc_model.proofs.ResultLemmas.{on_err}
 use Rattle.rbc_track.specs.GroupKeys.{group_name}
-use Rattle.rbc_track.proofs.FindingLemmas.{any_key, on_err}
+use Rattle.rbc_track.proofs.FindingLemmas.{any_key}
 use Rattle.rbc_track.proofs.lookup.GroupNames.insert.Goals as goal
 
 -- whether the identity is among those of the keys

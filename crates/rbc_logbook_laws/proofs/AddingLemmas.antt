@@ -1,21 +1,20 @@
--- Lemmas on the exchange that adds a stamp: it keeps the rule.
+-- Lemmas on the exchange that adds an entry: it keeps the rule.
 use Rattle.std.proofs.Common.{◌≡◌, ℕ, ◌+◌, ◌<◌, ◌==◌, Bool, true, false, true≢false, List, [], ◌∷◌, ◌++◌, length, refl, ap, sym, ◌∙◌, subst, arith, inl, length-append, None}
 use Rattle.std.proofs.lemmas.List.{append-nil}
 use Rattle.std.proofs.lemmas.Bool.Decides.{nat_tests}
 use mathlib.Core.List.{IsPrefix}
 use prog.Atomic.{either}
 use Rattle.logbook.specs.Pages.{Cell, cell, keeps, no_nib, step, Moves, Goes}
-use Rattle.rbc_scribe.specs.declared.stamp.Stamp.{Stamp}
-use Rattle.rbc_scribe.specs.Marks.{IsCounted, Adds}
-use Rattle.rbc_scribe.proofs.BeginningLemmas.{prefix_whole}
+use Rattle.rbc_logbook_laws.specs.Counts.{IsCounted, Adds}
+use Rattle.rbc_logbook_laws.proofs.BeginningLemmas.{prefix_whole}
 
-abbrev shown : List Stamp → List Stamp
+abbrev shown : {E : Type 0} → List E → List E
 shown log = []
 
-abbrev moved : List Stamp → List Stamp → ℕ → Type 0
+abbrev moved : {E : Type 0} → List E → List E → ℕ → Type 0
 moved xs ys n = Unit {0}
 
-adds_goes : (log v : List Stamp) (e : Stamp) (old : ℕ) → length v ≡ old → IsPrefix v log
+adds_goes : {E : Type 0} (log v : List E) (e : E) (old : ℕ) → length v ≡ old → IsPrefix v log
     → (b : Bool) → (length log == old) ≡ b
     → Goes IsCounted shown moved 0 (v, (no_nib, None)) (λ n. either (n == old) (old + 1) n) (Adds (step 0 old (old + 1) e) (v, (no_nib, None))) ((length log, true) ∷ (0, true) ∷ []) log
 adds_goes log v e old len pre true is =
@@ -42,7 +41,7 @@ adds_goes log v e old len pre false is =
       λ yes. absurd (true≢false (sym yes ∙ is)),
     )
 
-pub adds_moves : (v : List Stamp) (e : Stamp) (old : ℕ) → length v ≡ old
+pub adds_moves : {E : Type 0} (v : List E) (e : E) (old : ℕ) → length v ≡ old
     → Moves IsCounted shown moved 0 (v, (no_nib, None)) (λ n. either (n == old) (old + 1) n) (Adds (step 0 old (old + 1) e) (v, (no_nib, None)))
 adds_moves v e old len cs log kept pre away =
     let P : List Cell → Type 0 = λ c. (0 < length c) × ((cell c 0).1 ≡ true) × Goes IsCounted shown moved 0 (v, (no_nib, None)) (λ n. either (n == old) (old + 1) n) (Adds (step 0 old (old + 1) e) (v, (no_nib, None))) c log in
