@@ -1,5 +1,5 @@
 -- A step that goes on to the next break: its least value, and the costs that are written.
-use Rattle.std.proofs.Common.{◌≡◌, refl, ap, sym, ◌∙◌, arith, subst, ℕ, zero, suc, ◌+◌, ◌*◌, ◌<◌, ◌≤◌, inl, inr, true, false, List, [], ◌∷◌, ◌++◌, length, get_or, set, Some, if◌then◌else◌}
+use Rattle.std.proofs.Common.{◌≡◌, refl, ap, sym, ◌∙◌, arith, subst, ℕ, zero, suc, ◌+◌, ◌-◌, ◌*◌, ◌<◌, ◌≤◌, inl, inr, true, false, List, [], ◌∷◌, ◌++◌, length, get_or, set, Some, if◌then◌else◌}
 use Rattle.std.specs.List.{slice_get}
 use Rattle.std.proofs.lemmas.List.{get_or-set_other}
 use Rattle.std.proofs.lemmas.Grind.{get_or-set_at}
@@ -9,6 +9,7 @@ use Rattle.rbc_model.proofs.ScanLemmas.{at_or_past}
 use Rattle.rbc_table_laws.specs.Breaks.{IsLowest, IsBelowAll, lost_below}
 use Rattle.rbc_table_laws.specs.Stretches.{breaks_for, cost_of_step}
 use Rattle.rbc_table_laws.proofs.StretchLemmas.{least_range, floor_range, floor_under, below_part, lower_lowest_back, least_same, least_before, cost_is, lost_is, in_range_at, breaks_rise_to, breaks_to_end}
+use Rattle.rbc_stretches.specs.OnTracks.{IsStretch}
 use Rattle.rbc_stretches.specs.declared.stretch.Stretch.{Stretch}
 use Rattle.rbc_costs.specs.Stretches.{AreStretches, IsLostByFloor}
 
@@ -36,6 +37,12 @@ module _ {V : Type 0} (levels : Levels V) (lawful : IsLawful levels) (track : St
       (l.below b.place least (omega arith) high b.there)
 
 -- ---- stretches by index
+
+-- the stretch before a break ends there
+pub ends_at : {V : Type 0} (unit : ℕ) (track : StepFunction V) (i : ℕ) (stretch : Stretch) → 0 < i → IsStretch unit track (i - 1) stretch → stretch.to ≡ get_or (breaks_for unit track) i 0
+ends_at unit track i stretch h stands =
+    let next : i - 1 + 1 ≡ i = omega arith in
+    stands.to ∙ ap (λ k. get_or (breaks_for unit track) k 0) next
 
 module _ {V : Type 0} (levels : Levels V) (unit : ℕ) (track : StepFunction V) (stretches : List (Stretch × V)) (are : AreStretches levels unit track stretches) where
   -- break i

@@ -4,7 +4,7 @@ ghost use Rattle.rbc_model.specs.Scales.{unit_of};
 ghost use Rattle.rbc_model.specs.declared.limits.TheConstants.{MOST_PRICE};
 ghost use Rattle.rbc_table_laws.specs.Breaks.{IsLowest};
 ghost use Rattle.rbc_table_laws.specs.Stretches.{breaks_for, cost_of_step};
-ghost use Rattle.rbc_stretches.specs.OnTracks.{IsOnTrack};
+ghost use Rattle.rbc_stretches.specs.OnTracks.{IsOnTrack, IsStretch};
 ghost use Rattle.rbc_costs.specs.Stretches.{AreStretches, IsLostByFloor};
 
 use crate::total::{Total, write_totals};
@@ -83,6 +83,33 @@ pub fn further<V: Level>(
     (front.1, price_on(track, whole, front.1.floor()))
 }
 
+/// The last stretch before a break, its least value, and what the floor of that loses on it.
+struct Last<V: Level> {
+    stretch: Stretch,
+    least: V,
+    lost: u64,
+}
+
+/// The last stretch before the break `to`.
+fn last_before<V: Level>(track: &Runs<V>, stretches: &[(Stretch, V)], to: usize) -> Last<V>
+    requires stretches { AreStretches V.levels (unit_of track.now.end) track.now stretches.now }
+    requires some { 0 < to }
+    requires inside { to ≤ length stretches.now }
+    ensures stretch { IsStretch (unit_of track.now.end) track.now (to - 1) result.stretch }
+    ensures least { IsLowest V.levels track.now (slice_index (breaks_for (unit_of track.now.end) track.now) (to - 1))
+        (slice_index (breaks_for (unit_of track.now.end) track.now) to) result.least }
+    ensures lost { IsLostByFloor V.levels track.now (slice_index (breaks_for (unit_of track.now.end) track.now) (to - 1))
+        (slice_index (breaks_for (unit_of track.now.end) track.now) to) result.least result.lost }
+{
+    track.known();
+    let last = stretches[to - 1];
+    Last {
+        stretch: last.0,
+        least: last.1,
+        lost: price_on(track, last.0, last.1.floor()),
+    }
+}
+
 /// Writes what one step costs from each break before `to` up to there, whatever `costs` has: what it costs from the break
 /// behind and what is lost on the stretch between, or anew where the least value falls.
 pub fn costs_to<V: Level>(track: &Runs<V>, stretches: &[(Stretch, V)], to: usize, costs: &mut [u64])
@@ -96,9 +123,11 @@ pub fn costs_to<V: Level>(track: &Runs<V>, stretches: &[(Stretch, V)], to: usize
         → slice_index costs.new i ≤ slice_index (breaks_for (unit_of track.now.end) track.now) to * MOST_PRICE }
 {
     track.known();
-    let last = stretches[to - 1].0;
-    let mut least = stretches[to - 1].1;
-    let mut lost = price_on(track, last, least.floor());
+    let Last {
+        stretch: last,
+        mut least,
+        mut lost,
+    } = last_before(track, stretches, to);
     costs[to - 1] = lost;
     for i in (0..to - 1).rev() {
         let lowest = further(track, last.to, least, lost, stretches[i]);
@@ -126,9 +155,11 @@ fn costs_on<V: Level>(track: &Runs<V>, stretches: &[(Stretch, V)], to: usize, co
         → slice_index costs.new i ≤ slice_index (breaks_for (unit_of track.now.end) track.now) to * MOST_PRICE }
 {
     track.known();
-    let last = stretches[to - 1].0;
-    let new = stretches[to - 1].1;
-    let mut price = price_on(track, last, new.floor());
+    let Last {
+        stretch: last,
+        least: new,
+        lost: mut price,
+    } = last_before(track, stretches, to);
     let mut least = new;
     let mut lost = price;
     costs[to - 1] = price;

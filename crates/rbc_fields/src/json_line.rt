@@ -5,8 +5,8 @@ ghost use Rattle.std.specs.Fmt.{signed_decimal};
 ghost use Rattle.rbc_model.specs.Sessions.{Prints};
 ghost use Rattle.rbc_fields.specs.declared.parts.TheConstants.{LONGEST_PART};
 ghost use Rattle.rbc_fields.specs.declared.sheet.TheConstants.{ROOM};
-ghost use Rattle.rbc_fields.specs.JsonParts.{piece_text, pieces_text, packet_start, member_part, other_part, is_grade, grade_part};
-ghost use Rattle.rbc_fields.specs.JsonParts.{is_speed, speed_part, outcome_part, words_part, array_part};
+ghost use Rattle.rbc_fields.specs.JsonParts.{piece_text, pieces_text, packet_start, member_part, other_part};
+ghost use Rattle.rbc_fields.specs.JsonParts.{outcome_part, words_part, array_part};
 ghost use Rattle.rbc_fields.specs.JsonText.{json_text, found_data, grade_data, speed_data, kind_text};
 ghost use Rattle.rbc_fields.specs.Parts.{parts_text};
 ghost use Rattle.rbc_fields.specs.Readings.{read_as};
@@ -186,18 +186,9 @@ impl Part for GradeElements {
     }
 
     fn gather(item: &Item, later: bool, sheet: &mut Sheet) {
-        if let Some(said) = said_in(item) {
-            gather_if_grade(later, &said, sheet);
+        if let Some(Said::Grade(from, per_mille)) = said_in(item) {
+            gather_grade(later, from, per_mille, sheet);
         }
-    }
-}
-
-fn gather_if_grade(later: bool, said: &Said, sheet: &mut Sheet)
-    requires { length sheet.old + LONGEST_PART ≤ ROOM }
-    ensures { sheet.new ≡ sheet.old ++ grade_part later said.now }
-{
-    if let Said::Grade(from, per_mille) = *said {
-        gather_grade(later, from, per_mille, sheet);
     }
 }
 
@@ -230,18 +221,9 @@ impl Part for SpeedElements {
     }
 
     fn gather(item: &Item, later: bool, sheet: &mut Sheet) {
-        if let Some(said) = said_in(item) {
-            gather_if_speed(later, &said, sheet);
+        if let Some(Said::Speed(from, kmh)) = said_in(item) {
+            gather_speed(later, from, kmh, sheet);
         }
-    }
-}
-
-fn gather_if_speed(later: bool, said: &Said, sheet: &mut Sheet)
-    requires { length sheet.old + LONGEST_PART ≤ ROOM }
-    ensures { sheet.new ≡ sheet.old ++ speed_part later said.now }
-{
-    if let Said::Speed(from, kmh) = *said {
-        gather_speed(later, from, kmh, sheet);
     }
 }
 

@@ -9,7 +9,7 @@ ghost use Rattle.rbc_trackfile.specs.TomlFile.{entry_view};
 ghost use Rattle.rbc_trackfile.specs.Told.{in_form_told, required_told, optional_told, leg_if_any_told, item_told};
 
 use crate::entry::FileEntry;
-use crate::items::ListItem;
+use crate::items::{ListItem, ListValue};
 use rbc_model::limits::MOST_STEPS;
 use rbc_model::{Direction, FileFault, Key, OrMemory};
 use rbc_track::{LegName, Name, StepLimit};
@@ -134,13 +134,7 @@ impl ListItem for LegName {
     ghost item_at = { item_told as_str leg_in };
 
     #[tactic(auto, unfolding(crate::specs::Told::item_told))]
-    fn read(
-        _alloc: Global,
-        entry: FileEntry,
-        key: Key,
-        _number: usize,
-        value: &Value,
-    ) -> Result<LegName, OrMemory<FileFault>> {
-        Ok(entry.leg_in(key, value)?)
+    fn read(_alloc: Global, item: ListValue) -> Result<LegName, OrMemory<FileFault>> {
+        Ok(item.within.leg_in(item.key, item.value)?)
     }
 }

@@ -15,20 +15,39 @@ use rbc_model::{FileFault, FileTable, Key, OrMemory};
 use std::alloc::Global;
 use toml::Value;
 
+/// A value of a list in a track file: the entry and the key where the list stands, and the value with its number there,
+/// counted from 1.
+#[derive(Clone, Copy)]
+pub(crate) struct ListValue<'a> {
+    pub(crate) within: FileEntry<'a>,
+    pub(crate) key: Key,
+    pub(crate) number: usize,
+    pub(crate) value: &'a Value,
+}
+
+impl<'a> ListValue<'a> {
+    /// The entry of this table that a value of a list of tables is.
+    #[tactic(auto, unfolding(crate::specs::Told::inner_told))]
+    pub(crate) fn inner(self, table: FileTable) -> Result<FileEntry<'a>, FileFault>
+        ensures { Tells entry_view result
+            (inner_told table (entry_view self.entry.within) self.entry.key self.entry.number (view self.entry.value.now)) }
+    {
+        match self.value.as_table() {
+            Some(members) => Ok(FileEntry::new(table, self.number, members)),
+            None => Err(self.within.wrong(self.key)),
+        }
+    }
+}
+
 /// What a value of a list in a track file is read as.
 pub(crate) trait ListItem: Drop {
-    /// What the value tells that stands at a key of an entry, with its number in the list, counted from 1.
+    /// What a value tells, by the entry and the key where its list stands, and its number there.
     ghost item_at: { EntryAt Data → KeyName → ℕ → Data → Result Self Fault };
 
-    /// Reads the value that has this number in the list at a key.
-    fn read(
-        alloc: Global,
-        entry: FileEntry,
-        key: Key,
-        number: usize,
-        value: &Value,
-    ) -> Result<Self, OrMemory<FileFault>>
-        ensures { AnswersOrMemory result (item_at (entry_view entry.entry) key number (view value.now)) };
+    /// Reads a value.
+    fn read(alloc: Global, item: ListValue) -> Result<Self, OrMemory<FileFault>>
+        ensures { AnswersOrMemory result
+            (item_at (entry_view item.entry.within) item.entry.key item.entry.number (view item.entry.value.now)) };
 }
 
 impl<'a> FileEntry<'a> {
@@ -71,7 +90,13 @@ impl<'a> FileEntry<'a> {
     {
         let mut items = Vec::new(alloc);
         for value in values {
-            let item = T::read(alloc, self, key, items.len() + 1, value)?;
+            let listed = ListValue {
+                within: self,
+                key,
+                number: items.len() + 1,
+                value,
+            };
+            let item = T::read(alloc, listed)?;
             items.push(item)?;
         }
         Ok(items)
@@ -90,22 +115,5 @@ impl<'a> FileEntry<'a> {
         let value = self.required(key)?;
         let values = self.values_in(sort, key, value)?;
         self.items(alloc, key, values)
-    }
-
-    /// The entry of this table and this number that a value of a list of tables is.
-    #[tactic(auto, unfolding(crate::specs::Told::inner_told))]
-    pub(crate) fn inner(
-        self,
-        table: FileTable,
-        key: Key,
-        number: usize,
-        value: &'a Value,
-    ) -> Result<FileEntry<'a>, FileFault>
-        ensures { Tells entry_view result (inner_told table (entry_view self.entry) key number (view value.now)) }
-    {
-        match value.as_table() {
-            Some(members) => Ok(FileEntry::new(table, number, members)),
-            None => Err(self.wrong(key)),
-        }
     }
 }

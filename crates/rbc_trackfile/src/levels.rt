@@ -6,13 +6,12 @@ ghost use Rattle.rbc_model.specs.Answers.{AnswersOrMemory};
 ghost use Rattle.rbc_trackfile.specs.Told.{pair_sort, item_told, runs_told};
 
 use crate::entry::FileEntry;
-use crate::items::ListItem;
+use crate::items::{ListItem, ListValue};
 use crate::values::{Sort, number_from_to, pair_in};
 use rbc_model::limits::LONGEST_TRACK;
 use rbc_model::{FileFault, Key, OrMemory};
 use rbc_steps::{Grade, Level, Runs, Speed};
 use std::alloc::Global;
-use toml::Value;
 
 /// A kind of level as a track file has it.
 pub(crate) trait FileLevel: Level {
@@ -47,19 +46,13 @@ impl<V: FileLevel> ListItem for (u32, V) {
     ghost item_at = { item_told pair_sort (run_of_pair V.level_in) };
 
     #[tactic(auto, unfolding(crate::specs::Told::item_told))]
-    fn read(
-        _alloc: Global,
-        entry: FileEntry,
-        key: Key,
-        _number: usize,
-        value: &Value,
-    ) -> Result<(u32, V), OrMemory<FileFault>> {
-        let Some((start, level)) = pair_in(value) else {
-            return Err(OrMemory::Refused(entry.wrong(key)));
+    fn read(_alloc: Global, item: ListValue) -> Result<(u32, V), OrMemory<FileFault>> {
+        let Some((start, level)) = pair_in(item.value) else {
+            return Err(OrMemory::Refused(item.within.wrong(item.key)));
         };
         match number_from_to(0, LONGEST_TRACK, start).zip(V::read(level)) {
             Some(run) => Ok(run),
-            None => Err(OrMemory::Refused(entry.range(key))),
+            None => Err(OrMemory::Refused(item.within.range(item.key))),
         }
     }
 }

@@ -5,13 +5,12 @@ ghost use Rattle.rbc_trackfile.specs.TomlFile.{entry_view};
 ghost use Rattle.rbc_trackfile.specs.Told.{entry_told, section_told, link_told, group_told, route_told};
 
 use crate::entry::FileEntry;
-use crate::items::ListItem;
+use crate::items::{ListItem, ListValue};
 use crate::values::Sort;
 use rbc_model::limits::{LAST_COUNTRY, LAST_GROUP, LONGEST_TRACK, SHORTEST_RUN};
 use rbc_model::{FileFault, FileTable, GroupName, Key, OrMemory};
 use rbc_track::{GroupPart, LinkPart, RoutePart, Section};
 use std::alloc::Global;
-use toml::Value;
 
 /// The keys of a section, a link, a balise group and a route.
 const SECTION_KEYS: [Key; 4] = [Key::Name, Key::Length, Key::Speeds, Key::Grades];
@@ -87,15 +86,8 @@ impl ListItem for Section {
     ghost item_at = { entry_told section_told SectionTable };
 
     #[tactic(auto, unfolding(crate::specs::Told::entry_told))]
-    fn read(
-        alloc: Global,
-        top: FileEntry,
-        key: Key,
-        number: usize,
-        value: &Value,
-    ) -> Result<Section, OrMemory<FileFault>> {
-        let entry = top.inner(FileTable::Section, key, number, value)?;
-        section_in(alloc, entry)
+    fn read(alloc: Global, item: ListValue) -> Result<Section, OrMemory<FileFault>> {
+        section_in(alloc, item.inner(FileTable::Section)?)
     }
 }
 
@@ -103,15 +95,8 @@ impl ListItem for LinkPart {
     ghost item_at = { entry_told link_told LinkTable };
 
     #[tactic(auto, unfolding(crate::specs::Told::entry_told))]
-    fn read(
-        alloc: Global,
-        top: FileEntry,
-        key: Key,
-        number: usize,
-        value: &Value,
-    ) -> Result<LinkPart, OrMemory<FileFault>> {
-        let entry = top.inner(FileTable::Link, key, number, value)?;
-        link_in(alloc, entry)
+    fn read(alloc: Global, item: ListValue) -> Result<LinkPart, OrMemory<FileFault>> {
+        link_in(alloc, item.inner(FileTable::Link)?)
     }
 }
 
@@ -119,15 +104,8 @@ impl ListItem for GroupPart {
     ghost item_at = { entry_told group_told GroupTable };
 
     #[tactic(auto, unfolding(crate::specs::Told::entry_told))]
-    fn read(
-        alloc: Global,
-        top: FileEntry,
-        key: Key,
-        number: usize,
-        value: &Value,
-    ) -> Result<GroupPart, OrMemory<FileFault>> {
-        let entry = top.inner(FileTable::Group, key, number, value)?;
-        group_in(alloc, entry)
+    fn read(alloc: Global, item: ListValue) -> Result<GroupPart, OrMemory<FileFault>> {
+        group_in(alloc, item.inner(FileTable::Group)?)
     }
 }
 
@@ -135,14 +113,7 @@ impl ListItem for RoutePart {
     ghost item_at = { entry_told route_told RouteTable };
 
     #[tactic(auto, unfolding(crate::specs::Told::entry_told))]
-    fn read(
-        alloc: Global,
-        top: FileEntry,
-        key: Key,
-        number: usize,
-        value: &Value,
-    ) -> Result<RoutePart, OrMemory<FileFault>> {
-        let entry = top.inner(FileTable::Route, key, number, value)?;
-        route_in(alloc, entry)
+    fn read(alloc: Global, item: ListValue) -> Result<RoutePart, OrMemory<FileFault>> {
+        route_in(alloc, item.inner(FileTable::Route)?)
     }
 }

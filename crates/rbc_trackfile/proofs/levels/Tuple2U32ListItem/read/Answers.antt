@@ -16,7 +16,7 @@ both (Some start) (Some level) = refl
 
 pub returns-in_default : goal.returns-in_default
 returns-in_default g c =
-    unsorted pair_sort (run_of_pair g.V.FileLevel.level_in) (entry_view c.args.entry) c.args.key c.args._number (view c.args.value.now) c.in_default.ensures ∙ ap Err (sym c.wrong.ensures)
+    unsorted pair_sort (run_of_pair g.V.FileLevel.level_in) (entry_view c.args.item.within) c.args.item.key c.args.item.number (view c.args.item.value.now) c.in_default.ensures ∙ ap Err (sym c.wrong.ensures)
 
 pub returns-in-Some-zip : goal.returns-in-Some-zip
 returns-in-Some-zip g c =
@@ -24,8 +24,8 @@ returns-in-Some-zip g c =
     let level_fits : SFits w64 c.in-Some.level = search rules in
     let start = simp (to_z-of_z, fits) at c.number_from_to.ensures.value in
     let level = simp (to_z-of_z, level_fits) at c.read.ensures in
-    let fault = Range c.args.entry.table c.args.entry.number c.args.key in
-    sorted pair_sort (run_of_pair g.V.FileLevel.level_in) (entry_view c.args.entry) c.args.key c.args._number (view c.args.value.now) (c.in-Some.start, c.in-Some.level) c.in-Some.ensures
+    let fault = Range c.args.item.within.table c.args.item.within.number c.args.item.key in
+    sorted pair_sort (run_of_pair g.V.FileLevel.level_in) (entry_view c.args.item.within) c.args.item.key c.args.item.number (view c.args.item.value.now) (c.in-Some.start, c.in-Some.level) c.in-Some.ensures
     ∙ ap (or_fault fault) (sym (ap₂ run_with start level) ∙ both c.number_from_to.result c.read.result ∙ sym c.zip.ensures ∙ c.in-Some-zip.is)
 
 pub returns-in-None : goal.returns-in-None
@@ -34,7 +34,7 @@ returns-in-None g c =
     let level_fits : SFits w64 c.in-Some.level = search rules in
     let start = simp (to_z-of_z, fits) at c.number_from_to.ensures.value in
     let level = simp (to_z-of_z, level_fits) at c.read.ensures in
-    let fault = Range c.args.entry.table c.args.entry.number c.args.key in
-    sorted pair_sort (run_of_pair g.V.FileLevel.level_in) (entry_view c.args.entry) c.args.key c.args._number (view c.args.value.now) (c.in-Some.start, c.in-Some.level) c.in-Some.ensures
+    let fault = Range c.args.item.within.table c.args.item.within.number c.args.item.key in
+    sorted pair_sort (run_of_pair g.V.FileLevel.level_in) (entry_view c.args.item.within) c.args.item.key c.args.item.number (view c.args.item.value.now) (c.in-Some.start, c.in-Some.level) c.in-Some.ensures
     ∙ ap (or_fault fault) (sym (ap₂ run_with start level) ∙ both c.number_from_to.result c.read.result ∙ sym c.zip.ensures ∙ c.in-None.is)
     ∙ ap Err (sym c.range.ensures)
