@@ -1,7 +1,6 @@
 -- A seat that is told what others were told.
-use Rattle.std.proofs.Common.{◌≡◌, ℕ, suc, ◌+◌, ◌<◌, List, [], ◌∷◌, ◌++◌, length, take, drop, get_or, refl, sym, ap, ◌∙◌, subst, All, arith}
-use Rattle.std.proofs.lemmas.List.{take_at, take_more}
-use Rattle.std.specs.List.{AllZip}
+use Rattle.std.proofs.Common.{◌≡◌, ℕ, ◌+◌, ◌<◌, List, [], ◌∷◌, ◌++◌, length, take, get_or, refl, sym, ap, ◌∙◌, subst, All}
+use Rattle.std.proofs.lemmas.List.{take_more}
 use Rattle.std.proofs.lemmas.List.Elements.{All-nil, All-push, All-weaker}
 use Rattle.rbc_sweep.specs.Later.{IsLater}
 use Rattle.rbc_sweep.specs.Outcomes.{Begins}
@@ -26,14 +25,3 @@ one_brought others index other had was has inside same so_far receipts later hea
       all = subst (All (λ (o : Seated). Begins o.told has.told)) (sym here)
           (All-push (λ (o : Seated). Begins o.told has.told) (take index others) other before (begins_later other.told has.told heard));
     }
-
-zip_from : {A : Type 0} (R : A → A → Type 0) (xs ys : List A) → length ys ≡ length xs → ((i : ℕ) (d : A) → i < length xs → R (get_or xs i d) (get_or ys i d)) → AllZip R xs ys
-zip_from R [] [] same each = tt
-zip_from R [] (y ∷ ys) same each = absurd (omega arith)
-zip_from R (x ∷ xs) [] same each = absurd (omega arith)
-zip_from R (x ∷ xs) (y ∷ ys) same each = (each 0 x (omega arith), zip_from R xs ys (omega arith) (λ i d inside. each (suc i) d (omega arith)))
-
--- what a slice is written back to
-pub zip_back : {A : Type 0} (R : A → A → Type 0) (xs ys : List A) (n : ℕ) → length ys ≡ n → length xs ≡ n
-    → ((i : ℕ) (d : A) → i < length xs → R (get_or xs i d) (get_or ys i d)) → AllZip R xs (take n (ys ++ drop (length ys) xs))
-zip_back R xs ys n many same each = subst (AllZip R xs) (sym (take_at ys (drop (length ys) xs) n many)) (zip_from R xs ys (many ∙ sym same) each)

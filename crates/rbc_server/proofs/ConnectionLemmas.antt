@@ -3,6 +3,7 @@ use Rattle.std.proofs.Common.{◌≡◌, ℕ, ◌+◌, ◌<◌, ◌≤◌, Bool,
 use Rattle.std.specs.Prelude.{◌↔◌, ◌||◌, All, IsTrue, OnOk}
 use Rattle.std.proofs.lemmas.List.{append-nil, length-map, map_push}
 use Rattle.std.proofs.lemmas.List.Elements.{All-nil, All-cons, All-map}
+use Rattle.std.proofs.lemmas.Bool.{or_parts}
 use Rattle.std.specs.List.{AllZip, list_any}
 use Rattle.std.specs.Io.KnownBytes.{Appends, Consumes, IsAtEnd}
 use Rattle.rbc_model.specs.declared.sessions.SessionFault.{SessionFault}
@@ -222,14 +223,10 @@ map_twice : {V G A : Type 0} (f : V → G) (h : G → A) (vs : List V) → map h
 map_twice f h [] = refl
 map_twice f h (v ∷ vs) = ap (λ l. h (f v) ∷ l) (map_twice f h vs)
 
-neither : (a b : Bool) → (a || b) ≡ false → (a ≡ false) × (b ≡ false)
-neither true b e = absurd (let c : ⊥ = cc in c)
-neither false b e = (refl, e)
-
 none_failed : {V : Type 0} (failed : V → Bool) (vs : List V) → list_any failed vs ≡ false → All (λ v. failed v ≡ false) vs
 none_failed failed [] none = All-nil (λ v. failed v ≡ false)
 none_failed failed (v ∷ vs) none =
-    let parts = neither (failed v) (list_any failed vs) none in
+    let parts = or_parts (failed v) (list_any failed vs) none in
     All-cons (λ x. failed x ≡ false) v vs parts.0 (none_failed failed vs parts.1)
 
 -- keeping failed in none of these visits

@@ -1,5 +1,5 @@
 -- What a sweep granted is kept, entry by entry.
-use Rattle.std.proofs.Common.{◌≡◌, ℕ, zero, suc, ◌+◌, ◌≤◌, ◌<◌, Bool, true, false, cond, List, [], ◌∷◌, ◌++◌, length, take, get_or, Option, Some, None, Result, Ok, Err, ◌⊎◌, inl, inr, refl, sym, ap, ◌∙◌, subst, arith}
+use Rattle.std.proofs.Common.{◌≡◌, ℕ, ◌+◌, ◌≤◌, ◌<◌, Bool, true, false, cond, List, [], ◌∷◌, ◌++◌, length, take, get_or, Some, Result, Ok, Err, ◌⊎◌, inl, inr, refl, sym, ap, ◌∙◌, subst, arith}
 use Rattle.std.specs.Prelude.{All, IsPermutation, OnOk, slice_get}
 use Rattle.std.proofs.lemmas.List.{get_or_read, take-take}
 use Rattle.std.proofs.lemmas.List.Elements.{All-nil, All-cons, All-append, All-contains, All-head, All-more, All-tail, All-weaker, Contains-append_left, Contains-push}
@@ -12,6 +12,7 @@ use Rattle.rbc_model.specs.SessionText.{SessionLine, Ask}
 use Rattle.rbc_model.specs.SoundTracks.{IsInForm}
 use Rattle.rbc_model.specs.Tracks.{Track}
 use Rattle.rbc_model.specs.Views.{View, view}
+use Rattle.rbc_model.proofs.BasicLemmas.{slice_get-from_take}
 use Rattle.rbc_grant_laws.proofs.CandidateLemmas.{IsBest-candidate, view-train}
 use Rattle.rbc_session_laws.specs.declared.demand.Demand.TheVariants.{Authority}
 use Rattle.rbc_session_laws.specs.Answers.{asker_answer, demand_answer, grant_answer, grant_of, refused}
@@ -26,26 +27,16 @@ use Rattle.rbc_sweep.specs.declared.outcome.Answer.{Answer}
 use Rattle.rbc_sweep.specs.declared.outcome.Answer.TheVariants.{Granted, Blocked, Gone, Full, Memory}
 use Rattle.rbc_sweep.specs.declared.outcome.Outcome.{Outcome}
 use Rattle.rbc_sweep.proofs.WorkLemmas.{begins_still}
+use Rattle.rbc_sweep.proofs.AskingLemmas.{viewed}
 use Rattle.rbc_server.specs.Keeping.{AddsEntry, HasAnswer, HasGrant, HasOutcome}
 use Rattle.rbc_server.specs.Serving.{IsBrought}
 use Rattle.rbc_server.specs.Sittings.{AreKeptOf, HasRank, IsKeptAt}
 use Rattle.rbc_server.specs.declared.grants.Rank.{Rank}
 use Rattle.rbc_server.proofs.ConnectionLemmas.{take_append}
 use Rattle.rbc_server.proofs.KeepingLemmas.{last_stands}
-use Rattle.rbc_server.proofs.SeatLemmas.{below_most, seen}
+use Rattle.rbc_server.proofs.SeatLemmas.{below_most}
 
 -- ---- the entry that was granted
-
-module _ {A : Type 0} where
-  none_is_some : {X : Type 0} (b : A) → (let o : Option A = None in o) ≡ Some b → X
-  none_is_some b e = absurd (let c : ⊥ = cc in c)
-
-  -- what stands at a place of the first elements stands there in all
-  front_get : (n : ℕ) (xs : List A) (place : ℕ) (x : A) → slice_get (take n xs) place ≡ Some x → slice_get xs place ≡ Some x
-  front_get zero xs place x is = none_is_some x is
-  front_get (suc n) [] place x is = none_is_some x is
-  front_get (suc n) (y ∷ ys) zero x is = is
-  front_get (suc n) (y ∷ ys) (suc place) x is = front_get n ys place x is
 
 -- a history that begins so has the entry too
 adds_still : (a b : HistoryOnTrack) (place : ℕ) (said : SessionLine) → Begins a b → AddsEntry a place said → AddsEntry b place said
@@ -56,7 +47,7 @@ adds_still a b place said begins is =
     sym (take-take place n b.entries (omega (arith, below))) ∙ ap (λ l. take place l) begins.opening in
     record {
       entry = is.entry;
-      stands = front_get n b.entries place is.entry (subst (λ l. slice_get l place ≡ Some is.entry) (sym begins.opening) is.stands);
+      stands = slice_get-from_take n b.entries place is.entry (subst (λ l. slice_get l place ≡ Some is.entry) (sym begins.opening) is.stands);
       adds = subst (λ t. (demand_answer t (take place b.entries) (looked_up t said)).added ≡ Some is.entry) (sym begins.track)
           (subst (λ l. (demand_answer a.track l (looked_up a.track said)).added ≡ Some is.entry) (sym first) is.adds);
     }
@@ -73,7 +64,7 @@ grant_added : (track : Track) (entries : List Entry) (train : ℕ) (grant : Gran
 grant_added track entries train grant form is =
     let candidate = grant.candidate in
     let scene = replay track entries in
-    let shown = seen (view track scene train) (length entries) candidate.view is.1 in
+    let shown = viewed (view track scene train) (length entries) candidate.view is.1 in
     let best = is.4 in
     let chosen = is.5 in
     let one =

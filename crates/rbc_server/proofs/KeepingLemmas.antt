@@ -1,5 +1,6 @@
 -- What is asked for is treated, and its reply is written once what led to the entry is kept.
 use Rattle.std.proofs.Common.{◌≡◌, ◌≢◌, ℕ, zero, suc, Bool, true, false, cond, List, [], ◌∷◌, ◌++◌, length, take, Option, Some, None, Result, Ok, Err, inl, inr, refl, sym, ap, ◌∙◌, subst, append-nil}
+use Rattle.std.proofs.lemmas.Option.{none-some}
 use Rattle.std.specs.Prelude.{◌||◌, is_err, slice_get}
 use Rattle.std.specs.Io.KnownBytes.{Appends}
 use Rattle.std.specs.Result.{result_map_both}
@@ -37,9 +38,6 @@ line_asks track line said read = ap (λ r. result_map_both (λ x. x) BadLine r >
 pub line_is_bad : (track : Track) (line : List ℕ) (fault : LineFault) → parse_session line ≡ Err fault → Err (BadLine fault) ≡ demand_in track line
 line_is_bad track line fault read = sym (ap (λ r. result_map_both (λ x. x) BadLine r >>= looked_up track) read)
 
-some_is_none : (entry : Entry) → (let o : Option Entry = Some entry in o) ≡ None → ⊥
-some_is_none entry e = cc
-
 pub demand_adds : (track : Track) (before : List Entry) (said : SessionLine) (demand : Result Demand SessionRefusal) (reply : List ℕ) (entry : Entry) → IsInForm track → IsSayable said
     → looked_up track said ≡ demand → AnswersDemand track before reply (Some entry) demand → (demand_answer track before (looked_up track said)).added ≡ Some entry
 unfolding line_answer
@@ -47,7 +45,7 @@ demand_adds track before said demand reply entry form sayable is answers =
     let line = said_line said in
     let asks = line_asks track line said (said_line_read said sayable) in
     let right = subst (λ d. AnswersDemand track before reply (Some entry) d) (sym (asks ∙ is)) answers in
-    let heard = λ (lost : reply ≡ refused_reply track Memory). some_is_none entry (given_up_adds_none track before line reply (Some entry) right lost) in
+    let heard = λ (lost : reply ≡ refused_reply track Memory). none-some entry (sym (given_up_adds_none track before line reply (Some entry) right lost)) in
     let same = lines_are_answered track before line reply (Some entry) form right heard in
     subst (λ d. (demand_answer track before d).added ≡ Some entry) asks (sym same.1)
 

@@ -1,6 +1,6 @@
 -- Outcomes of a sweep that are told one behind another.
 use Rattle.std.proofs.Common.{◌≡◌, ℕ, ◌<◌, ◌≤◌, ◌+◌, List, [], ◌∷◌, ◌++◌, Option, Result, Ok, Err, refl, sym, ap, ◌∙◌, subst, take, get_or, length, append_assoc, arith}
-use Rattle.std.specs.Prelude.{All, OnOk, OnErr}
+use Rattle.std.specs.Prelude.{All, OnOk}
 use Rattle.std.specs.Io.KnownBytes.{Appends}
 use Rattle.std.proofs.KnownBytes.{Appends-trans}
 use Rattle.std.proofs.lemmas.List.{append-nil, take_all, take_more}
@@ -21,9 +21,10 @@ use Rattle.rbc_sweep.specs.Outcomes.{IsToldToOne, asked}
 use Rattle.rbc_sweep.specs.declared.outcome.Answer.{Answer}
 use Rattle.rbc_sweep.specs.declared.outcome.Answer.TheVariants.{Granted, Blocked, Gone, Full, Memory}
 use Rattle.rbc_sweep.specs.declared.outcome.Outcome.{Outcome}
+use Rattle.rbc_sweep.proofs.AskingLemmas.{viewed}
 use Rattle.rbc_server.specs.Serving.{TellsAll, TellsOutcome, IsTellable, AnswerIsTellable}
 use Rattle.rbc_server.proofs.AskingLemmas.{shown_named}
-use Rattle.rbc_server.proofs.SeatLemmas.{below_most, seen, asked_blocked_named}
+use Rattle.rbc_server.proofs.SeatLemmas.{below_most, asked_blocked_named}
 
 -- one outcome more is told behind those so far
 tells_more : (track : Track) (outcomes : List Outcome) (outcome : Outcome) (text said : List ℕ) → TellsAll track outcomes text → TellsOutcome track outcome said
@@ -51,10 +52,6 @@ part_behind a b c text said before (part, rest, is, after) =
 pub whole_part : (a b : Option (List ℕ)) (text : List ℕ) → Appends a b text → WritesPart a b text
 whole_part a b text written = (text, [], sym (append-nil text), written)
 
-pub on_err : {T E : Type 0} (r : Result T E) (P : Type 0) → P → OnErr r P
-on_err (Ok x) P p = tt
-on_err (Err e) P p = p
-
 pub on_ok : {T E : Type 0} (r : Result T E) (P : Type 0) → P → OnOk r P
 on_ok (Ok x) P p = p
 on_ok (Err e) P p = tt
@@ -64,7 +61,7 @@ on_ok (Err e) P p = tt
 grant_is_tellable : (track : Track) (entries : List Entry) (train : ℕ) (grant : Grant) → IsSound track → IsAnswered (history_on track entries) train (Ok grant)
     → ObstacleIsOfTrack track grant.candidate.view.obstacle × (grant.receipt.place < MOST_ENTRIES)
 grant_is_tellable track entries train grant sound is = (
-  shown_named (history_on track entries) train grant.candidate.view sound (seen (view track (replay track entries) train) (length entries) grant.candidate.view is.1),
+  shown_named (history_on track entries) train grant.candidate.view sound (viewed (view track (replay track entries) train) (length entries) grant.candidate.view is.1),
   (let below = below_most (length entries) is.0 in omega (arith, is.2)),
 )
 

@@ -29,6 +29,7 @@ use Rattle.rbc_sweep.specs.Granted.{Granted as GrantedAtDesk}
 use Rattle.rbc_sweep.specs.Asking.{fault_at, IsAnswered, IsAnsweredThen}
 use Rattle.rbc_sweep.specs.Seats.{Seated}
 use Rattle.rbc_sweep.specs.Telling.{IsToldThen}
+use Rattle.rbc_sweep.proofs.AskingLemmas.{viewed}
 use Rattle.rbc_replies.specs.Replies.{refusal_view, ObstacleIsOfTrack, RefusalIsOfTrack, ReplyIsWhole, grant_text}
 use Rattle.rbc_replies.specs.declared.replies.Granted.{Granted as ToldGrant}
 use Rattle.rbc_replies.specs.declared.replies.SessionReply.{SessionReply}
@@ -88,12 +89,6 @@ told_below begun after told receipt since =
 
 -- ---- what is asked
 
--- what the train is shown, by what the desk tells of it
-pub seen : (r : Result View ViewFault) (version : ℕ) (v : View) → result_map_both (λ s. s) (fault_at version) r ≡ Ok v → r ≡ Ok v
-seen (Ok s) version v e = let same : s ≡ v = cc in ap Ok same
-seen (Err NoTrainShown) version v e = cc
-seen (Err (BlockedAt obstacle at)) version v e = cc
-
 not_seen : (r : Result View ViewFault) (version : ℕ) → result_map_both (λ s. s) (fault_at version) r ≡ Err UnknownTrain → r ≡ Err NoTrainShown
 not_seen (Ok s) version e = cc
 not_seen (Err NoTrainShown) version e = refl
@@ -137,7 +132,7 @@ module _ (track : Track) (entries : List Entry) (train : ℕ) where
 
   module _ (granted : GrantedAtDesk) (is : IsAnswered there train (Ok granted)) where
     shown_to : shown_there ≡ Ok granted.candidate.view
-    shown_to = seen shown_there (length entries) granted.candidate.view is.1
+    shown_to = viewed shown_there (length entries) granted.candidate.view is.1
 
     its_train : granted.candidate.view.train ≡ train
     its_train = view-train track (replay track entries) train granted.candidate.view shown_to

@@ -1,7 +1,8 @@
 use Rattle.std.proofs.Common.{◌++◌, ◌+◌}
 use Rattle.std.proofs.KnownBytes.{Appends-trans, Appends-kept}
-use Rattle.rbc_server.proofs.OutcomeLemmas.{tells_next, tells_all, part_behind, whole_part, on_ok, on_err}
+use Rattle.rbc_server.proofs.OutcomeLemmas.{tells_next, tells_all, part_behind, whole_part, on_ok}
 use Rattle.rbc_server.proofs.outcomes.print_outcomes.Goals as goal
+use Rattle.rbc_model.proofs.ResultLemmas.{on_err}
 
 pub loop-outcome-preserved : goal.loop-outcome-preserved
 loop-outcome-preserved g c =
