@@ -8,7 +8,7 @@ use Rattle.rbc_model.specs.declared.refusals.Obstacle.TheVariants.{Own}
 use Rattle.rbc_model.specs.declared.refusals.Refusal.{Refusal}
 use Rattle.rbc_model.specs.declared.refusals.Refusal.TheVariants.{UnknownTrain, NotSafe}
 use Rattle.rbc_model.specs.declared.refusals.ViewFault.{ViewFault}
-use Rattle.rbc_model.specs.declared.refusals.ViewFault.TheVariants.{UnknownTrain as NoTrain, Blocked}
+use Rattle.rbc_model.specs.declared.refusals.ViewFault.TheVariants.{UnknownTrain as NoTrain}
 use Rattle.rbc_model.specs.declared.places.Leg.{Leg}
 use Rattle.rbc_model.specs.Scales.{is_expressible, unit_of}
 use Rattle.rbc_model.specs.Levels.{speed_levels, grade_levels}
@@ -20,7 +20,7 @@ use Rattle.rbc_model.specs.Locks.{Locks, longer_ahead, lengthened_fully, continu
 use Rattle.rbc_model.specs.Trains.{Train}
 use Rattle.rbc_model.specs.Scenes.{Scene, train_numbered}
 use Rattle.rbc_model.specs.Obstacles.{obstacle, way}
-use Rattle.rbc_model.specs.Views.{View, view, view_of, start_of, IsSafe, is_safe, is_expressible_end, way_end, reach, stop, greatest_end, from_group}
+use Rattle.rbc_model.specs.Views.{View, view, view_to, shown_up_to, view_of, start_of, IsSafe, is_safe, is_expressible_end, way_end, reach, stop, greatest_end}
 use Rattle.rbc_model.specs.Events.{step, with_train, with_authority, line_to}
 use Rattle.rbc_model.specs.declared.reports.Event.TheVariants.{Grant}
 use Rattle.rbc_model.specs.Histories.{Entry, Granted, Grants, Stops, IsBestFor, IsBest, MayFollow, replay}
@@ -88,36 +88,12 @@ placed_well track scene train end h =
 
 -- ---- what a view tells
 
-abbrev pub view_to : Track → Scene → Train → ℕ → View
-view_to track scene train end = record {
-  train = train.report.train;
-  group = train.report.group;
-  nominal = train.report.nominal;
-  time = train.report.time;
-  line = take (legs_begun_before track (reach track scene train) (way track scene train)) (way track scene train);
-  origin = train.origin;
-  start = start_of train;
-  front = train.front;
-  to = train.to;
-  end = end;
-  reach = reach track scene train;
-  obstacle = stop track scene train;
-  speed_steps = track.speed_steps;
-  grade_steps = track.grade_steps;
-  speeds = speeds track (way track scene train) train.origin end;
-  grades = grades track (way track scene train) train.origin end;
-}
-
-abbrev pub seen : Track → Scene → Train → Option ℕ → Result View ViewFault
-seen track scene train None = Err (Blocked (stop track scene train) (from_group train (reach track scene train)))
-seen track scene train (Some end) = Ok (view_to track scene train end)
-
 pub record IsSeen (track : Track) (scene : Scene) (train : Train) (v : View) : Type 0 where
   pub end : ℕ
   pub greatest : greatest_end track scene train ≡ Some end
   pub is : view_to track scene train end ≡ v
 
-seen_by : (track : Track) (scene : Scene) (train : Train) (v : View) (o : Option ℕ) → greatest_end track scene train ≡ o → seen track scene train o ≡ Ok v → IsSeen track scene train v
+seen_by : (track : Track) (scene : Scene) (train : Train) (v : View) (o : Option ℕ) → greatest_end track scene train ≡ o → shown_up_to track scene train o ≡ Ok v → IsSeen track scene train v
 seen_by track scene train v None e h = cc
 seen_by track scene train v (Some end) e h = record { end = end; greatest = e; is = cc }
 
@@ -125,7 +101,7 @@ pub is_seen : (track : Track) (scene : Scene) (train : Train) (v : View) → vie
 is_seen track scene train v h = seen_by track scene train v (greatest_end track scene train) refl h
 
 view_of-greatest : (track : Track) (scene : Scene) (train : Train) (end : ℕ) → greatest_end track scene train ≡ Some end → view_of track scene train ≡ Ok (view_to track scene train end)
-view_of-greatest track scene train end h = ap (seen track scene train) h
+view_of-greatest track scene train end h = ap (shown_up_to track scene train) h
 
 -- ---- the profiles for the view's runs are those for the track
 

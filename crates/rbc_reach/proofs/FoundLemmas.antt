@@ -1,9 +1,8 @@
 -- The view on the legs that were walked is the definition's, which has all legs of the way.
-use Rattle.std.proofs.Common.{◌≡◌, ℕ, ◌≤◌, Bool, true, cond, ◌++◌, List, length, take, drop, Option, Some, None, Result, Ok, Err, refl, sym, ap, ◌∙◌, subst, arith}
+use Rattle.std.proofs.Common.{◌≡◌, ℕ, ◌≤◌, Bool, true, cond, ◌++◌, List, length, take, drop, Option, Some, None, Ok, Err, refl, sym, ap, ◌∙◌, subst, arith}
 use Rattle.std.specs.Prelude.{◌==◌, IsSome, find}
 use Rattle.std.specs.Option.{option_map_or}
 use Rattle.std.proofs.lemmas.List.{take-append-drop}
-use Rattle.rbc_model.specs.declared.refusals.ViewFault.{ViewFault}
 use Rattle.rbc_model.specs.declared.refusals.ViewFault.TheVariants.{Blocked, UnknownTrain}
 use Rattle.rbc_model.specs.Lines.{Line, grades, legs_begun_before, line_length, speeds}
 use Rattle.rbc_model.specs.Obstacles.{way}
@@ -11,43 +10,20 @@ use Rattle.rbc_model.specs.Locks.{Locks}
 use Rattle.rbc_model.specs.Scenes.{Scene, train_numbered}
 use Rattle.rbc_model.specs.Tracks.{Track}
 use Rattle.rbc_model.specs.Trains.{Train}
-use Rattle.rbc_model.specs.Views.{View, from_group, greatest_end, reach, start_of, stop, view, view_of}
+use Rattle.rbc_model.specs.Views.{from_group, greatest_end, reach, shown_up_to, stop, view, view_of}
 use Rattle.rbc_reach_laws.proofs.GreatestEndLemmas.{IsEndBefore, end_before}
 use Rattle.rbc_reach_laws.proofs.ShownLemmas.{grades_shown, legs_shown, speeds_shown}
 use Rattle.rbc_scene.specs.Reaches.{BeginsWay, ReachOnTrack}
 use Rattle.rbc_reach.specs.Found.{view_found}
 
 module _ (track : Track) (scene : Scene) (train : Train) where
-  abbrev seen : Option ℕ → Result View ViewFault
-  seen None = Err (Blocked (stop track scene train) (from_group train (reach track scene train)))
-  seen (Some end) =
-      Ok
-      (record {
-        train = train.report.train;
-        group = train.report.group;
-        nominal = train.report.nominal;
-        time = train.report.time;
-        line = take (legs_begun_before track (reach track scene train) (way track scene train)) (way track scene train);
-        origin = train.origin;
-        start = start_of train;
-        front = train.front;
-        to = train.to;
-        end = end;
-        reach = reach track scene train;
-        obstacle = stop track scene train;
-        speed_steps = track.speed_steps;
-        grade_steps = track.grade_steps;
-        speeds = speeds track (way track scene train) train.origin end;
-        grades = grades track (way track scene train) train.origin end;
-      })
-
-  view_of-seen : (o : Option ℕ) → o ≡ greatest_end track scene train → view_of track scene train ≡ seen o
-  view_of-seen o h = ap seen (sym h)
+  view_of-shown_up_to : (o : Option ℕ) → o ≡ greatest_end track scene train → view_of track scene train ≡ shown_up_to track scene train o
+  view_of-shown_up_to o h = ap (shown_up_to track scene train) (sym h)
 
   module _ (found : ReachOnTrack) (of_track : found.track ≡ track) (at : found.place ≡ reach track scene train) (stops : found.obstacle ≡ stop track scene train) where
     -- no end is given
     pub blocked : (o : Option ℕ) → o ≡ greatest_end track scene train → o ≡ None → view_of track scene train ≡ Err (Blocked found.obstacle (from_group train found.place))
-    blocked o h none = view_of-seen o h ∙ ap seen none ∙ sym (λ j. Err (Blocked (stops j) (from_group train (at j))))
+    blocked o h none = view_of-shown_up_to o h ∙ ap (shown_up_to track scene train) none ∙ sym (λ j. Err (Blocked (stops j) (from_group train (at j))))
 
     module _ (end : ℕ) (o : Option ℕ) (h : o ≡ greatest_end track scene train) (some : o ≡ Some end) where
       pub end_is : IsEndBefore track train found.place end
@@ -66,48 +42,11 @@ module _ (track : Track) (scene : Scene) (train : Train) where
           ap (λ (w : Line). speeds track w train.origin end) parts ∙ speeds_shown track found.line rest train.origin end end_on in
           let steep : grades track (way track scene train) train.origin end ≡ grades track found.line train.origin end =
           ap (λ (w : Line). grades track w train.origin end) parts ∙ grades_shown track found.line rest train.origin end end_on in
-          view_of-seen o h ∙ ap seen some
-          ∙ sym (λ j.
-          Ok
-          (record {
-            train = train.report.train;
-            group = train.report.group;
-            nominal = train.report.nominal;
-            time = train.report.time;
-            line = take (legs_begun_before track (at j) (way track scene train)) (way track scene train);
-            origin = train.origin;
-            start = start_of train;
-            front = train.front;
-            to = train.to;
-            end = end;
-            reach = at j;
-            obstacle = stops j;
-            speed_steps = track.speed_steps;
-            grade_steps = track.grade_steps;
-            speeds = speeds track (way track scene train) train.origin end;
-            grades = grades track (way track scene train) train.origin end;
-          }))
-          ∙ sym (λ j.
-          Ok
-          (record {
-            train = train.report.train;
-            group = train.report.group;
-            nominal = train.report.nominal;
-            time = train.report.time;
-            line = sym legs j;
-            origin = train.origin;
-            start = start_of train;
-            front = train.front;
-            to = train.to;
-            end = end;
-            reach = found.place;
-            obstacle = found.obstacle;
-            speed_steps = track.speed_steps;
-            grade_steps = track.grade_steps;
-            speeds = sym fast j;
-            grades = sym steep j;
-          }))
-          ∙ ap (λ (t : Track). Ok (view_found train (record { track = t; place = found.place; obstacle = found.obstacle; line = found.line }) end)) (sym of_track)
+          let here : ReachOnTrack = record found { track = track } in
+          view_of-shown_up_to o h ∙ ap (shown_up_to track scene train) some
+          ∙ sym (λ j. Ok (view_found train (record { track = track; place = at j; obstacle = stops j; line = way track scene train }) end))
+          ∙ sym (λ j. Ok (record (view_found train here end) { line = sym legs j; speeds = sym fast j; grades = sym steep j }))
+          ∙ ap (λ (t : Track). Ok (view_found train (record here { track = t }) end)) (sym of_track)
 
 -- ---- of the train of this number
 

@@ -1,5 +1,5 @@
 -- The sections that an obstacle or a refusal names are the track's.
-use Rattle.std.proofs.Common.{◌≡◌, ℕ, ◌+◌, ◌-◌, ◌<◌, Bool, true, false, cond, ◌&&◌, not, List, [], ◌∷◌, map, take, length, Option, Some, None, unwrap_or, Result, Ok, Err, refl, subst}
+use Rattle.std.proofs.Common.{◌≡◌, ℕ, ◌+◌, ◌-◌, ◌<◌, Bool, true, false, cond, ◌&&◌, not, List, [], ◌∷◌, map, length, Option, Some, None, unwrap_or, Result, Ok, Err, refl, subst}
 use Rattle.std.specs.Prelude.{option_map, option_and_then, find, filter_map, is_some, slice_get, slice_set, fold, nat_lt, nat_le, ◌==◌, if◌then◌else◌}
 use Rattle.std.specs.Option.{option_map_or, option_or}
 use Rattle.std.specs.Result.{result_map_both}
@@ -21,13 +21,13 @@ use Rattle.rbc_model.specs.Reports.{Report}
 use Rattle.rbc_model.specs.declared.tracks.BaliseGroup.{BaliseGroup}
 use Rattle.rbc_model.specs.Tracks.{Track, Route, group_named, is_linked, leg_eq, metres_of}
 use Rattle.rbc_model.specs.SoundTracks.{IsSound, is_leg_of, is_good_route, is_good_entry, but_last}
-use Rattle.rbc_model.specs.Lines.{Line, last_leg, legs_begun_before, speeds, grades}
+use Rattle.rbc_model.specs.Lines.{Line, last_leg}
 use Rattle.rbc_model.specs.Locks.{Locks, row, next, clash, taken_link, needed_rows, with_leg_before, freed, with_row}
 use Rattle.rbc_model.specs.Trains.{Train}
 use Rattle.rbc_model.specs.Scenes.{Scene, train_numbered}
 use Rattle.rbc_model.specs.Placing.{place, placed_on, Placed, located, covered, leg_told, without_legs_behind}
 use Rattle.rbc_model.specs.Obstacles.{obstacle, obstacle_on, no_link, not_locked, own, occupied, held, limit, unlocked_section, is_locked, way}
-use Rattle.rbc_model.specs.Views.{View, view, view_of, reach, stop, greatest_end, from_group, start_of}
+use Rattle.rbc_model.specs.Views.{View, view, view_of, shown_up_to, reach, stop, greatest_end}
 use Rattle.rbc_model.specs.Events.{step, after_report, after_lock, after_free, after_give_back, with_locks, with_train, without_train, cut_at, stands_on}
 use Rattle.rbc_scene_laws.specs.Good.{IsGoodScene, IsGoodTrain}
 use Rattle.rbc_scene_laws.proofs.BasicLemmas.{and_left, and_right}
@@ -131,30 +131,7 @@ module _ (track : Track) where
   named_view_of : (scene : Scene) (train : Train) → IsGoodScene track scene → IsGoodTrain track train → IsNamedIn (view_of track scene train)
   named_view_of scene train good well = by_end (greatest_end track scene train)
     where
-      seen : Option ℕ → Result View ViewFault
-      seen None = Err (Blocked (stop track scene train) (from_group train (reach track scene train)))
-      seen (Some end) =
-          Ok
-          (record {
-            train = train.report.train;
-            group = train.report.group;
-            nominal = train.report.nominal;
-            time = train.report.time;
-            line = take (legs_begun_before track (reach track scene train) (way track scene train)) (way track scene train);
-            origin = train.origin;
-            start = start_of train;
-            front = train.front;
-            to = train.to;
-            end = end;
-            reach = reach track scene train;
-            obstacle = stop track scene train;
-            speed_steps = track.speed_steps;
-            grade_steps = track.grade_steps;
-            speeds = speeds track (way track scene train) train.origin end;
-            grades = grades track (way track scene train) train.origin end;
-          })
-
-      by_end : (o : Option ℕ) → IsNamedIn (seen o)
+      by_end : (o : Option ℕ) → IsNamedIn (shown_up_to track scene train o)
       by_end None = named_stop scene train good well
       by_end (Some end) = named_stop scene train good well
 

@@ -10,11 +10,11 @@ use Rattle.rbc_model.specs.Lines.{line_length, speeds_from, grades_from}
 use Rattle.rbc_model.specs.Trains.{Train}
 use Rattle.rbc_model.specs.Scenes.{Scene}
 use Rattle.rbc_model.specs.Obstacles.{way}
-use Rattle.rbc_model.specs.Views.{View, view}
+use Rattle.rbc_model.specs.Views.{View, view, view_to}
 use Rattle.rbc_model.proofs.EndLemmas.{IsGreatestEnd-greatest_end, le_reach-IsSafe, reach-le}
 use Rattle.rbc_model.proofs.LevelLemmas.{speed_lawful, grade_lawful}
 use Rattle.rbc_grant_laws.proofs.CoveredLemmas.{speeds_are_covered, grades_are_covered}
-use Rattle.rbc_grant_laws.proofs.CandidateLemmas.{placed_well, view_to, is_seen, is_there}
+use Rattle.rbc_grant_laws.proofs.CandidateLemmas.{placed_well, is_seen, is_there}
 use Rattle.rbc_session_laws.specs.Answers.{metres_shown}
 use Rattle.rbc_steps.proofs.TrackRunLemmas.{IsTrackFunction-runs_over}
 use Rattle.std.specs.Cmp.{first_so, second_so}
