@@ -1,5 +1,5 @@
 -- Lemmas on what a crash leaves since a stamp.
-use Rattle.std.proofs.Common.{◌≡◌, ℕ, zero, suc, ◌+◌, List, [], ◌∷◌, ◌++◌, subst, arith, Some}
+use Rattle.std.proofs.Common.{◌≡◌, ℕ, ◌+◌, List, subst, arith, Some}
 use Rattle.std.specs.Prelude.{slice_get}
 use mathlib.Core.List.{IsPrefix}
 use Rattle.rbc_kept.specs.Later.{IsLater}
@@ -7,21 +7,17 @@ use Rattle.rbc_kept.specs.Records.{HistoryOnTrack}
 use Rattle.rbc_scribe.specs.Marks.{HasLine}
 use Rattle.rbc_scribe.specs.Stamps.{EachLasts}
 use Rattle.rbc_scribe.specs.declared.stamp.Stamp.{Stamp}
+use Rattle.rbc_scribe.proofs.FileLemmas.{front_get}
 use Rattle.rbc_desk_journal.specs.Entries.{TellsEntry}
 use Rattle.rbc_desk_journal.specs.Lasting.{EachLeavesFirst, LinesLast}
-use Rattle.rbc_desk_journal.proofs.LaterLemmas.{none_is_some, tells_later, tells_first}
-
-in_front : (first more : List Stamp) (at : ℕ) (stamp : Stamp) → slice_get first at ≡ Some stamp → slice_get (first ++ more) at ≡ Some stamp
-in_front [] more at stamp is = absurd (none_is_some stamp is)
-in_front (one ∷ first) more zero stamp is = is
-in_front (one ∷ first) more (suc at) stamp is = in_front first more at stamp is
+use Rattle.rbc_desk_journal.proofs.LaterLemmas.{tells_later, tells_first}
 
 -- what a pen has kept it has kept with more stamps
 pub has_still : (first more : List Stamp) (place : ℕ) → IsPrefix first more → HasLine first place → HasLine more place
 has_still first more place p has = record {
   at = has.at;
   stamp = has.stamp;
-  given = subst (λ (l : List Stamp). slice_get l has.at ≡ Some has.stamp) p.1 (in_front first p.0 has.at has.stamp has.given);
+  given = subst (λ (l : List Stamp). slice_get l has.at ≡ Some has.stamp) p.1 (front_get first p.0 has.at has.stamp has.given);
   more = has.more;
 }
 

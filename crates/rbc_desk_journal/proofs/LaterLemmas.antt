@@ -1,32 +1,19 @@
 -- Lemmas on what lines tell of histories that go on.
-use Rattle.std.proofs.Common.{◌≡◌, ℕ, zero, suc, ◌<◌, ◌≤◌, List, [], ◌∷◌, length, take, Option, Some, None, refl, sym, ap, ◌∙◌, subst, arith}
+use Rattle.std.proofs.Common.{◌≡◌, ℕ, ◌<◌, ◌≤◌, List, [], ◌∷◌, length, take, Some, refl, sym, ap, ◌∙◌, subst, arith}
 use Rattle.std.specs.Prelude.{slice_get}
 use Rattle.std.proofs.lemmas.List.{take-take}
+use Rattle.std.proofs.lemmas.Option.{slice_get_within}
 use Rattle.rbc_kept.specs.Later.{IsLater}
 use Rattle.rbc_kept.specs.Records.{HistoryOnTrack}
 use Rattle.rbc_journal.specs.Journal.{recovered}
 use Rattle.rbc_model.specs.Histories.{Entry}
 use Rattle.rbc_model.specs.Tracks.{Track}
+use Rattle.rbc_model.proofs.BasicLemmas.{slice_get-from_take}
 use Rattle.rbc_scribe.specs.Told.{HasLines}
 use Rattle.rbc_kept.specs.Adds.{Adds}
 use Rattle.rbc_desk_journal.specs.Entries.{TellsEntry, TellsFirst}
 
 module _ {A : Type 0} where
-  pub none_is_some : (b : A) → (let o : Option A = None in o) ≡ Some b → ⊥
-  none_is_some b e = cc
-
-  -- what stands at a place of the first elements stands there in all
-  front_get : (n : ℕ) (xs : List A) (place : ℕ) (x : A) → slice_get (take n xs) place ≡ Some x → slice_get xs place ≡ Some x
-  front_get zero xs place x is = absurd (none_is_some x is)
-  front_get (suc n) [] place x is = absurd (none_is_some x is)
-  front_get (suc n) (y ∷ ys) zero x is = is
-  front_get (suc n) (y ∷ ys) (suc place) x is = front_get n ys place x is
-
-  pub get_below : (xs : List A) (place : ℕ) (x : A) → slice_get xs place ≡ Some x → place < length xs
-  get_below [] place x is = absurd (none_is_some x is)
-  get_below (y ∷ ys) zero x is = omega arith
-  get_below (y ∷ ys) (suc place) x is = let less = get_below ys place x is in omega (arith, less)
-
   abbrev last_of : A → List A → A
   last_of x [] = x
   last_of x (y ∷ ys) = last_of y ys
@@ -45,11 +32,11 @@ pub tells_later : (a b : HistoryOnTrack) → IsLater a b → (place : ℕ) (line
 tells_later a b later place line t =
     let n = length a.entries in
     let opening : a.entries ≡ take n b.entries = sym later.opening in
-    let below = get_below a.entries place t.entry t.stands in
+    let below = slice_get_within a.entries place t.entry t.stands in
     let front : take place a.entries ≡ take place b.entries = ap (take place) opening ∙ take-take place n b.entries (omega (arith, below)) in
     record {
       entry = t.entry;
-      stands = front_get n b.entries place t.entry (subst (λ (l : List Entry). slice_get l place ≡ Some t.entry) opening t.stands);
+      stands = slice_get-from_take n b.entries place t.entry (subst (λ (l : List Entry). slice_get l place ≡ Some t.entry) opening t.stands);
       adds = subst (λ (before : List Entry). Adds b.track before line t.entry) front
           (subst (λ (track : Track). Adds track (take place a.entries) line t.entry) (sym later.track) t.adds);
     }
@@ -57,6 +44,6 @@ tells_later a b later place line t =
 pub tells_first : (history : HistoryOnTrack) (least : ℕ) (file : List ℕ) → HasLines (TellsEntry history) least file → TellsFirst history least file
 tells_first history least file has = record {
   enough = has.enough;
-  fits = few (recovered file) (length history.entries) (λ place line is. let t = has.told place line is in get_below history.entries place t.entry t.stands);
+  fits = few (recovered file) (length history.entries) (λ place line is. let t = has.told place line is in slice_get_within history.entries place t.entry t.stands);
   each = has.told;
 }

@@ -1,5 +1,6 @@
 -- Lemmas on lines that tell a record, one after the other.
-use Rattle.std.proofs.Common.{◌≡◌, ℕ, zero, suc, ◌≤◌, arith, List, [], ◌∷◌, ◌++◌, length, take, Option, Some, refl, sym, ap, ◌∙◌, subst, append-nil, append_assoc}
+use Rattle.std.proofs.Common.{◌≡◌, ℕ, zero, suc, ◌≤◌, arith, List, [], ◌∷◌, ◌++◌, length, take, Some, refl, sym, ap, ◌∙◌, subst, append-nil, append_assoc}
+use Rattle.std.proofs.lemmas.Option.{none-some, same_Some}
 use Rattle.std.specs.Prelude.{slice_get, replicate}
 use Rattle.rbc_journal.specs.Journal.{recovered}
 use Rattle.rbc_journal.specs.declared.journal.Journal.{Journal}
@@ -11,22 +12,18 @@ use Rattle.rbc_kept.specs.Tells.{Tells}
 use Rattle.rbc_model.specs.Histories.{Entry}
 use Rattle.rbc_scribe.specs.Told.{AreTold}
 use Rattle.rbc_desk_journal.specs.Entries.{TellsEntry}
-use Rattle.rbc_desk_journal.proofs.LaterLemmas.{none_is_some}
-
-the_same : {A : Type 0} (a b : A) → (let o : Option A = Some a in o) ≡ Some b → a ≡ b
-the_same a b e = cc
 
 module _ (adds : List Entry → List ℕ → Entry → Type 0) where
   -- each line adds the entry at its place behind those before it
   by_place : (before : List Entry) (lines : List (List ℕ)) (entries : List Entry) → Tells adds before lines entries → (place : ℕ) (line : List ℕ) → slice_get lines place ≡ Some line
       → (entry : Entry) × (slice_get entries place ≡ Some entry) × adds (before ++ take place entries) line entry
-  by_place before [] entries told place line here = absurd (none_is_some line here)
+  by_place before [] entries told place line here = absurd (none-some line here)
   by_place before (first ∷ lines) entries told zero line here =
       let e = told.0 in (
         e,
         subst (λ (l : List Entry). slice_get l 0 ≡ Some e) (sym told.2) refl,
         subst (λ (l : List Entry). adds (before ++ take 0 l) line e) (sym told.2)
-            (subst (λ (b : List Entry). adds b line e) (sym (append-nil before)) (subst (λ (l : List ℕ). adds before l e) (the_same first line here) told.3)),
+            (subst (λ (b : List Entry). adds b line e) (sym (append-nil before)) (subst (λ (l : List ℕ). adds before l e) (same_Some first line here) told.3)),
       )
   by_place before (first ∷ lines) entries told (suc place) line here =
       let e = told.0 in

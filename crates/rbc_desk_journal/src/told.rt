@@ -88,7 +88,7 @@ impl<L: DeskName> Told for SeatTold<L> {
 }
 
 /// The line of the entry that a receipt is for, by what its seat was told.
-#[tactic(auto, using(crate::proofs::LaterLemmas::get_below))]
+#[tactic(auto, using(std::proofs::lemmas::Option::slice_get_within))]
 pub fn line_of<L: DeskName>(
     seat: &Seat<L>,
     receipt: &Receipt,

@@ -5,6 +5,7 @@ use Rattle.std.specs.Prelude.{slice_get, take, IfOk, OnErr}
 use Rattle.std.specs.Result.{result_map_both}
 use Rattle.std.proofs.lemmas.Bool.{ltb-true, lt-ltb}
 use Rattle.std.proofs.lemmas.List.{length-append}
+use Rattle.std.proofs.lemmas.Option.{none-some, same_Some}
 use Rattle.rbc_journal.specs.Journal.{recovered}
 use Rattle.rbc_model.specs.Results.{◌>>=◌}
 use Rattle.rbc_model.specs.Tracks.{Track}
@@ -29,13 +30,10 @@ use Rattle.rbc_kept.proofs.TellingLemmas.{Goes as Replays, goes_on}
 
 -- ---- a line that adds an entry
 
-some_is_none : (entry : Entry) → (let o : Option Entry = Some entry in o) ≡ None → ⊥
-some_is_none entry e = cc
-
 -- the entry that an answer adds is the one that the line adds
 pub adds_of : (track : Track) (before : List Entry) (line reply : List ℕ) (entry : Entry) → IsInForm track → AnswersLine track before line reply (Some entry) → Adds track before line entry
 adds_of track before line reply entry form answers =
-    let heard = λ (lost : reply ≡ refused_reply track Memory). some_is_none entry (given_up_adds_none track before line reply (Some entry) answers lost) in
+    let heard = λ (lost : reply ≡ refused_reply track Memory). none-some entry (sym (given_up_adds_none track before line reply (Some entry) answers lost)) in
     let is = lines_are_answered track before line reply (Some entry) form answers heard in
     sym is.1
 
@@ -84,22 +82,16 @@ replays_on track before after file rest further line same reads g so_far =
 
 -- ---- what a file stands for is retold
 
-the_same : (a b : Entry) → (let o : Option Entry = Some a in o) ≡ Some b → a ≡ b
-the_same a b e = cc
-
-none_is_some : (b : Entry) → (let o : Option Entry = None in o) ≡ Some b → ⊥
-none_is_some b e = cc
-
 module _ (track : Track) where
   retold_behind : (before : List Entry) (lines : List (List ℕ)) (entries : List Entry) → Tells (Adds track) before lines entries
       → (place : ℕ) (entry : Entry) → slice_get entries place ≡ Some entry → (line_answer track (before ++ take place entries) (entry_line track entry)).added ≡ Some entry
   retold_behind before [] entries told place entry here =
-      absurd (none_is_some entry (subst (λ (l : List Entry). slice_get l place ≡ Some entry) told here))
+      absurd (none-some entry (subst (λ (l : List Entry). slice_get l place ≡ Some entry) told here))
   retold_behind before (line ∷ lines) entries (e, rest, is, adds, later) zero entry here =
       let found : slice_get (e ∷ rest) 0 ≡ Some entry = subst (λ (l : List Entry). slice_get l 0 ≡ Some entry) is here in
       let again : (line_answer track before (entry_line track e)).added ≡ Some e = ap (λ (a : Answer). a.added) (entries_are_told_again track before line e adds) ∙ adds in
       subst (λ (l : List Entry). (line_answer track (before ++ take 0 l) (entry_line track entry)).added ≡ Some entry) (sym is)
-      (subst (λ (x : Entry). (line_answer track (before ++ []) (entry_line track x)).added ≡ Some x) (the_same e entry found)
+      (subst (λ (x : Entry). (line_answer track (before ++ []) (entry_line track x)).added ≡ Some x) (same_Some e entry found)
       (subst (λ (b : List Entry). (line_answer track b (entry_line track e)).added ≡ Some e) (sym (append-nil before)) again))
   retold_behind before (line ∷ lines) entries (e, rest, is, adds, later) (suc place) entry here =
       let found : slice_get rest place ≡ Some entry = subst (λ (l : List Entry). slice_get l (suc place) ≡ Some entry) is here in

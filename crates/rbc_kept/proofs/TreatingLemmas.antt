@@ -23,19 +23,16 @@ use Rattle.rbc_server.specs.SessionReply.TheVariants.{Refused as RefusedReply}
 use Rattle.rbc_server.specs.Changes.{Comes, Goes}
 use Rattle.rbc_server.specs.Records.{HistoryOnTrack, scene_now}
 use Rattle.rbc_server.proofs.CentreLemmas.{line_comes, printed_comes, refused_comes}
+use Rattle.rbc_server.proofs.KeepingLemmas.{line_asks}
 use Rattle.rbc_session_laws.specs.declared.demand.Demand.{Demand}
 use Rattle.rbc_session_laws.specs.declared.demand.Demand.TheVariants.{Nothing, Authority}
-use Rattle.rbc_session_laws.specs.Demands.{looked_up, demand_in}
+use Rattle.rbc_session_laws.specs.Demands.{looked_up}
 use Rattle.rbc_session_laws.specs.Turns.{AnswersAsker, AnswersDemand}
 use Rattle.rbc_kept.specs.Advances.{IsTreated}
 
 -- what is asked for comes to this
 abbrev pub ComesTo : Result Demand SessionRefusal → HistoryOnTrack → List ℕ → HistoryOnTrack → Type 0
 ComesTo demand before reply after = Comes (λ track entries said added. AnswersDemand track entries said added demand) before reply after
-
--- a line asks for what the request in it does
-pub demand_said : (track : Track) (line : List ℕ) (said : SessionLine) → parse_session line ≡ Ok said → demand_in track line ≡ looked_up track said
-demand_said track line said read = ap (λ r. result_map_both (λ x. x) BadLine r >>= looked_up track) read
 
 -- what a request asks for, as it was found
 pub asked : (track other : Track) (said : SessionLine) (found demand : Demand) → track ≡ other → found ≡ demand → Ok found ≡ looked_up track said → looked_up other said ≡ Ok demand
@@ -60,12 +57,12 @@ given_up first now train shown same is = (
 pub refused_said : (history : HistoryOnTrack) (line : List ℕ) (said : SessionLine) (refusal : SessionRefusal) (track printed : Track) → track ≡ history.track → printed ≡ history.track
     → parse_session line ≡ Ok said → Err refusal ≡ looked_up track said → Goes history line (refused_reply printed refusal) history
 refused_said history line said refusal track printed is also read e =
-    refused_comes history line refusal track printed is also (e ∙ sym (demand_said track line said read))
+    refused_comes history line refusal track printed is also (e ∙ sym (line_asks track line said read))
 
 pub goes_by : (before after : HistoryOnTrack) (line reply : List ℕ) (said : SessionLine) (demand : Result Demand SessionRefusal) → parse_session line ≡ Ok said
     → looked_up before.track said ≡ demand → ComesTo demand before reply after → Goes before line reply after
 goes_by before after line reply said demand read asks comes =
-    line_comes before after line reply demand before.track refl (sym (demand_said before.track line said read ∙ asks)) comes
+    line_comes before after line reply demand before.track refl (sym (line_asks before.track line said read ∙ asks)) comes
 
 pub treated_by : (first before after : HistoryOnTrack) (line text : List ℕ) (said : SessionLine) (demand : Result Demand SessionRefusal) (reply : SessionReply) → before ≡ first
     → parse_session line ≡ Ok said → parse_session text ≡ Ok said → looked_up first.track said ≡ demand → ComesTo demand before (reply_text before.track reply) after

@@ -6,6 +6,7 @@ use Rattle.std.specs.List.{AllByRecursion}
 use Rattle.std.proofs.KnownBytes.{Appends-nil, Appends-trans, Consumes-whole}
 use Rattle.std.proofs.lemmas.List.{append_cancel_left}
 use Rattle.std.proofs.lemmas.List.Elements.{recursion_from_All}
+use Rattle.std.proofs.lemmas.Bool.{both_ways}
 use Rattle.rbc_model.specs.declared.limits.TheConstants.{LONGEST_LINE}
 use Rattle.rbc_model.specs.Histories.{Entry, replay}
 use Rattle.rbc_model.specs.Sessions.{lines_of, WritesText, Prints}
@@ -103,9 +104,6 @@ never_lost : (first last : Showing) (lines : List (List ℕ)) (text : List ℕ) 
 never_lost first last [] text (none, same) whole = ap (λ (s : Showing). s.lost) (sym same) ∙ whole
 never_lost first last (line ∷ lines) text (reply, rest, next, answers, cut, later) whole = answers.0
 
-both_ways : (b : Bool) → b ≡ true → b ≡ false → ⊥
-both_ways b high low = cc
-
 -- one line more
 shown_behind : (first next last : Showing) (line : List ℕ) (lines : List (List ℕ)) (reply rest text : List ℕ) → IsShown first line reply next → text ≡ reply ++ rest → AreShown next last lines rest
     → AreShown first last (line ∷ lines) text
@@ -133,7 +131,7 @@ lines_shown first last [] text short (none, same) whole = record {
   entries = ap (λ (s : Showing). s.history.entries) same ∙ none_on first.history.track first.history.entries;
 }
 lines_shown first last (line ∷ lines) text short (reply, rest, next, (going, inl gone), cut, later) whole =
-    absurd (both_ways next.lost gone (never_lost next last lines rest later whole))
+    absurd (both_ways next.lost (never_lost next last lines rest later whole) gone)
 lines_shown first last (line ∷ lines) text short (reply, rest, next, (going, inr kept), cut, later) whole =
     shown_behind first next last line lines reply rest text (kept.1 short.0) cut (lines_shown next last lines rest short.1 later whole)
 

@@ -1,4 +1,5 @@
-use Rattle.std.proofs.Common.{◌≡◌, [], List, ℕ, Option, Some, sym, ◌∙◌, subst}
+use Rattle.std.proofs.Common.{◌≡◌, [], List, ℕ, sym, ◌∙◌, subst}
+use Rattle.std.proofs.lemmas.Option.{same_Some}
 use Rattle.rbc_journal.specs.Journal.{recovered}
 use Rattle.rbc_model.specs.Tracks.{Track}
 use Rattle.rbc_model.specs.Histories.{Entry}
@@ -9,11 +10,8 @@ use Rattle.rbc_kept.proofs.GateLemmas.{journals_are_sessions}
 use Rattle.rbc_kept.proofs.TellingLemmas.{tell_one, front_tells}
 use Rattle.rbc_kept.proofs.laws.files_tell_one_history.Goals as goal
 
-the_same : (a b : Entry) → (let o : Option Entry = Some a in o) ≡ Some b → a ≡ b
-the_same a b e = cc
-
 only_one : (track : Track) (before : List Entry) (line : List ℕ) (a b : Entry) → Adds track before line a → Adds track before line b → a ≡ b
-only_one track before line a b first second = the_same a b (sym first ∙ second)
+only_one track before line a b first second = same_Some a b (sym first ∙ second)
 
 pub returns-clause-one : goal.returns-clause-one
 returns-clause-one c track file some other a b = tell_one (Adds track) (only_one track) [] (recovered file) some other a b
