@@ -94,5 +94,5 @@ def lines_of_train(train, route, count):
         if number % 5 == 4:
             lines.append(f"ask {train}")
         else:
-            lines.append(f"report {train} 5/{train} nominal {300 + number // 5} 5 5 200 {number}")
+            lines.append(f"report {train} 5/{train} nominal {300 + number * 4_000 // count} 5 5 200 {number}")
     return "".join(f"{line}\n" for line in lines).encode()
