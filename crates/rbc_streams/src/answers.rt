@@ -66,13 +66,14 @@ pub trait Answers<C> {
         ensures reply { (reply : List ℕ) × answers (state self.old) line.now reply (state self.new)
             × Prints (W.written writer.old) (W.written writer.new) (broken (state self.new) || W.failed writer.new) reply result };
 
-    /// Prints the reply to a line that is too long, whatever it says. None rests then.
+    /// Prints the reply to a line that is too long, whatever it says. None rests before it, nor then.
     ///
     /// # Errors
     /// As above.
     fn refuse<W: Sink>(&mut self, help: &C, writer: &mut W) -> Result<(), WriteFailed>
         requires going { W.failed writer.old ≡ false }
         requires ready { ready (state self.old) }
+        requires none_rests { rests (state self.old) ≡ 0 }
         ensures none_rests { rests (state self.new) ≡ 0 }
         ensures reply { (reply : List ℕ)
             × ((line : List ℕ) → longest < length line → answers (state self.old) line reply (state self.new))

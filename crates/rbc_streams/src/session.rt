@@ -164,6 +164,7 @@ fn refuse<C, A: Answers<C>, W: Sink>(
 ) -> Result<(), WriteFailed>
     requires going { W.failed writer.old ≡ false }
     requires ready { A.ready (A.state answerer.old) }
+    requires none_rests { A.rests (A.state answerer.old) ≡ 0 }
     ensures reply { (reply : List ℕ)
         × ((line : List ℕ) → A.longest < length line
         → A.answers (A.state answerer.old) line reply (A.state answerer.new))
