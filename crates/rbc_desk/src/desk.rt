@@ -15,7 +15,7 @@ ghost use Rattle.rbc_desk.specs.Trains.{numbers_of};
 ghost use Rattle.rbc_desk.specs.declared.faults.CloseFault.TheVariants.{Missing};
 
 use crate::shared::{Shared, fault_at};
-use crate::{AskFault, Blank, CloseFault, DeskName, Gate, Granted, Seat};
+use crate::{AskFault, Blank, CloseFault, DeskName, Gate, Granted, Hold, Seat};
 use rbc_model::{Memory, OrMemory, Told, TrainId};
 use rbc_snap::{ApplyFault, Candidate, Eye, EyeFault, Press, Receipt, Record, View};
 use rbc_track::Track;
@@ -179,17 +179,16 @@ impl<L: DeskName> Desk<L> {
         requires { IsOfTrack L.opened.track told }
         ensures { IsToldAt seat.old seat.new told result }
     {
-        let mut shared = self.shared.lock(rt);
-        let answer = (*shared).event(rt, alloc, seat, &told);
-        (*shared).publish(rt, alloc, seat);
-        // A guard that is dropped would need that the press may be.
-        MutexGuard::unlock(shared);
+        let mut hold = self.hold(rt);
+        let answer = hold.event(rt, alloc, seat, &told);
+        hold.publish(rt, alloc, seat);
+        hold.leave();
         answer
     }
 
-    /// The same, for a seat that has more to tell at once: what is entered is published later, so that many entries are
-    /// published as one. That is done by the next [`Desk::publish`], [`Desk::event`] or [`Desk::ask`] from this seat, or when
-    /// any seat is granted something.
+    /// The same, for a seat that will tell more or ask: what is entered is published later, so that many entries are published
+    /// as one. That is done by the next [`Desk::publish`], [`Desk::event`] or [`Desk::ask`] from this seat, or when any seat is
+    /// granted something.
     ///
     /// # Errors
     ///
@@ -204,25 +203,30 @@ impl<L: DeskName> Desk<L> {
         requires { IsOfTrack L.opened.track told }
         ensures { IsToldAt seat.old seat.new told result }
     {
-        let mut shared = self.shared.lock(rt);
-        let answer = (*shared).event(rt, alloc, seat, &told);
-        // As above.
-        MutexGuard::unlock(shared);
+        let mut hold = self.hold(rt);
+        let answer = hold.event(rt, alloc, seat, &told);
+        hold.leave();
         answer
     }
 
-    /// Publishes what was entered from this seat by [`Desk::event_ahead`], so that the eyes of all seats see it. Where there
-    /// is no memory for the scene, they see what they saw.
+    /// The desk in one hold of its lock, for a seat that has much to tell at once. Every other seat waits until it ends.
+    pub fn hold<R: Wait>(&self, rt: &R) -> Hold<'_, L> {
+        Hold {
+            shared: self.shared.lock(rt),
+        }
+    }
+
+    /// Publishes what was entered from this seat and is not published yet, so that the eyes of all seats see it. Where there is
+    /// no memory for the scene, they see what they saw.
     pub fn publish<R: Wait>(&self, rt: &R, alloc: Global, seat: &mut Seat<L>)
         ensures { seat.new ≡ seat.old }
     {
         if !seat.is_ahead {
             return;
         }
-        let mut shared = self.shared.lock(rt);
-        (*shared).publish(rt, alloc, seat);
-        // As above.
-        MutexGuard::unlock(shared);
+        let mut hold = self.hold(rt);
+        hold.publish(rt, alloc, seat);
+        hold.leave();
     }
 
     /// Why what is told is not entered, where its caller has no memory for it: what refuses it at once, or `Memory`. The seat
@@ -238,7 +242,7 @@ impl<L: DeskName> Desk<L> {
     {
         let shared = self.shared.lock(rt);
         let fault = (*shared).event_in_vain(rt, seat, told);
-        // As above.
+        // A guard that is dropped would need that the press may be.
         MutexGuard::unlock(shared);
         fault
     }

@@ -9,6 +9,7 @@ mod desk;
 mod faults;
 mod gate;
 mod granted;
+mod hold;
 mod name;
 mod seat;
 mod shared;
@@ -18,6 +19,7 @@ pub use desk::Desk;
 pub use faults::{AskFault, CloseFault};
 pub use gate::{Gate, OpenGate};
 pub use granted::Granted;
+pub use hold::Hold;
 pub use name::DeskName;
 pub use rbc_model::{Memory, OrMemory, Told};
 pub use rbc_snap::{

@@ -1,11 +1,7 @@
 use Rattle.std.proofs.Common.{subst, sym}
 use Rattle.rbc_desk.specs.Seats.{Seated}
 use Rattle.rbc_desk.specs.Telling.{IsToldAt}
-use Rattle.rbc_desk.proofs.AskingLemmas.{told_at}
 use Rattle.rbc_desk.proofs.desk.Desk.event.Goals as goal
 
 pub returns : goal.returns
-returns g c =
-    let shared = c.event-answer.ensures in
-    subst (λ (has : Seated). IsToldAt c.args.seat.now has c.args.told c.event-answer.result) (sym c.publish.ensures)
-    (told_at c.args.seat.now c.event-answer.new.seat c.args.told c.event-answer.result shared.told shared.later shared.receipt shared.refused)
+returns g c = subst (λ (has : Seated). IsToldAt c.args.seat.now has c.args.told c.event-answer.result) (sym c.publish.ensures) c.event-answer.ensures
