@@ -35,6 +35,10 @@ impl<'a, L: DeskName, D: Device, N: ScribeName> Keeper<L> for DeskJournal<'a, Se
 
     ghost says = { λ line said. parse_session line ≡ Ok said };
 
+    fn keeps_nothing(&self) -> bool {
+        false
+    }
+
     fn prepare(&self, alloc: Global, request: &Request) -> Result<RequestLine, Memory> {
         RequestLine::of(alloc, request)
     }

@@ -25,7 +25,7 @@ use Rattle.rbc_session_laws.proofs.LineLemmas.{lines_are_answered, given_up_adds
 use Rattle.rbc_server.specs.Changes.{with_added}
 use Rattle.rbc_server.specs.Keeping.{AddsEntry}
 use Rattle.rbc_server.specs.SeatTurns.{AnswersDemandAtDesk, IsAnsweredSince}
-use Rattle.rbc_server.specs.Sittings.{Advances, StaysKept, Treats}
+use Rattle.rbc_server.specs.Sittings.{StaysKept, Treats}
 use Rattle.rbc_server.specs.declared.sitting.Sitting.{Sitting}
 use Rattle.rbc_server.proofs.ConnectionLemmas.{appends_nothing, take_append}
 

@@ -12,6 +12,7 @@ pub mod OutcomeLemmas
 pub mod ServingLemmas
 pub mod AnsweredLemmas
 pub mod HistoryLemmas
+pub mod HearingLemmas
 pub mod SittingLemmas
 pub mod KeepingLemmas
 pub mod GrantLemmas

@@ -1,6 +1,7 @@
 pub mod Answered
 pub mod Changes
 pub mod Connections
+pub mod Hearings
 pub mod Keeping
 pub mod SeatChanges
 pub mod SeatSessions

@@ -1,9 +1,11 @@
 -- What the treatment of a line makes of a seat.
-use Rattle.std.specs.Prelude.{◌≡◌, ℕ, List, ◌++◌, Option, Result}
+use Rattle.std.specs.Prelude.{◌≡◌, ℕ, List, [], ◌∷◌, ◌++◌, Option, Result, Ok}
+use Rattle.rbc_model.specs.declared.reports.Told.{Told}
 use Rattle.rbc_model.specs.Histories.{Receipt}
 use Rattle.rbc_model.specs.SessionReply.{SessionRefusal}
 use Rattle.rbc_sweep.specs.Seats.{Seated}
 use Rattle.rbc_session_laws.specs.declared.demand.Demand.{Demand}
+use Rattle.rbc_session_laws.specs.declared.demand.Demand.TheVariants.{Event}
 use Rattle.rbc_session_laws.specs.Demands.{demand_in}
 use Rattle.rbc_server.specs.SeatTurns.{AnswersDemandAtDesk}
 use Rattle.rbc_server.specs.SeatSessions.{receipts_of}
@@ -17,3 +19,9 @@ SeatComes demand before reply after =
 -- a line is answered, and leads from the one seat to the other
 abbrev pub SeatGoes : Seated → List ℕ → List ℕ → Seated → Type 0
 SeatGoes before line reply after = SeatComes (demand_in before.told.track line) before reply after
+
+-- What is told, one after the other, is answered by this text, reply by reply, and leads from the one seat to the other.
+abbrev pub SeatHears : Seated → List Told → List ℕ → Seated → Type 0
+SeatHears before [] text after = (text ≡ []) × (after ≡ before)
+SeatHears before (told ∷ more) text after =
+    (reply : List ℕ) × (rest : List ℕ) × (next : Seated) × SeatComes (Ok (Event told)) before reply next × (text ≡ reply ++ rest) × SeatHears next more rest after

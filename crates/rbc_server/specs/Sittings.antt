@@ -38,8 +38,8 @@ IsTreated kept demand before after old new writer_failed result =
     (text : List ℕ) × Treats kept demand before text after × Prints old new (after.has_failed || writer_failed) text result
 
 -- what a line asks for is treated so
-abbrev pub Advances : {L P : Type 0} → (P → ℕ → Type 0) → Sitting L P → List ℕ → List ℕ → Sitting L P → Type 0
-Advances kept before line text after = Treats kept (demand_in before.seat.told.track line) before text after
+abbrev pub TreatsLine : {L P : Type 0} → (P → ℕ → Type 0) → Sitting L P → List ℕ → List ℕ → Sitting L P → Type 0
+TreatsLine kept before line text after = Treats kept (demand_in before.seat.told.track line) before text after
 
 -- What was written by a session of these turns is made of the replies to the first of them, in order, and what led to the entries of all these is kept.
 -- These are all turns, unless keeping has failed: then all but the last.

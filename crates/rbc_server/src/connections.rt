@@ -7,7 +7,7 @@ ghost use Rattle.rbc_port.specs.Clients.{FewerCome};
 ghost use Rattle.rbc_server.specs.Connections.{AreConnections, AreParted, IsConnection};
 ghost use Rattle.rbc_server.specs.declared.connections.ConnectFault.TheVariants.{Port as NoClient};
 
-use crate::{Counter, Keeper, Sitting, session};
+use crate::{Counter, Keeper, SessionEnd, Sitting, session};
 use rbc_port::{Client, Clients, Ends, PortFailed};
 use rbc_streams::{Sink, Source};
 use rbc_sweep::{DeskName, OpenGate, Seat};
@@ -109,19 +109,19 @@ fn connection<
         Err(gone) => return Visit { sitting, gone },
     };
     let Sitting { seat, pen, .. } = sitting;
-    let mut sitting = Sitting {
+    let sitting = Sitting {
         seat,
         pen,
         has_failed: false,
     };
-    let ended = session(
+    let SessionEnd { sitting, ended } = session(
         rt,
         alloc,
         lines,
         &mut reader,
         &mut writer,
         counter,
-        &mut sitting,
+        sitting,
     );
     let gone = C::let_go(rt, alloc, reader, writer, ended);
     Visit { sitting, gone }

@@ -1,6 +1,7 @@
-//! A seat at a desk answers lines.
+//! What the seats of a desk have at hand, and how a line is treated from one.
 
-ghost use Rattle.std.specs.Prelude.{◌≡◌, ◌<◌, ℕ, List, true, false, Ok, IfOk, OnOk, is_err};
+ghost use Rattle.std.specs.Prelude.{◌≡◌, ◌<◌, ◌≤◌, ℕ, List, All, true, false, Ok, IfOk, OnOk, is_err, length, vec_len, vec_capacity};
+ghost use Rattle.std.specs.List.{flat_map};
 ghost use Rattle.rbc_model.specs.Sessions.{Prints};
 ghost use Rattle.rbc_model.specs.SessionText.{SessionLine, IsSayable};
 ghost use Rattle.rbc_model.specs.Histories.{Entry};
@@ -13,6 +14,7 @@ ghost use Rattle.rbc_session_laws.specs.Demands.{demand_in, looked_up};
 ghost use Rattle.rbc_model.specs.HistoryText.{IsToldOfTrack};
 ghost use Rattle.rbc_replies.specs.SessionLines.{request_view};
 ghost use Rattle.rbc_server.specs.Keeping.{AddsEntry};
+ghost use Rattle.rbc_server.specs.SeatChanges.{SeatComes, SeatHears};
 ghost use Rattle.rbc_server.specs.SeatTurns.{AnswersAsked};
 ghost use Rattle.rbc_server.specs.Shown.{entry_granted_in};
 ghost use Rattle.rbc_server.specs.Sittings.{IsTreated, StaysKept};
@@ -21,13 +23,12 @@ use crate::asking::told_of;
 use crate::demand::looked_up;
 use crate::telling::refusal_of;
 use crate::{Keeper, NotKept, Sitting};
-use rbc_model::limits::LONGEST_LINE;
-use rbc_model::{LineFault, OrMemory, Refusal, Told, TrainId};
+use rbc_model::{OrMemory, Refusal, Told, TrainId};
 use rbc_replies::words::{Request, parse};
 use rbc_replies::{SessionRefusal, SessionReply, print};
 use rbc_session_laws::Demand;
-use rbc_streams::{Answers, Sink, WriteFailed};
-use rbc_sweep::{AskFault, Desk, DeskName, Gate, Granted, Receipt, Track};
+use rbc_streams::{Sink, WriteFailed};
+use rbc_sweep::{AskFault, Desk, DeskName, Gate, Granted, Hold, Receipt, Seat, Track};
 use std::alloc::Global;
 use std::sync::Wait;
 use std::thread::Threads;
@@ -249,7 +250,7 @@ impl<'a, L: DeskName, K: Keeper<L>, G: Gate, R: Wait> Counter<'a, L, K, G, R> {
     /// # Errors
     ///
     /// As above.
-    fn treat_line<T: Threads + Sync, W: Sink>(
+    pub(crate) fn treat_line<T: Threads + Sync, W: Sink>(
         &self,
         rt: &T,
         alloc: Global,
@@ -273,11 +274,54 @@ impl<'a, L: DeskName, K: Keeper<L>, G: Gate, R: Wait> Counter<'a, L, K, G, R> {
         }
     }
 
-    /// Publishes what was entered from the sitting's seat.
-    fn publish(&self, alloc: Global, sitting: &mut Sitting<L, K::Pen>)
-        ensures { sitting.new ≡ sitting.old }
+    /// Treats what is told, all of it in one hold of the desk's lock, and publishes it. There is room for the replies.
+    pub(crate) fn hear_all(
+        &self,
+        alloc: Global,
+        seat: &mut Seat<L>,
+        told: &[Told],
+        replies: &mut Vec<SessionReply<'static>>,
+    )
+        requires of_track { All (IsToldOfTrack L.opened.track) told.now }
+        requires none { vec_len replies.old ≡ 0 }
+        requires room { length told.now ≤ vec_capacity replies.old }
+        ensures hears { SeatHears seat.old told.now (flat_map (reply_text self.now.track.now) replies.new.items) seat.new }
+        ensures whole { All (ReplyIsWhole self.now.track.now) replies.new.items }
     {
-        self.desk.publish(self.waiting, alloc, &mut sitting.seat);
+        let mut hold = self.desk.hold(self.waiting);
+        for one in told {
+            replies.push_reserved(self.hear(alloc, &mut hold, seat, one));
+        }
+        hold.publish(self.waiting, alloc, seat);
+        hold.leave();
+    }
+
+    /// Treats what is told in a hold of the desk's lock, and gives the reply to it.
+    fn hear(
+        &self,
+        alloc: Global,
+        hold: &mut Hold<'_, L>,
+        seat: &mut Seat<L>,
+        told: &Told,
+    ) -> SessionReply<'static>
+        requires { IsToldOfTrack L.opened.track told.now }
+        ensures comes { SeatComes (Ok (Event told.now)) seat.old (reply_text self.now.track.now result) seat.new }
+        ensures whole { ReplyIsWhole self.now.track.now result }
+    {
+        // As above.
+        self.track.known();
+        seat.known();
+        match hold.event(self.waiting, alloc, seat, told) {
+            Ok(receipt) => SessionReply::Accepted(receipt.place() + 1),
+            Err(fault) => SessionReply::Refused(refusal_of(fault)),
+        }
+    }
+
+    /// Publishes what was entered from the seat, and is not published yet.
+    pub(crate) fn publish(&self, alloc: Global, seat: &mut Seat<L>)
+        ensures { seat.new ≡ seat.old }
+    {
+        self.desk.publish(self.waiting, alloc, seat);
     }
 }
 
@@ -308,65 +352,5 @@ pub(crate) fn reply_to<'a>(
         }
         Err(OrMemory::Refused(AskFault::Full)) => SessionReply::Refused(SessionRefusal::Full),
         Err(OrMemory::Memory) => SessionReply::Refused(SessionRefusal::Memory),
-    }
-}
-
-impl<'a, L: DeskName, K: Keeper<L>, G: Gate, R: Wait> Answers<Counter<'a, L, K, G, R>>
-    for Sitting<L, K::Pen> {
-    type State = Sitting<L, K::Pen>;
-
-    ghost use Rattle.std.specs.Prelude.{◌≡◌, ◌≤◌, false};
-    ghost use Rattle.rbc_model.specs.declared.limits.TheConstants.{LONGEST_CHECK_LINE, LONGEST_LINE};
-    ghost use Rattle.rbc_server.specs.Sittings.{Advances};
-
-    ghost longest = { LONGEST_LINE };
-
-    ghost state = { λ sitting. sitting };
-
-    ghost answers = { Advances K.kept };
-
-    ghost ready = { λ sitting. sitting.has_failed ≡ false };
-
-    ghost broken = { λ sitting. sitting.has_failed };
-
-    ghost works = { λ _ whole. whole };
-
-    ghost goes_on = { λ _ _ _ _ _ whole. whole };
-
-    ghost rests = { λ _. 0 };
-
-    fn longest_line() -> usize
-        ensures value { result ≡ LONGEST_LINE }
-        ensures bound { result ≤ LONGEST_CHECK_LINE }
-    {
-        LONGEST_LINE
-    }
-
-    fn answer<T: Threads + Sync, W: Sink>(
-        &mut self,
-        rt: &T,
-        alloc: Global,
-        counter: &Counter<'a, L, K, G, R>,
-        line: &[u8],
-        more: bool,
-        writer: &mut W,
-    ) -> Result<(), WriteFailed> {
-        let said = counter.treat_line(rt, alloc, self, line, writer);
-        // What was told is published before the connection is read again.
-        if !more {
-            counter.publish(alloc, self);
-        }
-        said
-    }
-
-    fn refuse<W: Sink>(
-        &mut self,
-        counter: &Counter<'a, L, K, G, R>,
-        writer: &mut W,
-    ) -> Result<(), WriteFailed> {
-        // What the seat was told is on the desk's track.
-        self.seat.known();
-        let overlong = SessionReply::Refused(SessionRefusal::BadLine(LineFault::Overlong));
-        print(counter.track, &overlong, writer)
     }
 }

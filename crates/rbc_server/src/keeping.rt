@@ -1,6 +1,6 @@
 //! What keeps the requests that led to entries, before these are answered.
 
-ghost use Rattle.std.specs.Prelude.{ℕ, IfOk, OnOk};
+ghost use Rattle.std.specs.Prelude.{ℕ, IfOk, OnOk, IsTrue};
 ghost use Rattle.rbc_model.specs.SessionText.{SessionLine, IsSayable};
 ghost use Rattle.rbc_server.specs.Keeping.{AddsEntry};
 ghost use Rattle.rbc_replies.specs.SessionLines.{request_view};
@@ -42,6 +42,10 @@ pub trait Keeper<L: DeskName> {
     /// The text says this.
     ghost says: { Self.Text → SessionLine → Type 0 };
 
+    /// Whether it keeps nothing, since nothing has to be kept. Then any entry counts as kept at once.
+    fn keeps_nothing(&self) -> bool
+        ensures { IsTrue result → (pen : Self.Pen) (place : ℕ) → kept pen place };
+
     /// Takes memory for a request, before anything is made of it.
     ///
     /// # Errors
@@ -82,6 +86,10 @@ impl<L: DeskName> Keeper<L> for NoJournal {
     ghost kept = { λ _ _. Unit {0} };
 
     ghost says = { λ _ _. Unit {0} };
+
+    fn keeps_nothing(&self) -> bool {
+        true
+    }
 
     fn prepare(&self, _alloc: Global, _request: &Request) -> Result<(), Memory> {
         Ok(())

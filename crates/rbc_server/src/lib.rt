@@ -8,9 +8,12 @@ mod connections;
 mod counter;
 mod demand;
 mod grants;
+mod hearing;
 mod histories;
 mod keeping;
+mod nowhere;
 mod outcomes;
+mod resting;
 mod serving;
 mod sessions;
 mod sitting;
@@ -30,7 +33,7 @@ pub use rbc_sweep::{
     Blank, Candidate, Desk, DeskName, Receipt, Record, Seat, Sight, View, candidate,
 };
 pub use serving::{ServeFault, Served, serve};
-pub use sessions::{run, session};
+pub use sessions::{SessionEnd, run, session};
 pub use sitting::Sitting;
 pub use staff::{Staff, no_pens};
 pub use telling::{in_vain, tell};

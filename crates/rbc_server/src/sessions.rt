@@ -13,6 +13,7 @@ ghost use Rattle.rbc_session_laws.specs.SessionRuns.{IsSession};
 ghost use Rattle.rbc_server.specs.Answered.{AnswersAll};
 
 use crate::centre::Centre;
+use crate::hearing::Hearing;
 use crate::{Counter, Keeper, SessionFault, Sitting};
 use rbc_streams::{LineReader, Sink, Source, answer_lines, converse};
 use rbc_sweep::{DeskName, Gate, Record};
@@ -73,6 +74,15 @@ pub fn run<R: Source, W: Sink>(
     converse(rt, alloc, reader, writer, history, &Centre)
 }
 
+/// What a session at a desk leaves.
+#[derive(Drop)]
+pub struct SessionEnd<L: DeskName, P> {
+    /// The sitting that it was from, after it.
+    pub sitting: Sitting<L, P>,
+    /// How it ended.
+    pub ended: Result<(), SessionFault>,
+}
+
 /// Answers each line of the reader at a desk, in order, up to the end of the input or the first fault. The seat gains a
 /// receipt for each line that is accepted, and none for any other; the reply to such a line is written once the request that
 /// it says is kept. Each line is answered as after a history that goes on from all that the seat had been told, and the seat
@@ -100,46 +110,49 @@ pub fn session<
     reader: &mut I,
     writer: &mut W,
     counter: &Counter<'a, L, K, G, R>,
-    sitting: &mut Sitting<L, K::Pen>,
-) -> Result<(), SessionFault>
+    sitting: Sitting<L, K::Pen>,
+) -> SessionEnd<L, K::Pen>
     requires lines { lines ≡ at_start LONGEST_LINE }
     requires reader { I.failed reader.old ≡ false }
     requires writer { W.failed writer.old ≡ false }
-    requires whole { sitting.old.has_failed ≡ false }
+    requires whole { sitting.has_failed ≡ false }
 
     // A read fault is answered exactly where the reader failed; a write fault where the writer did, or keeping.
-    ensures read { (result ≡ Err SessionFault.Read) ↔ IsTrue (I.failed reader.new) }
-    ensures write { (result ≡ Err SessionFault.Write) ↔ IsTrue (sitting.new.has_failed || W.failed writer.new) }
+    ensures read { (result.ended ≡ Err SessionFault.Read) ↔ IsTrue (I.failed reader.new) }
+    ensures write { (result.ended ≡ Err SessionFault.Write) ↔ IsTrue (result.sitting.has_failed || W.failed writer.new) }
 
     // None that begins ends for want of memory.
-    ensures begins { result ≢ Err SessionFault.Memory }
+    ensures begins { result.ended ≢ Err SessionFault.Memory }
 
     // Ok is answered at the end of the input.
-    ensures end { OnOk result (IsAtEnd (I.left reader.new)) }
+    ensures end { OnOk result.ended (IsAtEnd (I.left reader.new)) }
 
     // The seat loses no receipt, and nothing that it was told. Each line of what was read was answered after all that the
     // seat had been told by then, and what was gained for it is told in its reply. What was written is made of the replies
     // to the first lines, and what these led to is kept: so it is with all lines, unless keeping failed.
-    ensures grown { AreFirst sitting.old.seat sitting.new.seat }
+    ensures grown { AreFirst sitting.seat result.sitting.seat }
     ensures session { (input : List ℕ) × Consumes (I.left reader.old) (I.left reader.new) input
-        × (session : IsSeatSession sitting.old.seat sitting.new.seat input (W.written writer.old) (W.written writer.new) result)
-        × AreToldKept (K.kept sitting.new.pen) sitting.new.has_failed session.turns (W.written writer.old) (W.written writer.new) }
+        × (session : IsSeatSession sitting.seat result.sitting.seat input (W.written writer.old) (W.written writer.new) result.ended)
+        × AreToldKept (K.kept result.sitting.pen) result.sitting.has_failed session.turns (W.written writer.old) (W.written writer.new) }
 
     // What was kept before still is.
-    ensures stays { StaysKept K.kept sitting.old.pen sitting.new.pen }
+    ensures stays { StaysKept K.kept sitting.pen result.sitting.pen }
 
     // Each reply is the one that is computed for its line, after the history that the seat was told with it, but where
     // memory was refused, or the history was full by the time of a grant.
     ensures answers { (input : List ℕ)
-        (session : IsSeatSession sitting.old.seat sitting.new.seat input (W.written writer.old) (W.written writer.new) result)
-        → AreLineAnswers sitting.old.seat.told session.turns }
+        (session : IsSeatSession sitting.seat result.sitting.seat input (W.written writer.old) (W.written writer.new) result.ended)
+        → AreLineAnswers sitting.seat.told session.turns }
 
     // What was written was handed on, unless the writer failed, or keeping.
-    ensures handed_on { (sitting.new.has_failed || W.failed writer.new) ≡ false
+    ensures handed_on { (result.sitting.has_failed || W.failed writer.new) ≡ false
         → W.held_back writer.old ≡ [] → W.held_back writer.new ≡ [] }
 {
     // The desk's track is in form, and what the seat was told is on it.
     counter.track.known();
     sitting.seat.known();
-    answer_lines(rt, alloc, lines, reader, writer, sitting, counter)
+    let mut hearing = Hearing::new(alloc, sitting);
+    let ended = answer_lines(rt, alloc, lines, reader, writer, &mut hearing, counter);
+    let Hearing { sitting, .. } = hearing;
+    SessionEnd { sitting, ended }
 }

@@ -165,21 +165,21 @@ where
     let alloc = rt.alloc();
     let (desk, mut seats) = Desk::<L>::new(rt, alloc, history, 1, blank).expect(rt, "seats");
     let seat = seats.pop().expect(rt, "a seat");
-    let mut sitting = Sitting::new(seat, ());
+    let sitting = Sitting::new(seat, ());
     let mut reader = Stream::reader(case.lines.as_bytes());
     let mut writer = Stream::writer(alloc, Vec::new(alloc)).expect(rt, "room");
     let lines = LineReader::new(alloc, LONGEST_LINE).expect(rt, "room");
-    let outcome = session(
+    let left = session(
         rt,
         alloc,
         lines,
         &mut reader,
         &mut writer,
         &Counter::new(&desk, &NoJournal, &OpenGate, rt),
-        &mut sitting,
+        sitting,
     );
-    assert_eq!(rt; outcome, Ok(()));
-    let (seat, ()) = sitting.into_parts();
+    assert_eq!(rt; left.ended, Ok(()));
+    let (seat, ()) = left.sitting.into_parts();
     seats.push(seat).expect(rt, "room");
     assert_eq!(rt; closed(rt, desk, seats).version(), case.entries);
     let alone = written_alone(rt, case);

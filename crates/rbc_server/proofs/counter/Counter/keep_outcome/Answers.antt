@@ -1,4 +1,4 @@
-use Rattle.rbc_server.proofs.GrantLemmas.{grant_told, none_kept, one_kept}
+use Rattle.rbc_server.proofs.GrantLemmas.{grant_told}
 use Rattle.rbc_server.proofs.counter.Counter.keep_outcome.Goals as goal
 
 pub keep_grant-requires : goal.keep_grant-requires

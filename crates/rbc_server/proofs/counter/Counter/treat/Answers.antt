@@ -1,4 +1,4 @@
-use Rattle.std.proofs.Common.{Ok, ◌∙◌, ap, sym, refl}
+use Rattle.std.proofs.Common.{Ok, ◌∙◌, ap, sym}
 use Rattle.rbc_replies.specs.Replies.{refusal_view}
 use Rattle.rbc_session_laws.specs.Demands.{looked_up}
 use Rattle.rbc_session_laws.specs.declared.demand.Demand.TheVariants.{Nothing, Event, Authority}
