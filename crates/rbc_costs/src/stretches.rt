@@ -14,6 +14,7 @@ pub fn stretches_of<V: Level>(alloc: Global, track: &Runs<V>) -> Result<Vec<(Str
     requires whole { track.now.end % unit_of track.now.end ≡ 0 }
     ensures { IfOk result (λ stretches. AreStretches V.levels (unit_of track.now.end) track.now stretches.items) }
 {
+    track.known();
     let unit = unit_of(track.end());
     let mut stretches = Vec::with_capacity(alloc, track.runs().len())?;
     let mut next = Some(first_stretch(track, unit));

@@ -119,7 +119,9 @@ fn push_leg<V: TrackLevel>(
 {
     let LegPart { leg, low, high } = part;
     let section = track.section_at(leg.section);
-    let runs = V::runs_of(section).runs();
+    let on_section = V::runs_of(section);
+    on_section.known();
+    let runs = on_section.runs();
     match leg.direction {
         Direction::Rising => push_rising(rows, told, runs, low, high),
         Direction::Falling => {
@@ -185,6 +187,7 @@ pub(crate) fn levels<V: TrackLevel>(
 {
     let rows = rows_along(alloc, track, legs, from, to)?;
     let runs = Runs::new(rows, to - from).unwrap();
+    runs.known();
     prove!(runs.end() == to - from);
     Ok(runs)
 }

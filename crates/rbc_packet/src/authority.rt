@@ -2,10 +2,8 @@
 
 ghost use Rattle.std.specs.Prelude.{◌≡◌, ◌≤◌, ◌%◌, ◌==◌};
 ghost use Rattle.std.specs.List.{list_all};
-ghost use Rattle.rbc_model.specs.declared.limits.TheConstants.{MOST_STEPS};
 ghost use Rattle.rbc_model.specs.declared.places.Format.TheVariants.{Far};
 ghost use Rattle.rbc_model.specs.Messages.{authority_of, is_writable, IsAuthority};
-ghost use Rattle.rbc_model.specs.Profiles.{IsProfile};
 
 use crate::Group;
 use rbc_model::Format;
@@ -53,6 +51,9 @@ impl Authority {
     ) -> Option<Authority>
         ensures { result ≡ authority_of time group nominal speeds grades }
     {
+        // An authority keeps what is known of both profiles.
+        speeds.known();
+        grades.known();
         if !end_together(&speeds, &grades) || !is_writable(&speeds) || !is_writable(&grades) {
             return None;
         }
@@ -141,8 +142,7 @@ fn end_together(speeds: &Profile<Speed>, grades: &Profile<Grade>) -> bool
 
 /// Whether a message can give the profile: its end, and the start of each step in the units of that end.
 fn is_writable<V: Level>(profile: &Profile<V>) -> bool
-    ensures writable { result ≡ is_writable profile.now }
-    ensures profile { IsProfile V.levels 1 MOST_STEPS profile.now.end profile.now.steps }
+    ensures { result ≡ is_writable profile.now }
 {
     let end = profile.end();
     is_expressible(Format::Far, end) && start_in_units(profile.steps(), unit_of(end))

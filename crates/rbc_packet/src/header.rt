@@ -51,6 +51,7 @@ pub(crate) fn message_length(authority: &Authority) -> u32
     ensures length { result ≡ message_length authority.now }
     ensures fits { result < 2 ^ 10 }
 {
+    authority.known();
     let gradients = Grade::packet_bits(authority.grades().steps().len() as u32);
     let speeds = Speed::packet_bits(authority.speeds().steps().len() as u32);
     (HEADER_BITS + AUTHORITY_BITS + gradients + speeds).div_ceil(8)

@@ -37,6 +37,7 @@ pub fn write_profile<V: Encoded>(
     ensures { IfOk result (λ bytes.
         bytes.items ≡ bytes_of_fields (V.packet nominal profile.now.end profile.now.steps)) }
 {
+    profile.known();
     let mut bits = BitWriter::with_room(alloc, V::packet_bits(profile.steps().len() as u32))?;
     put_profile(&mut bits, profile, nominal)?;
     Ok(bits.finish())
@@ -52,6 +53,7 @@ pub(crate) fn put_profile<V: Encoded>(
     ensures { OnOk result (bits.new ≡ bits.old
         ++ bits_of_fields (V.packet nominal profile.now.end profile.now.steps)) }
 {
+    profile.known();
     let steps = profile.steps();
     let end = profile.end();
     let head = Head {

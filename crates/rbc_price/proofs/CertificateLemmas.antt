@@ -181,9 +181,9 @@ module _ {V : Type 0} (levels : Levels V) (limit : ℕ) (track profile : StepFun
 
   -- what a check that gives this verdict shows
   pub certified_of : (verdict : Result (Unit {0}) Reason) → verdict ≡ price_check levels limit track profile rows
-      → (verdict ≡ Ok tt → IsProfile levels 1 MOST_STEPS profile.end profile.steps) → (verdict ≡ Ok tt) ↔ IsCertificate levels limit track profile rows
+      → IsProfile levels 1 MOST_STEPS profile.end profile.steps → (verdict ≡ Ok tt) ↔ IsCertificate levels limit track profile rows
   certified_of verdict is profile =
-      (λ ok. certificate_of_check (profile ok) (sym is ∙ ok), λ c. is ∙ check_of_certificate c)
+      (λ ok. certificate_of_check profile (sym is ∙ ok), λ c. is ∙ check_of_certificate c)
 
 pub on_ok : {P : Type 0} (verdict : Result (Unit {0}) Reason) → (verdict ≡ Ok tt → P) → OnOk verdict P
 on_ok (Ok done) shown = shown refl

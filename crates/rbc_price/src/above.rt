@@ -51,6 +51,8 @@ pub(crate) fn stays_below<V: Level>(track: &Runs<V>, profile: &Profile<V>) -> Re
     ensures above { result ≡ unless_some (first_above V.levels track.now profile.now) }
     ensures below { OnOk result (AreWithin V.levels track.now.steps profile.now.steps track.now.end) }
 {
+    track.known();
+    profile.known();
     match first_above(track.runs(), profile.steps(), track.end()) {
         Some(metre) => Err(Reason::Above(metre)),
         None => Ok(()),

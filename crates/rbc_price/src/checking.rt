@@ -1,7 +1,6 @@
 //! The check of a table.
 ghost use Rattle.std.specs.Prelude.{◌≡◌, ◌↔◌, Ok, OnOk};
-ghost use Rattle.rbc_model.specs.declared.limits.TheConstants.{MOST_STEPS};
-ghost use Rattle.rbc_model.specs.Profiles.{IsBestProfile, IsProfile, IsTrackFunction, value_at};
+ghost use Rattle.rbc_model.specs.Profiles.{IsBestProfile, value_at};
 ghost use Rattle.rbc_model.specs.PriceChecks.{price_check, IsCertificate};
 ghost use Rattle.rbc_model.specs.Scales.{unit_of};
 ghost use Rattle.rbc_table_laws.specs.PriceRows.{prices_of};
@@ -28,9 +27,7 @@ fn judge<V: Priced>(
     profile: &Profile<V>,
     rows: &[Vec<u64>],
 ) -> Result<(), Reason>
-    ensures verdict { result ≡ price_check V.levels limit track.now profile.now (prices_of rows.now) }
-    ensures track { OnOk result (IsTrackFunction V.levels track.now.end track.now.steps) }
-    ensures profile { OnOk result (IsProfile V.levels 1 MOST_STEPS profile.now.end profile.now.steps) }
+    ensures { result ≡ price_check V.levels limit track.now profile.now (prices_of rows.now) }
 {
     if !has_shape(track, limit, profile, rows) {
         return Err(Reason::Shape);
@@ -75,5 +72,7 @@ pub fn check<V: Priced>(
     ensures best { OnOk result
         (IsBestProfile V.levels (unit_of track.now.end) limit track.now.end (value_at track.now.steps) profile.now.steps) }
 {
+    track.known();
+    profile.known();
     judge(alloc, track, limit, profile, prices.as_slice())
 }

@@ -1,6 +1,5 @@
 //! The columns of a table: one for each stretch of the track, from one break to the next. Breaks count from 0.
 ghost use Rattle.std.specs.Prelude.{◌≡◌, ℕ, ◌+◌, ◌%◌, ◌<◌, ◌≤◌, length, Some, None, slice_index};
-ghost use Rattle.rbc_model.specs.Profiles.{IsTrackFunction};
 ghost use Rattle.rbc_model.specs.Scales.{unit_of};
 ghost use Rattle.rbc_table_laws.specs.Stretches.{breaks_for};
 ghost use Rattle.rbc_price.specs.Columns.{IsColumn, stretches_of};
@@ -36,6 +35,7 @@ fn column_of_run<V: Level>(track: &Runs<V>, run: usize) -> Column
     ensures column { IsColumn track.now result }
     ensures index { result.index ≡ run }
 {
+    track.known();
     let runs = track.runs();
     Column {
         index: run,
@@ -69,6 +69,7 @@ pub(crate) fn column_behind<V: Level>(track: &Runs<V>, column: Column) -> Option
     ensures index { (next : Column) → result ≡ Some next → next.index ≡ column.index + 1 }
     ensures last { result ≡ None → column.index + 1 ≡ stretches_of track.now }
 {
+    track.known();
     let unit = unit_of(track.end());
     if unit == 1 {
         return run_behind(track, column.index);
@@ -91,6 +92,7 @@ pub(crate) fn column_before<V: Level>(track: &Runs<V>, column: Column) -> Option
     if column.index == 0 {
         return None;
     }
+    track.known();
     let unit = unit_of(track.end());
     if unit == 1 {
         return Some(column_of_run(track, column.index - 1));
@@ -105,9 +107,9 @@ pub(crate) fn column_before<V: Level>(track: &Runs<V>, column: Column) -> Option
 /// How many prices a row of a table has: one for each break of the track but the first.
 pub fn column_count<V: Level>(track: &Runs<V>) -> usize
     requires { track.now.end % unit_of track.now.end ≡ 0 }
-    ensures count { result ≡ stretches_of track.now }
-    ensures track { IsTrackFunction V.levels track.now.end track.now.steps }
+    ensures { result ≡ stretches_of track.now }
 {
+    track.known();
     let end = track.end();
     if unit_of(end) == 1 {
         // Each run is a stretch.

@@ -2,8 +2,6 @@
 
 ghost use Rattle.std.specs.Prelude.{◌≡◌, ◌≤◌, ◌+◌, Some, None, if◌then◌else◌};
 ghost use Rattle.rbc_model.specs.declared.limits.TheConstants.{MOST_STEPS};
-ghost use Rattle.rbc_model.specs.Levels.{speed_levels, grade_levels};
-ghost use Rattle.rbc_model.specs.Profiles.{IsTrackFunction};
 ghost use Rattle.rbc_reach.specs.Forms.{metres_shown, view_of_parts, are_in_form, IsViewInForm};
 
 use crate::ViewParts;
@@ -36,9 +34,7 @@ impl Model for View {
 
 /// Whether the parts make a view.
 fn are_in_form(parts: &ViewParts) -> bool
-    ensures form { result ≡ are_in_form parts.now }
-    ensures speeds { IsTrackFunction speed_levels parts.now.speeds.end parts.now.speeds.steps }
-    ensures grades { IsTrackFunction grade_levels parts.now.grades.end parts.now.grades.steps }
+    ensures { result ≡ are_in_form parts.now }
 {
     let end = parts.speeds.end();
     parts.grades.end() == end
@@ -55,6 +51,9 @@ impl View {
     pub fn new(parts: ViewParts) -> Option<View>
         ensures { result ≡ (if are_in_form parts then Some (view_of_parts parts) else None) }
     {
+        // A view keeps what is known of both tracks.
+        parts.speeds.known();
+        parts.grades.known();
         if are_in_form(&parts) {
             Some(View { parts })
         } else {

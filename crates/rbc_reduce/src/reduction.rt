@@ -53,6 +53,7 @@ pub fn reduce<V: Priced>(alloc: Global, track: &Runs<V>, limit: usize) -> Result
     ensures prices { IfOk result
         (λ r. IsGreatestSoundTable V.levels (unit_of track.now.end) limit track.now.end track.now.steps (prices_of r.prices.items)) }
 {
+    track.known();
     let end = track.end();
     let stretches = stretches_of(alloc, track)?;
     let prices = fill(alloc, track, &stretches, limit)?;

@@ -61,6 +61,8 @@ fn push_leg(
     let own = Line::new(alloc, track, *leg)?;
     let speeds = own.speeds(alloc, 0, metres)?;
     let grades = own.grades(alloc, 0, metres)?;
+    speeds.known();
+    grades.known();
     push_stair(&mut stairs.speeds, Measure::Speed, begin, speeds.runs())?;
     push_stair(&mut stairs.grades, Measure::Grade, begin, grades.runs())
 }

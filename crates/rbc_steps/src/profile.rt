@@ -63,11 +63,17 @@ impl<V: Level> Profile<V> {
         })
     }
 
-    /// Where the profile ends, in metres: 1 to 100,000.
-    pub fn end(&self) -> u32
-        ensures end { result ≡ self.now.end }
+    /// The steps are a profile whose end lies within the limit. This does nothing.
+    pub fn known(&self)
         ensures profile { IsProfile V.levels 1 MOST_STEPS self.now.end self.now.steps }
         ensures within_limit { self.now.end ≤ LONGEST_TRACK }
+    {
+        let _ = &self.steps;
+    }
+
+    /// Where the profile ends, in metres: 1 to 100,000.
+    pub fn end(&self) -> u32
+        ensures { result ≡ self.now.end }
     {
         self.end
     }
@@ -87,9 +93,7 @@ impl<V: Level> Profile<V> {
 
     /// The steps as (start, value).
     pub fn steps(&self) -> &[(u32, V)]
-        ensures steps { result.now ≡ self.now.steps }
-        ensures profile { IsProfile V.levels 1 MOST_STEPS self.now.end self.now.steps }
-        ensures within_limit { self.now.end ≤ LONGEST_TRACK }
+        ensures { result.now ≡ self.now.steps }
     {
         &self.steps[..self.count]
     }
@@ -99,6 +103,7 @@ impl<V: Level> Profile<V> {
         requires { x < self.now.end }
         ensures { value_at self.now.steps x ≡ Some result }
     {
+        self.known();
         rows::at(self.steps(), x)
     }
 
@@ -110,6 +115,8 @@ impl<V: Level> Profile<V> {
             → IsTrue (is_within V.levels (value_at track.now.steps x) (value_at self.now.steps x)) }
         ensures { result ≡ loss V.levels self.now.end (value_at track.now.steps) self.now.steps }
     {
+        track.known();
+        self.known();
         rows::loss(track.runs(), self.steps(), self.end)
     }
 }

@@ -65,18 +65,14 @@ impl<V: Level> Runs<V> {
 
     /// Where the track ends, in metres: 1 to 100,000.
     pub fn end(&self) -> u32
-        ensures end { result ≡ self.now.end }
-        ensures track { IsTrackFunction V.levels self.now.end self.now.steps }
-        ensures within_limit { self.now.end ≤ LONGEST_TRACK }
+        ensures { result ≡ self.now.end }
     {
         self.end
     }
 
     /// The runs as (start, value).
     pub fn runs(&self) -> &[(u32, V)]
-        ensures runs { result.now ≡ self.now.steps }
-        ensures track { IsTrackFunction V.levels self.now.end self.now.steps }
-        ensures within_limit { self.now.end ≤ LONGEST_TRACK }
+        ensures { result.now ≡ self.now.steps }
     {
         self.runs.as_slice()
     }

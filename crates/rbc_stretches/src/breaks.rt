@@ -12,6 +12,7 @@ pub(crate) fn edge<V: Level>(track: &Runs<V>, index: usize) -> u32
     ensures edge { result ≡ slice_index (breaks_in track.now) index }
     ensures at_most { result ≤ track.now.end }
 {
+    track.known();
     match track.runs().get(index) {
         Some(run) => run.0,
         None => track.end(),

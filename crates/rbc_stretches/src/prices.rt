@@ -30,6 +30,7 @@ pub fn least_on<V: Level>(track: &Runs<V>, stretch: Stretch) -> V
     requires { IsOnTrack track.now stretch }
     ensures { IsLowest V.levels track.now stretch.from stretch.to result }
 {
+    track.known();
     let runs = track.runs();
     let mut run = stretch.first;
     let mut least = runs[run].1;
@@ -48,6 +49,7 @@ pub fn price_on<V: Level>(track: &Runs<V>, stretch: Stretch, given: V) -> u64
     ensures price { lost_below V.levels track.now given stretch.from + result ≡ lost_below V.levels track.now given stretch.to }
     ensures bound { stretch.from * MOST_PRICE + result ≤ stretch.to * MOST_PRICE }
 {
+    track.known();
     let runs = track.runs();
     let mut run = stretch.first;
     let mut from = stretch.from;

@@ -43,6 +43,9 @@ impl Section {
           grades = grades.steps;
         }) else None) }
     {
+        // A section keeps what is known of both.
+        speeds.known();
+        grades.known();
         if grades.end() == speeds.end() {
             Some(Section {
                 name,

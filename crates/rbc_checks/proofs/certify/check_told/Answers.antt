@@ -11,6 +11,6 @@ returns g c =
     let rows = prices_of c.args.prices.now.items in
     let price : c.price_at.result ≡ last_price g.V.Level.levels parts.limit parts.track rows =
     c.price_at.ensures ∙ ap (λ j. table_at rows j c.column_count-columns.result) c.min.ensures
-    ∙ ap (λ n. table_at rows (min parts.limit n) n) c.column_count-columns.ensures.count in
+    ∙ ap (λ n. table_at rows (min parts.limit n) n) c.column_count-columns.ensures in
     c.with_loss.ensures ∙ ap (λ p. with_loss (c.args.loss == p) c.check.result) price
     ∙ ap (with_loss (c.args.loss == last_price g.V.Level.levels parts.limit parts.track rows)) c.check.ensures.verdict

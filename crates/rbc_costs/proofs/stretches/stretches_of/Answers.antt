@@ -51,9 +51,9 @@ pub returns : goal.returns
 returns g c =
     let level = g.met.V.Level g.world.𝓛 g.world.𝓜 g.world.𝓡 ((λ s x. x), (λ x. x), (λ x. x), λ x. x) in
     let i = c.loop-next.invariant in
-    let unit : c.unit_of-unit.result ≡ unit_of c.args.track.now.end = c.unit_of-unit.ensures.unit ∙ ap unit_of c.end.ensures.end in
+    let unit : c.unit_of-unit.result ≡ unit_of c.args.track.now.end = c.unit_of-unit.ensures.unit ∙ ap unit_of c.end.ensures in
     let whole : c.args.track.now.end % c.unit_of-unit.result ≡ 0 = subst (λ u. c.args.track.now.end % u ≡ 0) (sym unit) c.requires.whole in
-    let edges = in_track g.V.Level.levels c.args.track.now.end c.args.track.now.steps c.end.ensures.track in
-    let walked = breaks_walked g.V.Level.levels level.lawful c.unit_of-unit.result (omega (arith, c.unit_of-unit.ensures.some)) c.args.track.now whole c.end.ensures.track (breaks_in c.args.track.now) edges in
+    let edges = in_track g.V.Level.levels c.args.track.now.end c.args.track.now.steps c.known.ensures.track in
+    let walked = breaks_walked g.V.Level.levels level.lawful c.unit_of-unit.result (omega (arith, c.unit_of-unit.ensures.some)) c.args.track.now whole c.known.ensures.track (breaks_in c.args.track.now) edges in
     subst (λ u. AreStretches g.V.Level.levels u c.args.track.now c.loop-next.stretches.items) unit
     (record { breaks = walked.0; count = i.ended c.in_default.is; stand = i.stand; least = i.least })

@@ -29,7 +29,7 @@ pub price_at-requires-clause-wide : goal.price_at-requires-clause-wide
 price_at-requires-clause-wide g c = record {
   width = stretches_of c.args.track.now;
   wide = wide_of_shape g.V.Level.levels c.args.limit c.args.track.now c.args.profile.now c.args.rows.now (shaped g.V.Level.levels c.args.limit c.args.track.now c.args.profile.now (prices_of c.args.rows.now) (sym c.has_shape.ensures ∙ c.if-not-has_shape.false));
-  room = omega (arith, c.column_count-columns.ensures.count);
+  room = omega (arith, c.column_count-columns.ensures);
 }
 
 -- the loss, and the last price
@@ -39,11 +39,11 @@ loss_here g c =
 
 price_here : (g : Over) (c : After-price_at g) → c.price_at.result ≡ last_price g.V.Level.levels c.args.limit c.args.track.now (prices_of c.args.rows.now)
 price_here g c = last_is g.V.Level.levels c.args.limit c.args.track.now c.args.profile.now c.args.rows.now (shaped g.V.Level.levels c.args.limit c.args.track.now c.args.profile.now (prices_of c.args.rows.now) (sym c.has_shape.ensures ∙ c.if-not-has_shape.false))
-    _ _ c.column_count-columns.ensures.count c.price_at.ensures
+    _ _ c.column_count-columns.ensures c.price_at.ensures
 
-pub returns-then-loss-price_at-clause-verdict : goal.returns-then-loss-price_at-clause-verdict
-returns-then-loss-price_at-clause-verdict g c =
-    let there = (goal.at.returns-then-loss-price_at-clause-verdict g c).After-price_at in
+pub returns-then-loss-price_at : goal.returns-then-loss-price_at
+returns-then-loss-price_at g c =
+    let there = (goal.at.returns-then-loss-price_at g c).After-price_at in
     stop_at_loss (has_shape g.V.Level.levels c.args.limit c.args.track.now c.args.profile.now (prices_of c.args.rows.now)) (first_above g.V.Level.levels c.args.track.now c.args.profile.now)
     (first_too_high g.V.Level.levels c.args.limit c.args.track.now (prices_of c.args.rows.now))
     (lost g.V.Level.levels c.args.limit c.args.track.now c.args.profile.now (prices_of c.args.rows.now) == last_price g.V.Level.levels c.args.limit c.args.track.now (prices_of c.args.rows.now)) (nat_le (length c.args.profile.now.steps) c.args.limit)
@@ -51,24 +51,24 @@ returns-then-loss-price_at-clause-verdict g c =
     (c.in_ok-has_no_high_price.ensures c.args.limit (count_of_shape g.V.Level.levels c.args.limit c.args.track.now c.args.profile.now c.args.rows.now (shaped g.V.Level.levels c.args.limit c.args.track.now c.args.profile.now (prices_of c.args.rows.now) (sym c.has_shape.ensures ∙ c.if-not-has_shape.false))))
     (not_same _ _ (λ e. c.if-loss-price_at.true (loss_here g there ∙ e ∙ sym (price_here g there))))
 
-pub returns-then-steps-limit-clause-verdict : goal.returns-then-steps-limit-clause-verdict
-returns-then-steps-limit-clause-verdict g c =
-    let there = (goal.at.returns-then-steps-limit-clause-verdict g c).After-price_at in
+pub returns-then-steps-limit : goal.returns-then-steps-limit
+returns-then-steps-limit g c =
+    let there = (goal.at.returns-then-steps-limit g c).After-price_at in
     stop_at_steps (has_shape g.V.Level.levels c.args.limit c.args.track.now c.args.profile.now (prices_of c.args.rows.now)) (first_above g.V.Level.levels c.args.track.now c.args.profile.now)
     (first_too_high g.V.Level.levels c.args.limit c.args.track.now (prices_of c.args.rows.now))
     (lost g.V.Level.levels c.args.limit c.args.track.now c.args.profile.now (prices_of c.args.rows.now) == last_price g.V.Level.levels c.args.limit c.args.track.now (prices_of c.args.rows.now)) (nat_le (length c.args.profile.now.steps) c.args.limit)
     (sym c.has_shape.ensures ∙ c.if-not-has_shape.false) c.in_ok-stays_below.ensures.above
     (c.in_ok-has_no_high_price.ensures c.args.limit (count_of_shape g.V.Level.levels c.args.limit c.args.track.now c.args.profile.now c.args.rows.now (shaped g.V.Level.levels c.args.limit c.args.track.now c.args.profile.now (prices_of c.args.rows.now) (sym c.has_shape.ensures ∙ c.if-not-has_shape.false))))
     (eq-eqb _ _ (sym (loss_here g there) ∙ c.if-loss-price_at.false ∙ price_here g there))
-    (lt-leb (length c.args.profile.now.steps) c.args.limit (omega (arith, ap length c.steps.ensures.steps)))
+    (lt-leb (length c.args.profile.now.steps) c.args.limit (omega (arith, ap length c.steps.ensures)))
 
-pub returns-clause-verdict : goal.returns-clause-verdict
-returns-clause-verdict g c =
-    let there = (goal.at.returns-clause-verdict g c).After-price_at in
+pub returns : goal.returns
+returns g c =
+    let there = (goal.at.returns g c).After-price_at in
     all_pass (has_shape g.V.Level.levels c.args.limit c.args.track.now c.args.profile.now (prices_of c.args.rows.now)) (first_above g.V.Level.levels c.args.track.now c.args.profile.now)
     (first_too_high g.V.Level.levels c.args.limit c.args.track.now (prices_of c.args.rows.now))
     (lost g.V.Level.levels c.args.limit c.args.track.now c.args.profile.now (prices_of c.args.rows.now) == last_price g.V.Level.levels c.args.limit c.args.track.now (prices_of c.args.rows.now)) (nat_le (length c.args.profile.now.steps) c.args.limit)
     (sym c.has_shape.ensures ∙ c.if-not-has_shape.false) c.in_ok-stays_below.ensures.above
     (c.in_ok-has_no_high_price.ensures c.args.limit (count_of_shape g.V.Level.levels c.args.limit c.args.track.now c.args.profile.now c.args.rows.now (shaped g.V.Level.levels c.args.limit c.args.track.now c.args.profile.now (prices_of c.args.rows.now) (sym c.has_shape.ensures ∙ c.if-not-has_shape.false))))
     (eq-eqb _ _ (sym (loss_here g there) ∙ c.if-loss-price_at.false ∙ price_here g there))
-    (le-leb (length c.args.profile.now.steps) c.args.limit (omega (arith, ap length c.steps.ensures.steps)))
+    (le-leb (length c.args.profile.now.steps) c.args.limit (omega (arith, ap length c.steps.ensures)))

@@ -9,7 +9,7 @@ use Rattle.std.proofs.lemmas.Option.{same_Some}
 
 pub returns-clause-before : goal.returns-clause-before
 returns-clause-before g c = λ next e.
-    let unit : c.unit_of-unit.result ≡ unit_of c.args.track.now.end = c.unit_of-unit.ensures.unit ∙ ap unit_of c.end.ensures.end in
+    let unit : c.unit_of-unit.result ≡ unit_of c.args.track.now.end = c.unit_of-unit.ensures.unit ∙ ap unit_of c.end.ensures in
     let last : c.args.column.index ≡ c.args.column.index - 1 + 1 = omega arith in
     let here = subst (λ i. IsStretch c.unit_of-unit.result c.args.track.now i c.args.column.stretch) last
     (subst (λ u. IsStretch u c.args.track.now c.args.column.index c.args.column.stretch) (sym unit) c.requires.column) in
@@ -23,7 +23,7 @@ pub column_of_run-requires-clause-inside : goal.column_of_run-requires-clause-in
 column_of_run-requires-clause-inside g c =
     let level = g.met.V.Level g.world.𝓛 g.world.𝓜 g.world.𝓡 ((λ s x. x), (λ x. x), (λ x. x), λ x. x) in
     let track = c.args.track.now in
-    let one : unit_of track.end ≡ 1 = sym (c.unit_of-unit.ensures.unit ∙ ap unit_of c.end.ensures.end) ∙ c.if-unit-eq1.true in
-    let count = columns_are_runs g.V.Level.levels level.lawful track c.end.ensures.track c.requires.whole one in
-    let here = inside g.V.Level.levels level.lawful track c.end.ensures.track c.requires.whole c.args.column c.requires.column in
+    let one : unit_of track.end ≡ 1 = sym (c.unit_of-unit.ensures.unit ∙ ap unit_of c.end.ensures) ∙ c.if-unit-eq1.true in
+    let count = columns_are_runs g.V.Level.levels level.lawful track c.known.ensures.track c.requires.whole one in
+    let here = inside g.V.Level.levels level.lawful track c.known.ensures.track c.requires.whole c.args.column c.requires.column in
     omega arith

@@ -29,15 +29,15 @@ chosen_here : (g : Over) (c : After-new g)
 chosen_here g c =
     let level = g.met.V.Level g.world.𝓛 g.world.𝓜 g.world.𝓡 ((λ s x. x), (λ x. x), (λ x. x), λ x. x) in
     let read = rw c.deref-3.ensures.value at c.in_ok-steps.ensures in
-    read_off_are_chosen g.V.Level.levels level.lawful (unit_of c.args.track.now.end) c.args.limit c.args.track.now.end (some_unit c.args.track.now.end) c.requires.whole c.args.track.now.steps c.end-end.ensures.track
+    read_off_are_chosen g.V.Level.levels level.lawful (unit_of c.args.track.now.end) c.args.limit c.args.track.now.end (some_unit c.args.track.now.end) c.requires.whole c.args.track.now.steps c.known.ensures.track
     (prices_of c.in_ok-prices.prices.items) c.in_ok-prices.ensures.table c.in_ok-steps.steps.items read
 
 made_here : (g : Over) (c : After-new g) → c.new.result ≡ Ok (record { steps = c.in_ok-steps.steps.items; end = c.args.track.now.end })
 made_here g c =
     let same : c.new.result ≡ profile_of g.V.Level.levels c.args.track.now.end c.deref-4.result.now =
-    c.new.ensures ∙ ap (λ n. profile_of g.V.Level.levels n c.deref-4.result.now) c.end-end.ensures.end in
+    c.new.ensures ∙ ap (λ n. profile_of g.V.Level.levels n c.deref-4.result.now) c.end-end.ensures in
     made_of g.V.Level.levels (unit_of c.args.track.now.end) c.args.limit c.args.track.now.end c.in_ok-steps.steps.items c.deref-4.result.now c.new.result
-    (chosen_here g c).best.fits.profile c.requires.few c.end-end.ensures.within_limit c.deref-4.ensures.value same
+    (chosen_here g c).best.fits.profile c.requires.few c.known.ensures.within_limit c.deref-4.ensures.value same
 
 pub unreachable-requires : goal.unreachable-requires
 unreachable-requires g c =

@@ -20,7 +20,7 @@ push_stair-requires c =
     let metres : c.metres_of-metres.result ≡ metres_of (arc_value c.args.track.now) section = c.metres_of-metres.ensures.metres ∙ (λ j. metres_of (c.deref.ensures j) section) in
     let end : here.end ≡ c.metres_of-metres.result - 0 = λ j. (c.in_ok-speeds.ensures j).end in
     let fits : c.args.begin + here.end < 4294967296 = let room = c.requires.fits in omega (arith, room, end, metres) in
-    subst (All (λ run. c.args.begin + run.0 < 4294967296)) (sym c.runs.ensures.runs) (runs_fit 4294967296 c.args.begin here.end here.steps c.runs.ensures.track.starts fits)
+    subst (All (λ run. c.args.begin + run.0 < 4294967296)) (sym c.runs.ensures) (runs_fit 4294967296 c.args.begin here.end here.steps c.known-2.ensures.track.starts fits)
 
 pub push_stair-requires-2 : goal.push_stair-requires-2
 push_stair-requires-2 c =
@@ -29,4 +29,4 @@ push_stair-requires-2 c =
     let metres : c.metres_of-metres.result ≡ metres_of (arc_value c.args.track.now) section = c.metres_of-metres.ensures.metres ∙ (λ j. metres_of (c.deref.ensures j) section) in
     let end : here.end ≡ c.metres_of-metres.result - 0 = λ j. (c.in_ok-grades.ensures j).end in
     let fits : c.args.begin + here.end < 4294967296 = let room = c.requires.fits in omega (arith, room, end, metres) in
-    subst (All (λ run. c.args.begin + run.0 < 4294967296)) (sym c.runs-2.ensures.runs) (runs_fit 4294967296 c.args.begin here.end here.steps c.runs-2.ensures.track.starts fits)
+    subst (All (λ run. c.args.begin + run.0 < 4294967296)) (sym c.runs-2.ensures) (runs_fit 4294967296 c.args.begin here.end here.steps c.known-3.ensures.track.starts fits)

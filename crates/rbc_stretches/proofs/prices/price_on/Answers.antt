@@ -18,11 +18,11 @@ priced_here g c =
     let level = g.met.V.Level g.world.𝓛 g.world.𝓜 g.world.𝓡 ((λ s x. x), (λ x. x), (λ x. x), λ x. x) in
     let l = c.loop-from in
     let track = c.args.track.now in
-    let function = c.runs-runs.ensures.track in
+    let function = c.known.ensures.track in
     let edges = edges_are g.V.Level.levels level.lawful track function in
     let run = get_or c.runs-runs.result.now l.run c.index-runs-run.result in
     let stop = min (get_or (breaks_in track) (l.run + 1) 0) c.args.stretch.to in
-    let there = run_at c.runs-runs.result.now track.steps l.run c.index-runs-run.result c.runs-runs.ensures.runs (l.invariant.run c.loop-from-test.true) in
+    let there = run_at c.runs-runs.result.now track.steps l.run c.index-runs-run.result c.runs-runs.ensures (l.invariant.run c.loop-from-test.true) in
     let part = part_of_run g.V.Level.levels level.lawful track function l.run run l.from c.args.stretch.to there (l.invariant.low c.loop-from-test.true) (l.invariant.high c.loop-from-test.true) c.loop-from-test.true in
     let to : c.min-to.result ≡ stop = c.min-to.ensures ∙ ap (λ x. min x c.args.stretch.to) c.edge.ensures.edge in
     let below = below_part g.V.Level.levels level.lawful track function c.args.stretch.from c.args.stretch.to l.from stop c.args.given l.invariant.begun (omega arith) c.requires.below in
@@ -39,8 +39,8 @@ price-requires g c =
     let level = g.met.V.Level g.world.𝓛 g.world.𝓜 g.world.𝓡 ((λ s x. x), (λ x. x), (λ x. x), λ x. x) in
     let l = c.loop-from in
     let track = c.args.track.now in
-    let function = c.runs-runs.ensures.track in
-    let there = run_at c.runs-runs.result.now track.steps l.run c.index-runs-run.result c.runs-runs.ensures.runs (l.invariant.run c.loop-from-test.true) in
+    let function = c.known.ensures.track in
+    let there = run_at c.runs-runs.result.now track.steps l.run c.index-runs-run.result c.runs-runs.ensures (l.invariant.run c.loop-from-test.true) in
     let part = part_of_run g.V.Level.levels level.lawful track function l.run _ l.from c.args.stretch.to there (l.invariant.low c.loop-from-test.true) (l.invariant.high c.loop-from-test.true) c.loop-from-test.true in
     let some = part.some in
     c.requires.below l.from _ l.invariant.begun c.loop-from-test.true
@@ -49,26 +49,26 @@ price-requires g c =
 pub overflow_mul-price : goal.overflow_mul-price
 overflow_mul-price g c =
     let p = priced_here g (goal.at.overflow_mul-price g c).After-price in
-    let limit = c.runs-runs.ensures.within_limit in
+    let limit = c.known.ensures.within_limit in
     omega (arith, p.bound, p.to, c.requires.stretch.inside)
 
 pub overflow_add-price : goal.overflow_add-price
 overflow_add-price g c =
     let p = priced_here g (goal.at.overflow_add-price g c).After-price in
-    let limit = c.runs-runs.ensures.within_limit in
+    let limit = c.known.ensures.within_limit in
     omega (arith, p.bound, p.to, c.requires.stretch.inside, c.loop-from.invariant.bound)
 
 pub overflow_add-run-in-loop-from : goal.overflow_add-run-in-loop-from
 overflow_add-run-in-loop-from g c =
     let inside = c.loop-from.invariant.run c.loop-from-test.true in
-    omega (arith, inside, ap length c.runs-runs.ensures.runs, c.runs-runs.type_inv)
+    omega (arith, inside, ap length c.runs-runs.ensures, c.runs-runs.type_inv)
 
 pub loop-from-preserved : goal.loop-from-preserved
 loop-from-preserved g c =
     let level = g.met.V.Level g.world.𝓛 g.world.𝓜 g.world.𝓡 ((λ s x. x), (λ x. x), (λ x. x), λ x. x) in
     let l = c.loop-from in
     let track = c.args.track.now in
-    let function = c.runs-runs.ensures.track in
+    let function = c.known.ensures.track in
     let more = c.loop-from-test.true in
     let p = priced_here g (goal.at.loop-from-preserved g c).After-price in
     let high = l.invariant.high more in

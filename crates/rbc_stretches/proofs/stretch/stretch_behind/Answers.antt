@@ -8,7 +8,7 @@ use Rattle.std.proofs.lemmas.Option.{same_Some}
 pub returns-then-stretch-end-clause-last : goal.returns-then-stretch-end-clause-last
 returns-then-stretch-end-clause-last g c =
     let level = g.met.V.Level g.world.𝓛 g.world.𝓜 g.world.𝓡 ((λ s x. x), (λ x. x), (λ x. x), λ x. x) in
-    λ i there none. ends g.V.Level.levels level.lawful c.args.track.now c.known.ensures.track c.args.unit c.requires.some c.requires.whole i c.args.stretch there (omega (arith, c.if-stretch-end.true, c.end.ensures.end))
+    λ i there none. ends g.V.Level.levels level.lawful c.args.track.now c.known.ensures.track c.args.unit c.requires.some c.requires.whole i c.args.stretch there (omega (arith, c.if-stretch-end.true, c.end.ensures))
 
 pub overflow_add-first : goal.overflow_add-first
 overflow_add-first g c =
@@ -21,6 +21,6 @@ returns-clause-behind g c =
     let level = g.met.V.Level g.world.𝓛 g.world.𝓜 g.world.𝓡 ((λ s x. x), (λ x. x), (λ x. x), λ x. x) in
     λ i next there e.
     let made = behind_there g.V.Level.levels level.lawful c.args.track.now c.known.ensures.track c.args.unit c.requires.some c.requires.whole i c.run_from-first.result c.break_behind.result c.args.stretch there
-    (omega (arith, c.if-stretch-end.false, c.end.ensures.end)) c.run_from-first.ensures.inside c.run_from-first.ensures.low c.run_from-first.ensures.high
+    (omega (arith, c.if-stretch-end.false, c.end.ensures)) c.run_from-first.ensures.inside c.run_from-first.ensures.low c.run_from-first.ensures.high
     (c.break_behind.ensures ∙ ap (break_behind c.args.unit c.args.stretch.to) c.edge.ensures.edge) in
     subst (λ s. IsStretch c.args.unit c.args.track.now (i + 1) s) (same_Some _ next e) made

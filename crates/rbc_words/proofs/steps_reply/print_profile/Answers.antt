@@ -14,13 +14,13 @@ returns-in_err-put g c =
 
 pub returns-then-steps-gt-SHORT : goal.returns-then-steps-gt-SHORT
 returns-then-steps-gt-SHORT g c =
-    let whole = profile_line-is g.V.Spelled.kind c.args.profile.now.steps _ c.args.loss c.steps-steps.ensures.steps in
+    let whole = profile_line-is g.V.Spelled.kind c.args.profile.now.steps _ c.args.loss c.steps-steps.ensures in
     prints_then _ _ _ _ _ _ _ _ c.in_ok-put.ensures.text whole c.print_line_end.ensures
 
 pub returns : goal.returns
 returns g c =
     let sink = g.W.Sink in
-    let whole = profile_line-is g.V.Spelled.kind c.args.profile.now.steps _ c.args.loss c.steps-steps.ensures.steps in
+    let whole = profile_line-is g.V.Spelled.kind c.args.profile.now.steps _ c.args.loss c.steps-steps.ensures in
     let runs = runs_text g.V.Spelled.kind c.steps-steps.result.now in
     let text = c.bytes.ensures ∙ c.text.ensures.text ∙ ap (λ l. codes "steps" ++ l) (c.gather_line_end.ensures.text
     ∙ ap (λ l. runs ++ (codes " loss " ++ (decimal c.args.loss ++ 10 ∷ l))) c.new-text.ensures) in

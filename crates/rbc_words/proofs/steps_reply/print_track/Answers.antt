@@ -14,15 +14,15 @@ returns-in_err-print_command g c =
 
 pub returns-then-runs-gt-SHORT : goal.returns-then-runs-gt-SHORT
 returns-then-runs-gt-SHORT g c =
-    let same_end = c.from-end.ensures ∙ c.end.ensures.end in
-    let whole = track_text-is g.V.Spelled.kind c.args.limit c.args.track.now _ _ c.runs-runs.ensures.runs same_end in
+    let same_end = c.from-end.ensures ∙ c.end.ensures in
+    let whole = track_text-is g.V.Spelled.kind c.args.limit c.args.track.now _ _ c.runs-runs.ensures same_end in
     prints_then _ _ _ _ _ _ _ _ c.in_ok-print_command.ensures.text whole c.print_line_end.ensures
 
 pub returns : goal.returns
 returns g c =
     let sink = g.W.Sink in
-    let same_end = c.from-end.ensures ∙ c.end.ensures.end in
-    let whole = track_text-is g.V.Spelled.kind c.args.limit c.args.track.now _ _ c.runs-runs.ensures.runs same_end in
+    let same_end = c.from-end.ensures ∙ c.end.ensures in
+    let whole = track_text-is g.V.Spelled.kind c.args.limit c.args.track.now _ _ c.runs-runs.ensures same_end in
     let command = g.V.Spelled.kind.command ++ (32 ∷ decimal c.args.limit) in
     let runs = runs_text g.V.Spelled.kind c.runs-runs.result.now in
     let text = c.bytes.ensures ∙ c.gather_command.ensures ∙ ap (λ l. command ++ l) (c.gather_line_end.ensures.text
