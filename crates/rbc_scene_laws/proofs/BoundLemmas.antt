@@ -22,7 +22,8 @@ use Rattle.rbc_model.proofs.MetreLemmas.{line_length-cons}
 
 -- ---- lines
 
-few_metres_of : (track : Track) (section : ℕ) → IsInForm track → metres_of track section ≤ 100000
+-- a section of a track has no more metres than a track may have
+pub few_metres_of : (track : Track) (section : ℕ) → IsInForm track → metres_of track section ≤ 100000
 few_metres_of track section form = by_list track.sections section form.few_metres
   where
     by_list : (sections : List Section) (s : ℕ) → list_all (λ (x : Section). nat_le x.metres 100000) sections ≡ true → option_map_or (λ (x : Section). x.metres) (slice_get sections s) 0 ≤ 100000

@@ -1,5 +1,5 @@
 -- The tables of a track, and what stands beside them so that names are looked up.
-use Rattle.std.specs.Prelude.{All, ◌≡◌, ℕ, nat_le, Bool, IsTrue, List, [], map, Result}
+use Rattle.std.specs.Prelude.{◌≡◌, ℕ, nat_le, Bool, IsTrue, List, [], map, Result}
 use Rattle.rbc_model.specs.declared.places.Format.{Format}
 use Rattle.rbc_model.specs.declared.places.Format.TheVariants.{Near}
 use Rattle.rbc_model.specs.GroupNames.{GroupName}
@@ -49,7 +49,6 @@ pub record IsSectionInForm (section : Section) : Type 0 where
 -- sections and their names
 pub record IsSectionTable (sections : List Section) (names : List (List ℕ)) : Type 0 where
   pub listed : names ≡ map (λ section. section.name) sections
-  pub form : All IsSectionInForm sections
 
 -- groups and their identities
 pub record IsGroupTable (groups : List BaliseGroup) (names : List GroupName) : Type 0 where

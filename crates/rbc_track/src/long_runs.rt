@@ -3,7 +3,6 @@
 ghost use Rattle.std.specs.Prelude.{◌≡◌, ◌+◌, nat_le};
 ghost use Rattle.rbc_model.specs.SoundTracks.{are_long, has_long_runs};
 ghost use Rattle.rbc_model.specs.declared.limits.TheConstants.{SHORTEST_RUN};
-ghost use Rattle.rbc_track.specs.Tables.{IsSectionInForm};
 
 use crate::Section;
 use rbc_model::limits::SHORTEST_RUN;
@@ -35,8 +34,7 @@ fn are_long<V: Level>(runs: &[(u32, V)], end: u32) -> bool
 
 /// Whether the section's speeds and gradients last long enough.
 pub(crate) fn has_long_runs(section: &Section) -> bool
-    ensures long { result ≡ has_long_runs section.now }
-    ensures form { IsSectionInForm section.now }
+    ensures { result ≡ has_long_runs section.now }
 {
     let (speeds, grades) = (section.speeds(), section.grades());
     let end = section.length();

@@ -57,6 +57,15 @@ impl Section {
         }
     }
 
+    /// The speeds and the gradients are track functions of the section's metres, which lie within the limit. This does nothing.
+    pub fn known(&self)
+        ensures speeds { IsTrackFunction speed_levels self.now.metres self.now.speeds }
+        ensures grades { IsTrackFunction grade_levels self.now.metres self.now.grades }
+        ensures metres_at_most { self.now.metres ≤ LONGEST_TRACK }
+    {
+        let _ = &self.speeds;
+    }
+
     /// The section's name.
     pub fn name(&self) -> Name
         ensures { result ≡ self.now.name }
@@ -66,26 +75,21 @@ impl Section {
 
     /// How many metres the section has: 1 to 100,000.
     pub fn length(&self) -> u32
-        ensures metres { result ≡ self.now.metres }
-        ensures at_most { result ≤ LONGEST_TRACK }
+        ensures { result ≡ self.now.metres }
     {
         self.speeds.end()
     }
 
     /// The speeds for rising offsets and for falling ones.
     pub fn speeds(&self) -> &Runs<Speed>
-        ensures speeds { result.now ≡ record { steps = self.now.speeds; end = self.now.metres } }
-        ensures track { IsTrackFunction speed_levels self.now.metres self.now.speeds }
-        ensures metres_at_most { self.now.metres ≤ LONGEST_TRACK }
+        ensures { result.now ≡ record { steps = self.now.speeds; end = self.now.metres } }
     {
         &self.speeds
     }
 
     /// The gradients for rising offsets, positive uphill.
     pub fn grades(&self) -> &Runs<Grade>
-        ensures grades { result.now ≡ record { steps = self.now.grades; end = self.now.metres } }
-        ensures track { IsTrackFunction grade_levels self.now.metres self.now.grades }
-        ensures metres_at_most { self.now.metres ≤ LONGEST_TRACK }
+        ensures { result.now ≡ record { steps = self.now.grades; end = self.now.metres } }
     {
         &self.grades
     }

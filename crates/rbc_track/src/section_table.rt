@@ -46,6 +46,7 @@ fn note(names: &mut Names, section: &Section, number: usize) -> Result<(), OrMem
     ensures form { OnOk result (IsSectionInForm section.now) }
     ensures memory { result ≡ Err NoMemory → list_any (λ other. bytes_eq other section.now.name) names.old ≡ false }
 {
+    section.known();
     if !names.insert(section.name())? {
         return Err(OrMemory::Refused(TrackRefusal::TwiceNamed(Table::Sections, number)));
     }
@@ -71,8 +72,7 @@ pub(crate) fn names_of(alloc: Global, sections: &[Section]) -> Result<Names, OrM
 impl Sections {
     /// The table of these sections and their names.
     pub(crate) fn of(sections: Vec<Section>, names: Names) -> Sections
-        requires named { names ≡ map (λ section. section.name) sections.items }
-        requires form { All IsSectionInForm sections.items }
+        requires { names ≡ map (λ section. section.name) sections.items }
         ensures { result ≡ sections.items }
     {
         Sections { sections, names }
@@ -87,10 +87,8 @@ impl Sections {
 
     /// The sections in order.
     pub(crate) fn as_slice(&self) -> &[Section]
-        ensures sections { result.now ≡ self.now }
-        ensures form { All IsSectionInForm self.now }
+        ensures { result.now ≡ self.now }
     {
-        let _ = &self.names;
         self.sections.as_slice()
     }
 

@@ -6,7 +6,7 @@ ghost use Rattle.rbc_model.specs.Scales.{farthest};
 ghost use Rattle.rbc_model.specs.SoundTracks.{IsInForm, IsSound};
 ghost use Rattle.rbc_model.specs.Answers.{AnswersAs, AnswersOrMemory};
 ghost use Rattle.rbc_model.specs.TrackParts.{track_of};
-ghost use Rattle.rbc_model.specs.declared.limits.TheConstants.{FARTHEST_END_IN_TENS, LONGEST_TRACK, MOST_STEPS};
+ghost use Rattle.rbc_model.specs.declared.limits.TheConstants.{FARTHEST_END_IN_TENS};
 ghost use Rattle.rbc_model.specs.declared.memory.OrMemory.TheVariants.{Refused};
 ghost use Rattle.rbc_track.specs.Making.{made_of, later_tables};
 ghost use Rattle.rbc_track.specs.PartsView.{parts_view};
@@ -143,18 +143,14 @@ impl Track {
 
     /// How many steps a profile of speeds may have: 1 to 31.
     pub fn speed_steps(&self) -> usize
-        ensures steps { result ≡ self.now.speed_steps }
-        ensures at_least { 1 ≤ result }
-        ensures at_most { result ≤ MOST_STEPS }
+        ensures { result ≡ self.now.speed_steps }
     {
         self.speed_steps
     }
 
     /// How many steps a profile of gradients may have: 1 to 31.
     pub fn grade_steps(&self) -> usize
-        ensures steps { result ≡ self.now.grade_steps }
-        ensures at_least { 1 ≤ result }
-        ensures at_most { result ≤ MOST_STEPS }
+        ensures { result ≡ self.now.grade_steps }
     {
         self.grade_steps
     }
@@ -238,8 +234,7 @@ impl Track {
     /// How many metres the leg has: 1 to 100,000.
     pub fn metres_of(&self, leg: &Leg) -> u32
         requires { leg.now.section < length self.now.sections }
-        ensures metres { result ≡ metres_of self.now leg.now.section }
-        ensures at_most { result ≤ LONGEST_TRACK }
+        ensures { result ≡ metres_of self.now leg.now.section }
     {
         self.section_at(leg.section).length()
     }

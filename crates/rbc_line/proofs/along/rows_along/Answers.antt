@@ -30,18 +30,18 @@ loop-leg-preserved g c =
       | then-first-last+in_ok-push_leg w ↦
           rw w.rows-is
           (record {
-            metres = omega (arith, step, w.begin-is, l.invariant.metres, c.metres_of.ensures.metres);
+            metres = omega (arith, step, w.begin-is, l.invariant.metres, c.metres_of.ensures);
             tells = subst (λ n. Tells w.push_leg.new.rows.items n level) (after_leg from to begin metres first last c.if-first-last.begin c.if-to-begin.false c.max-first.ensures c.min-last.ensures w.if-first-last.true w.begin-is)
                 (w.in_ok-push_leg.ensures level
                 (subst (λ n. Tells l.rows.items n level) (before_leg from to begin (begin + metres) first last c.if-to-begin.false c.max-first.ensures c.min-last.ensures w.if-first-last.true) l.invariant.tells)
                 (λ x a b.
                 ap (level_at steps_of met track legs) (place_on_leg from begin first x c.max-first.ensures a)
-                ∙ level_there steps_of met track legs l.leg-index begin x leg c.loop-leg-test.true c.leg-item.is l.invariant.metres (inside_leg to begin metres last x (metres_of track leg.section) c.min-last.ensures b c.metres_of.ensures.metres)));
+                ∙ level_there steps_of met track legs l.leg-index begin x leg c.loop-leg-test.true c.leg-item.is l.invariant.metres (inside_leg to begin metres last x (metres_of track leg.section) c.min-last.ensures b c.metres_of.ensures)));
           })
       | else-first-last w ↦
           rw w.rows-is
           (record {
-            metres = omega (arith, step, w.begin-is, l.invariant.metres, c.metres_of.ensures.metres);
+            metres = omega (arith, step, w.begin-is, l.invariant.metres, c.metres_of.ensures);
             tells = subst (λ n. Tells l.rows.items n level) (beside_leg from to begin metres first last c.if-first-last.begin c.if-to-begin.false c.max-first.ensures c.min-last.ensures w.if-first-last.false w.begin-is) l.invariant.tells;
           })
     ]

@@ -4,6 +4,7 @@ use Rattle.rbc_model.specs.declared.limits.TheConstants.{LONGEST_TRACK, MOST_SEC
 use Rattle.rbc_model.specs.declared.places.Format.TheVariants.{Far}
 use Rattle.rbc_model.specs.Scales.{is_expressible}
 use Rattle.rbc_model.specs.Lines.{line_length}
+use Rattle.rbc_model.specs.Tracks.{Track}
 use Rattle.rbc_reach.specs.declared.parts.ViewParts.{ViewParts}
 use Rattle.rbc_reach.specs.Forms.{are_in_form, view_of_parts}
 use Rattle.rbc_reach.proofs.FormLemmas.{parts-in_form}
@@ -38,6 +39,9 @@ unwrap-requires c =
     let few =
     subst (λ (metres : ℕ). metres ≤ MOST_SECTIONS * LONGEST_TRACK) (λ j. line_length (c.line-line.ensures.track j) (c.line-line.ensures.legs j))
     c.known.ensures.at_most in
+    let form = c.known.ensures.form in
+    let speed_steps = c.speed_steps.ensures ∙ ap (λ (t : Track). t.speed_steps) (c.deref.ensures ∙ c.track-track.ensures.track) in
+    let grade_steps = c.grade_steps.ensures ∙ ap (λ (t : Track). t.grade_steps) (c.deref-2.ensures ∙ c.track-track.ensures.track) in
     some_by c.new.result (are_in_form parts) (view_of_parts parts) c.new.ensures
     (parts-in_form parts (steep ∙ sym fast) end (omega arith)
-    c.speed_steps.ensures.at_least c.speed_steps.ensures.at_most c.grade_steps.ensures.at_least c.grade_steps.ensures.at_most)
+    (rw speed_steps form.some_speed_steps) (rw speed_steps form.few_speed_steps) (rw grade_steps form.some_grade_steps) (rw grade_steps form.few_grade_steps))

@@ -15,7 +15,7 @@ pub overflow_add-self : goal.overflow_add-self
 overflow_add-self c =
     let s = c.self.inside in
     let longer = walk-back s.track.now s.locks.now s.known.now s.turn s.behind s.ahead s.first s.last s.metres c.self.invariant c.in-Some.leg (s.metres + c.metres_of.result) (sym c.in-Some.ensures) (ap (λ (v : Walked). has_section v.line.legs c.in-Some.leg.section) c.self.view_is ∙ sym c.has_section.ensures ∙ c.if-has_section.false)
-    (ap (λ m. s.metres + m) c.metres_of.ensures.metres) in
+    (ap (λ m. s.metres + m) c.metres_of.ensures) in
     omega (arith, walk-small s.track.now s.locks.now s.known.now s.turn (s.behind + 1) s.ahead c.in-Some.leg s.last (s.metres + c.metres_of.result) longer)
 
 pub overflow_add-self-2 : goal.overflow_add-self-2
@@ -27,7 +27,7 @@ pub invariant_of-self : goal.invariant_of-self
 invariant_of-self c =
     let s = c.self.inside in
     walk-back s.track.now s.locks.now s.known.now s.turn s.behind s.ahead s.first s.last s.metres c.self.invariant c.in-Some.leg (s.metres + c.metres_of.result) (sym c.in-Some.ensures) (ap (λ (v : Walked). has_section v.line.legs c.in-Some.leg.section) c.self.view_is ∙ sym c.has_section.ensures ∙ c.if-has_section.false)
-    (ap (λ m. s.metres + m) c.metres_of.ensures.metres)
+    (ap (λ m. s.metres + m) c.metres_of.ensures)
 
 pub returns-clause-longer : goal.returns-clause-longer
 returns-clause-longer c =

@@ -11,12 +11,12 @@ metres_of-metres-requires c =
 pub overflow_add-self : goal.overflow_add-self
 overflow_add-self c =
     let track = arc_value c.self.inside.track in
-    let metres : c.metres_of-metres.result ≡ metres_of track c.args.leg.section = c.metres_of-metres.ensures.metres ∙ ap (λ (t : Track). metres_of t c.args.leg.section) c.deref.ensures in
+    let metres : c.metres_of-metres.result ≡ metres_of track c.args.leg.section = c.metres_of-metres.ensures ∙ ap (λ (t : Track). metres_of t c.args.leg.section) c.deref.ensures in
     let longer = extended track c.self.inside.legs.items c.args.leg c.self.inside.length c.metres_of-metres.result c.self.invariant (rw (← c.self.view_is) at c.requires.linked) (rw (← c.self.view_is) at c.requires.absent) metres in
     omega (arith, length_at_most track (c.self.inside.legs.items ++ c.args.leg ∷ []) (c.self.inside.length + c.metres_of-metres.result) longer)
 
 pub invariant_of-self-2 : goal.invariant_of-self-2
 invariant_of-self-2 c =
     let track = arc_value c.self.inside.track in
-    let metres : c.metres_of-metres.result ≡ metres_of track c.args.leg.section = c.metres_of-metres.ensures.metres ∙ ap (λ (t : Track). metres_of t c.args.leg.section) c.deref.ensures in
+    let metres : c.metres_of-metres.result ≡ metres_of track c.args.leg.section = c.metres_of-metres.ensures ∙ ap (λ (t : Track). metres_of t c.args.leg.section) c.deref.ensures in
     rw c.in_ok-push.ensures.items (extended track c.self.inside.legs.items c.args.leg c.self.inside.length c.metres_of-metres.result c.self.invariant (rw (← c.self.view_is) at c.requires.linked) (rw (← c.self.view_is) at c.requires.absent) metres)

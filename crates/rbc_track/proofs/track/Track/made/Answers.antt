@@ -26,7 +26,7 @@ returns-in-Err-clause-refused c = (of_sections (goal.at.returns-in-Err-clause-re
 of_later : (c : After-told-in-Err-tables_of) → IsTold Track c.told-in-Err-tables_of.result (made_of (parts_view c.args.parts))
 of_later c =
     told_of_later Track (parts_view c.args.parts) c.as_slice.result.now c.deref-in-Err-tables_of.result.now c.deref-in-Err-tables_of-2.result.now c.deref-in-Err-tables_of-3.result.now
-    (c.as_slice.ensures.sections ∙ c.of-sections.ensures) c.deref-in-Err-tables_of.ensures.value c.deref-in-Err-tables_of-2.ensures.value c.deref-in-Err-tables_of-3.ensures.value
+    (c.as_slice.ensures ∙ c.of-sections.ensures) c.deref-in-Err-tables_of.ensures.value c.deref-in-Err-tables_of-2.ensures.value c.deref-in-Err-tables_of-3.ensures.value
     c.in-Err-tables_of.fault c.told-in-Err-tables_of.result c.told-in-Err-tables_of.ensures (sym c.in_ok-judge_sizes.ensures)
     c.deref.result.now c.deref.ensures.value c.in-Ok.ensures.judged c.deref-2.result.now c.deref-2.ensures.value c.deref-3.result.now c.deref-3.ensures.value c.deref-4.result.now c.deref-4.ensures.value
     (subst (λ (s : List Section). RefusesOrMemory c.in-Err-tables_of.fault (later_tables s c.deref-2.result.now c.deref-3.result.now c.deref-4.result.now)) c.of-sections.ensures c.in-Err-tables_of.ensures)
