@@ -1,7 +1,6 @@
 //! What a train that asks is shown.
 
-ghost use Rattle.std.specs.Prelude.{◌≡◌, ◌≤◌, ◌+◌, Some, None, if◌then◌else◌};
-ghost use Rattle.rbc_model.specs.declared.limits.TheConstants.{MOST_STEPS};
+ghost use Rattle.std.specs.Prelude.{◌≡◌, ◌+◌, Some, None, if◌then◌else◌};
 ghost use Rattle.rbc_reach.specs.Forms.{metres_shown, view_of_parts, are_in_form, IsViewInForm};
 
 use crate::ViewParts;
@@ -59,6 +58,14 @@ impl View {
         } else {
             None
         }
+    }
+
+    /// The end lies beyond the group, where a message can give it, and each metre from the group to there has a speed and a
+    /// gradient. A packet has room for as many steps as a profile may have. This does nothing.
+    pub fn known(&self)
+        ensures { IsViewInForm self.now }
+    {
+        let _ = &self.parts;
     }
 
     /// The train's number.
@@ -126,8 +133,7 @@ impl View {
 
     /// The greatest end that is safe and that a message can give.
     pub fn end(&self) -> u32
-        ensures end { result ≡ self.now.end }
-        ensures form { IsViewInForm self.now }
+        ensures { result ≡ self.now.end }
     {
         self.parts.origin + self.parts.speeds.end()
     }
@@ -148,34 +154,28 @@ impl View {
 
     /// How many steps a profile of speeds may have: 1 to 31.
     pub fn speed_steps(&self) -> usize
-        ensures steps { result ≡ self.now.speed_steps }
-        ensures at_least { 1 ≤ result }
-        ensures at_most { result ≤ MOST_STEPS }
+        ensures { result ≡ self.now.speed_steps }
     {
         self.parts.speed_steps
     }
 
     /// How many steps a profile of gradients may have: 1 to 31.
     pub fn grade_steps(&self) -> usize
-        ensures steps { result ≡ self.now.grade_steps }
-        ensures at_least { 1 ≤ result }
-        ensures at_most { result ≤ MOST_STEPS }
+        ensures { result ≡ self.now.grade_steps }
     {
         self.parts.grade_steps
     }
 
     /// The speeds from the group to the end.
     pub fn speeds(&self) -> &Runs<Speed>
-        ensures speeds { result.now ≡ record { steps = self.now.speeds; end = metres_shown self.now } }
-        ensures form { IsViewInForm self.now }
+        ensures { result.now ≡ record { steps = self.now.speeds; end = metres_shown self.now } }
     {
         &self.parts.speeds
     }
 
     /// The gradients from the group to the end, positive uphill in the direction of running.
     pub fn grades(&self) -> &Runs<Grade>
-        ensures grades { result.now ≡ record { steps = self.now.grades; end = metres_shown self.now } }
-        ensures form { IsViewInForm self.now }
+        ensures { result.now ≡ record { steps = self.now.grades; end = metres_shown self.now } }
     {
         &self.parts.grades
     }

@@ -18,6 +18,7 @@ const MANY_RUNS: usize = 400;
 fn reduced_speeds(alloc: Global, view: &View) -> Result<Reduced<Speed>, Memory>
     ensures { IfOk result (λ r. ReducesSpeeds view.now r.profile r.loss r.prices.items) }
 {
+    view.known();
     let reduced = reduce(alloc, view.speeds(), view.speed_steps())?;
     Ok(reduced)
 }
@@ -26,6 +27,7 @@ fn reduced_speeds(alloc: Global, view: &View) -> Result<Reduced<Speed>, Memory>
 fn reduced_grades(alloc: Global, view: &View) -> Result<Reduced<Grade>, Memory>
     ensures { IfOk result (λ r. ReducesGrades view.now r.profile r.loss r.prices.items) }
 {
+    view.known();
     let reduced = reduce(alloc, view.grades(), view.grade_steps())?;
     Ok(reduced)
 }

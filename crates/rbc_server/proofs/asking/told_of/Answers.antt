@@ -19,11 +19,11 @@ returns-clause-told c =
       authority = authority;
       message = c.message-message.ensures;
       writable = rw (← authority) c.known-2.ensures;
-      speed_steps = c.speed_steps.ensures.steps ∙ ap (λ (v : View). v.speed_steps) seen;
-      speeds = c.speeds.ensures.speeds ∙ ap (λ (v : View). record { steps = v.speeds; end = metres_shown v }) seen;
+      speed_steps = c.speed_steps.ensures ∙ ap (λ (v : View). v.speed_steps) seen;
+      speeds = c.speeds.ensures ∙ ap (λ (v : View). record { steps = v.speeds; end = metres_shown v }) seen;
       speed_prices = rw c.as_slice.ensures.value c.prices-prices.ensures.speeds;
-      grade_steps = c.grade_steps.ensures.steps ∙ ap (λ (v : View). v.grade_steps) seen;
-      grades = c.grades.ensures.grades ∙ ap (λ (v : View). record { steps = v.grades; end = metres_shown v }) seen;
+      grade_steps = c.grade_steps.ensures ∙ ap (λ (v : View). v.grade_steps) seen;
+      grades = c.grades.ensures ∙ ap (λ (v : View). record { steps = v.grades; end = metres_shown v }) seen;
       grade_prices = rw c.as_slice-2.ensures.value c.prices-prices.ensures.grades;
     }
 
@@ -36,7 +36,7 @@ invariant_of-result c =
     record {
       told = c.message-message.ensures ∙ ap message_bytes (sym authority);
       speeds_fit = speeds_fit candidate c.authority-authority.result.now known.best known.chosen authority c.speeds.result.now
-          (c.speeds.ensures.speeds ∙ ap (λ (v : View). record { steps = v.speeds; end = metres_shown v }) view);
+          (c.speeds.ensures ∙ ap (λ (v : View). record { steps = v.speeds; end = metres_shown v }) view);
       grades_fit = grades_fit candidate c.authority-authority.result.now known.best known.chosen authority c.grades.result.now
-          (c.grades.ensures.grades ∙ ap (λ (v : View). record { steps = v.grades; end = metres_shown v }) view);
+          (c.grades.ensures ∙ ap (λ (v : View). record { steps = v.grades; end = metres_shown v }) view);
     }

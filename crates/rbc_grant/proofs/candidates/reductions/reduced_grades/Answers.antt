@@ -11,5 +11,5 @@ returns c =
     let view = c.args.view.now in
     let reduced = c.in_ok-reduced.reduced in
     reduction_of grade_levels (unit_of c.grades.result.now.end) c.grade_steps.result (unit_of (metres_shown view)) view.grade_steps c.grades.result.now (grades_shown view) reduced.profile reduced.loss reduced.prices.items
-    (ap (λ track. unit_of track.end) c.grades.ensures.grades) c.grade_steps.ensures.steps c.grades.ensures.grades
+    (ap (λ track. unit_of track.end) c.grades.ensures) c.grade_steps.ensures c.grades.ensures
     (record { chosen = c.in_ok-reduced.ensures.chosen; end = c.in_ok-reduced.ensures.end; loss = c.in_ok-reduced.ensures.loss; prices = c.in_ok-reduced.ensures.prices })

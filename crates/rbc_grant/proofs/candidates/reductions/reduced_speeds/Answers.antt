@@ -11,5 +11,5 @@ returns c =
     let view = c.args.view.now in
     let reduced = c.in_ok-reduced.reduced in
     reduction_of speed_levels (unit_of c.speeds.result.now.end) c.speed_steps.result (unit_of (metres_shown view)) view.speed_steps c.speeds.result.now (speeds_shown view) reduced.profile reduced.loss reduced.prices.items
-    (ap (λ track. unit_of track.end) c.speeds.ensures.speeds) c.speed_steps.ensures.steps c.speeds.ensures.speeds
+    (ap (λ track. unit_of track.end) c.speeds.ensures) c.speed_steps.ensures c.speeds.ensures
     (record { chosen = c.in_ok-reduced.ensures.chosen; end = c.in_ok-reduced.ensures.end; loss = c.in_ok-reduced.ensures.loss; prices = c.in_ok-reduced.ensures.prices })
