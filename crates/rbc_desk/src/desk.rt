@@ -16,6 +16,7 @@ ghost use Rattle.rbc_desk.specs.declared.faults.CloseFault.TheVariants.{Missing}
 
 use crate::shared::{Shared, fault_at};
 use crate::{AskFault, Blank, CloseFault, DeskName, Gate, Granted, Hold, Seat};
+use crossbeam_utils::Backoff;
 use rbc_model::{Memory, OrMemory, Told, TrainId};
 use rbc_snap::{ApplyFault, Candidate, Eye, EyeFault, Press, Receipt, Record, View};
 use rbc_track::Track;
@@ -27,6 +28,9 @@ use std::thread::Threads;
 
 /// How often a train's candidate is computed outside the lock before it is computed under it.
 const TRIES: u32 = 3;
+
+/// How often the lock is tried for before its thread sleeps until it is free.
+const LOCK_TRIES: u32 = 100;
 
 /// What stays as it was when the desk was opened, so that it needs no lock.
 #[derive(Drop)]
@@ -84,7 +88,7 @@ fn seen_by(
 }
 
 /// What the seat's eye shows the train, and the version. None where the eye is behind what the seat was told.
-fn look<L: DeskName, R: Wait>(
+fn look_by_eye<L: DeskName, R: Wait>(
     rt: &R,
     alloc: Global,
     seat: &mut Seat<L>,
@@ -186,9 +190,8 @@ impl<L: DeskName> Desk<L> {
         answer
     }
 
-    /// The same, for a seat that will tell more or ask: what is entered is published later, so that many entries are published
-    /// as one. That is done by the next [`Desk::publish`], [`Desk::event`] or [`Desk::ask`] from this seat, or when any seat is
-    /// granted something.
+    /// The same, for a seat that will tell more or ask: what is entered is published later, by the next [`Desk::publish`] or
+    /// [`Desk::event`] from this seat, or from another that was told of it. So many entries are published as one.
     ///
     /// # Errors
     ///
@@ -209,15 +212,27 @@ impl<L: DeskName> Desk<L> {
         answer
     }
 
+    /// What lies under the lock. A hold is shorter than it takes to sleep and to be woken, so the lock is tried for before.
+    fn lock<R: Wait>(&self, rt: &R) -> MutexGuard<'_, Shared<L>> {
+        let backoff = Backoff::new();
+        for _try in 0..LOCK_TRIES {
+            if let Some(shared) = self.shared.try_lock() {
+                return shared;
+            }
+            backoff.snooze();
+        }
+        self.shared.lock(rt)
+    }
+
     /// The desk in one hold of its lock, for a seat that has much to tell at once. Every other seat waits until it ends.
     pub fn hold<R: Wait>(&self, rt: &R) -> Hold<'_, L> {
         Hold {
-            shared: self.shared.lock(rt),
+            shared: self.lock(rt),
         }
     }
 
-    /// Publishes what was entered from this seat and is not published yet, so that the eyes of all seats see it. Where there is
-    /// no memory for the scene, they see what they saw.
+    /// Publishes what this seat was told and is not published yet, so that the eyes of all seats see it. Where there is no memory
+    /// for the scene, they see what they saw.
     pub fn publish<R: Wait>(&self, rt: &R, alloc: Global, seat: &mut Seat<L>)
         ensures { seat.new ≡ seat.old }
     {
@@ -240,7 +255,7 @@ impl<L: DeskName> Desk<L> {
         requires { IsOfTrack L.opened.track told.now }
         ensures { IsToldAt seat.old seat.new told.now (Err result) }
     {
-        let shared = self.shared.lock(rt);
+        let shared = self.lock(rt);
         let fault = (*shared).event_in_vain(rt, seat, told);
         // A guard that is dropped would need that the press may be.
         MutexGuard::unlock(shared);
@@ -257,17 +272,17 @@ impl<L: DeskName> Desk<L> {
     ) -> OrMemory<AskFault>
         ensures { IsAnsweredAt seat.old seat.new train (Err result) }
     {
-        let shared = self.shared.lock(rt);
+        let shared = self.lock(rt);
         let fault = (*shared).ask_in_vain(rt, seat, train);
         // As above.
         MutexGuard::unlock(shared);
         fault
     }
 
-    /// Grants a train that asks the authority that is best for what it is shown, and gives the seat the receipt. It is
-    /// shown by the seat's eye, and the gate computes, both without the lock. Where the train is shown another view
-    /// meanwhile, it is done again, and the fourth time under the lock; where the eye is behind, it is done under the lock at
-    /// once. The seat is told all that the answer speaks of.
+    /// Grants a train that asks the authority that is best for what it is shown, and gives the seat the receipt. It is shown by
+    /// the seat's eye without the lock, or under it where the seat was told more than is published; the gate computes without
+    /// it. Where the train is shown another view meanwhile, it is done again, and the fourth time all under the lock. The seat
+    /// is told all that the answer speaks of. The grant is published later, as by [`Desk::event_ahead`].
     ///
     /// # Errors
     ///
@@ -309,7 +324,6 @@ impl<L: DeskName> Desk<L> {
     ) -> Result<Granted, OrMemory<AskFault>>
         ensures { IsAnsweredAt seat.old seat.new train result }
     {
-        self.publish(waiting, alloc, seat);
         match self.try_outside(rt, waiting, alloc, seat, train, gate) {
             Ok(Some(granted)) => Ok(granted),
             Ok(None) => self.grant(rt, waiting, alloc, seat, train),
@@ -317,7 +331,33 @@ impl<L: DeskName> Desk<L> {
         }
     }
 
-    /// The tries outside the lock. None where each was overtaken, or where the seat's eye is behind.
+    /// What the train is shown, and the version: by the seat's eye, or under the lock where the seat was told more than is
+    /// published.
+    fn look<R: Wait>(
+        &self,
+        rt: &R,
+        alloc: Global,
+        seat: &mut Seat<L>,
+        train: TrainId,
+    ) -> Result<(View, u64), OrMemory<AskFault>>
+        ensures later { IsLater seat.old.told seat.new.told }
+        ensures receipts { seat.new.receipts ≡ seat.old.receipts }
+        ensures train { IfOk result (λ seen. seen.0.train ≡ train) }
+        ensures known { IfOk result (λ _. has_train seat.new.told train ≡ true) }
+        ensures denied { IfErr result (λ fault. IsAnsweredThen seat.old.told seat.new.told train (Err fault)) }
+    {
+        if !seat.is_ahead {
+            if let Some(seen) = look_by_eye(rt, alloc, seat, train)? {
+                return Ok(seen);
+            }
+        }
+        let shared = self.lock(rt);
+        let answer = (*shared).look(rt, alloc, seat, train);
+        MutexGuard::unlock(shared);
+        answer
+    }
+
+    /// The tries outside the lock. None where each was overtaken.
     #[tactic(auto, using(rbc_snap::proofs::LaterLemmas::later_still, crate::proofs::AskingLemmas::since_before))]
     fn try_outside<T: Threads + Sync, R: Wait, G: Gate>(
         &self,
@@ -332,9 +372,7 @@ impl<L: DeskName> Desk<L> {
     {
         seat.known();
         for _try in 0..TRIES {
-            let Some((view, version)) = look(waiting, alloc, seat, train)? else {
-                return Ok(None);
-            };
+            let (view, version) = self.look(waiting, alloc, seat, train)?;
             let candidate = gate.pass(rt, alloc, view, version)?;
             match self.commit(waiting, alloc, seat, candidate) {
                 Ok(Some(granted)) => return Ok(Some(granted)),
@@ -355,7 +393,7 @@ impl<L: DeskName> Desk<L> {
     ) -> Result<Option<Granted>, OrMemory<AskFault>>
         ensures { IsTriedAt seat.old seat.new candidate.view.train result }
     {
-        let mut shared = self.shared.lock(rt);
+        let mut shared = self.lock(rt);
         let answer = (*shared).commit(rt, alloc, seat, candidate);
         MutexGuard::unlock(shared);
         answer
@@ -372,7 +410,7 @@ impl<L: DeskName> Desk<L> {
     ) -> Result<Granted, OrMemory<AskFault>>
         ensures { IsAnsweredAt seat.old seat.new train result }
     {
-        let mut shared = self.shared.lock(waiting);
+        let mut shared = self.lock(waiting);
         let answer = (*shared).grant(rt, waiting, alloc, seat, train);
         MutexGuard::unlock(shared);
         answer
@@ -394,7 +432,7 @@ impl<L: DeskName> Desk<L> {
         ensures later { IsLater seat.old.told seat.new.told }
         ensures receipts { seat.new.receipts ≡ seat.old.receipts }
     {
-        let shared = self.shared.lock(rt);
+        let shared = self.lock(rt);
         let answer = (*shared).trains(rt, alloc, seat);
         MutexGuard::unlock(shared);
         answer

@@ -19,8 +19,7 @@ pub struct Hold<'desk, L: DeskName> {
 
 impl<'desk, L: DeskName> Hold<'desk, L> {
     /// Enters what a train or the interlocking tells, and gives the seat the receipt. The seat is told all that there is then.
-    /// It is published later: by [`Hold::publish`], by the next [`crate::Desk::publish`], [`crate::Desk::event`] or
-    /// [`crate::Desk::ask`] from this seat, or when any seat is granted something.
+    /// It is published later: by [`Hold::publish`], or as by [`crate::Desk::event_ahead`].
     ///
     /// # Errors
     ///

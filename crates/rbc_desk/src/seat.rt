@@ -18,7 +18,7 @@ pub struct Seat<L: DeskName> {
     pub(crate) receipts: Vec<Receipt>,
     pub(crate) share: Share<L>,
     pub(crate) eye: Eye<L>,
-    /// Whether something was entered from it that may not be published yet.
+    /// Whether it was told something that may not be published yet.
     pub(crate) is_ahead: bool,
 }
 
@@ -57,6 +57,7 @@ impl<L: DeskName> Seat<L> {
         ensures heard { IsLater other.now.told self.new.told }
     {
         self.eye.hear(&other.eye);
+        self.is_ahead = self.is_ahead || other.is_ahead;
     }
 
     /// What the seat was told, as a moment of the desk's history.

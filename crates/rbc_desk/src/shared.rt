@@ -5,8 +5,10 @@ ghost use Rattle.std.specs.Prelude.{All, None, Ok, Err, IfOk, IfErr, IfSome, IfN
 ghost use Rattle.std.specs.List.{list_any};
 ghost use Rattle.rbc_model.specs.Answers.{AnswersAs};
 ghost use Rattle.rbc_model.specs.Histories.{IsLegal, Matches};
+ghost use Rattle.rbc_model.specs.declared.memory.OrMemory.TheVariants.{Memory as NoMemory};
 ghost use Rattle.rbc_grant_laws.specs.Candidates.{IsCandidateOf};
 ghost use Rattle.rbc_snap.specs.Candidates.{HasChosenProfiles};
+ghost use Rattle.rbc_snap.specs.Entering.{EntersOrMemory, entry_told, refused_at_once};
 ghost use Rattle.rbc_snap.specs.Present.{has_train};
 ghost use Rattle.rbc_snap.specs.Steps.{IsOfTrack};
 ghost use Rattle.rbc_desk.specs.Closing.{all_receipts, IsUnmatchedIn};
@@ -29,7 +31,7 @@ use std::thread::Threads;
 pub(crate) struct Shared<L: DeskName> {
     /// The record.
     pub(crate) log: Record,
-    /// The press. It tells each entry in the hold that entered it, and publishes what is granted in the same hold.
+    /// The press. It tells each entry in the hold that entered it, and publishes it there or later.
     pub(crate) press: Press<L>,
     /// How many entries the record had when the desk was made.
     pub(crate) start: u64,
@@ -68,6 +70,18 @@ fn tried(
         Err(OrMemory::Refused(CommitFault::Full)) => Err(OrMemory::Refused(AskFault::Full)),
         Err(OrMemory::Refused(CommitFault::Stale(_))) => Ok(None),
         Err(OrMemory::Memory) => Err(OrMemory::Memory),
+    }
+}
+
+/// Why what is told is not entered, where there is no memory for it: what refuses it at once, or else the want of memory.
+fn in_vain(log: &Record, told: &Told) -> OrMemory<ApplyFault>
+    requires { IsOfTrack log.now.track told.now }
+    ensures refused { EntersOrMemory (Err result) log.now log.now (entry_told log.now told.now) }
+    ensures needed { result ≡ NoMemory → refused_at_once log.now told.now ≡ None }
+{
+    match log.refusal(told) {
+        Some(fault) => OrMemory::Refused(fault),
+        None => OrMemory::Memory,
     }
 }
 
@@ -116,24 +130,6 @@ fn follow<L: DeskName, R: Wait>(rt: &R, log: &Record, press: &mut Press<L>, eye:
     press.bring(rt, eye);
 }
 
-/// Publishes the record, which goes on from what the press told, and tells the eye all of it.
-fn publish<L: DeskName, R: Wait>(
-    rt: &R,
-    alloc: Global,
-    log: &Record,
-    press: &mut Press<L>,
-    eye: &mut Eye<L>,
-)
-    requires track { log.now.track ≡ press.old.track }
-    requires opening { take (length press.old.entries) log.now.entries ≡ press.old.entries }
-    ensures press { press.new ≡ log.now }
-    ensures told { eye.new ≡ log.now }
-    ensures later { IsLater eye.old log.now }
-{
-    press.publish(rt, alloc, log);
-    press.bring(rt, eye);
-}
-
 impl<L: DeskName> Shared<L> {
     /// What lies under the lock is a legal history, which goes on from the one that the desk was opened with.
     fn goes_on(&self)
@@ -150,6 +146,7 @@ impl<L: DeskName> Shared<L> {
     {
         self.goes_on();
         self.press.bring(rt, &mut seat.eye);
+        seat.is_ahead = self.press.is_behind();
     }
 
     /// Enters what is told, and gives the seat the receipt. The seat is told all that the record then has. It is published
@@ -182,11 +179,10 @@ impl<L: DeskName> Shared<L> {
             is_ahead,
         } = seat;
         press.bring(rt, eye);
-        if let Some(fault) = log.refusal(told) {
-            return Err(OrMemory::Refused(fault));
+        *is_ahead = press.is_behind();
+        if found.reserve(1).is_err() || receipts.reserve(1).is_err() {
+            return Err(in_vain(log, told));
         }
-        found.reserve(1)?;
-        receipts.reserve(1)?;
         let receipt = log.apply(alloc, told)?;
         follow(rt, log, press, eye);
         found.push_reserved(false);
@@ -216,10 +212,7 @@ impl<L: DeskName> Shared<L> {
         ensures { IsToldAt seat.old seat.new told.now (Err result) }
     {
         self.bring(rt, seat);
-        match self.log.refusal(told) {
-            Some(fault) => OrMemory::Refused(fault),
-            None => OrMemory::Memory,
-        }
+        in_vain(&self.log, told)
     }
 
     /// Why a train that asks is granted nothing, where there is no memory for it: it is not there, or memory is refused. The
@@ -239,13 +232,23 @@ impl<L: DeskName> Shared<L> {
         OrMemory::Refused(AskFault::UnknownTrain)
     }
 
-    /// What the train is shown, and the version of the history.
-    fn look(&self, alloc: Global, train: TrainId) -> Result<(View, u64), OrMemory<AskFault>>
+    /// What the train is shown, and the version of the history. The seat is told all that the record has.
+    pub(crate) fn look<R: Wait>(
+        &self,
+        rt: &R,
+        alloc: Global,
+        seat: &mut Seat<L>,
+        train: TrainId,
+    ) -> Result<(View, u64), OrMemory<AskFault>>
+        ensures told { seat.new.told ≡ self.now.log }
+        ensures later { IsLater seat.old.told seat.new.told }
+        ensures receipts { seat.new.receipts ≡ seat.old.receipts }
         ensures shown { AnswersAs (λ seen. seen.0) result (shown self.now.log train) }
         ensures train { IfOk result (λ seen. seen.0.train ≡ train) }
         ensures known { IfOk result (λ _. has_train self.now.log train ≡ true) }
         ensures refused { IfErr result (IsRefused self.now.log train) }
     {
+        self.bring(rt, seat);
         let version = self.log.version();
         match self.log.view(alloc, train) {
             Ok(view) => Ok((view, version)),
@@ -255,7 +258,7 @@ impl<L: DeskName> Shared<L> {
     }
 
     /// Enters what the candidate would grant, and gives the seat the receipt. None where the record shows its train
-    /// another view. The seat is told all that the record then has.
+    /// another view. The seat is told all that the record then has. It is published later.
     pub(crate) fn commit<R: Wait>(
         &mut self,
         rt: &R,
@@ -302,9 +305,10 @@ impl<L: DeskName> Shared<L> {
             receipts,
             share,
             eye,
-            ..
+            is_ahead,
         } = seat;
         press.bring(rt, eye);
+        *is_ahead = press.is_behind();
         if !is_there(log, candidate) {
             return Err(OrMemory::Refused(AskFault::UnknownTrain));
         }
@@ -314,14 +318,15 @@ impl<L: DeskName> Shared<L> {
         found.reserve(1)?;
         receipts.reserve(1)?;
         let Some(entered) = enter(log, alloc, candidate)? else {
-            // The next look sees what overtook this one.
-            press.show(rt, alloc, log);
+            // The next look is under the lock, and sees what overtook this one.
+            *is_ahead = true;
             return Ok(None);
         };
-        publish(rt, alloc, log, press, eye);
+        follow(rt, log, press, eye);
         found.push_reserved(false);
         receipts.push_reserved(entered.copy());
         entries.add(share, 1);
+        *is_ahead = true;
         Ok(Some(entered))
     }
 
@@ -336,8 +341,7 @@ impl<L: DeskName> Shared<L> {
     ) -> Result<Granted, OrMemory<AskFault>>
         ensures { IsAnsweredAt seat.old seat.new train result }
     {
-        self.bring(waiting, seat);
-        let (view, version) = self.look(alloc, train)?;
+        let (view, version) = self.look(waiting, alloc, seat, train)?;
         let candidate = candidate(rt, alloc, view, version)?;
         match self.commit(waiting, alloc, seat, candidate) {
             Ok(Some(granted)) => Ok(granted),

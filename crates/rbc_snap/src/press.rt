@@ -190,17 +190,6 @@ impl<J: HistoryName> Press<J> {
         self.is_behind = true;
     }
 
-    /// Goes on to the record, and publishes its scene. Where there is no memory for it, readers see what they saw, but the
-    /// press tells the record's history all the same.
-    pub fn publish<R: Wait>(&mut self, rt: &R, alloc: Global, log: &Record)
-        requires track { log.now.track ≡ self.old.track }
-        requires opening { take (length self.old.entries) log.now.entries ≡ self.old.entries }
-        ensures { self.new ≡ log.now }
-    {
-        self.follow(rt, log);
-        self.show(rt, alloc, log);
-    }
-
     /// Publishes the scene of the record whose history the press tells, unless readers see it. Where there is no memory for
     /// it, they see what they saw, up to the next call.
     pub fn show<R: Wait>(&mut self, rt: &R, alloc: Global, log: &Record)
@@ -223,6 +212,11 @@ impl<J: HistoryName> Press<J> {
             |writer, x| show::<J, R>(x.0, writer, x.1),
         );
         *is_behind = !is_shown;
+    }
+
+    /// Whether readers see no scene of all that the press was handed.
+    pub fn is_behind(&self) -> bool {
+        self.is_behind
     }
 
     /// Tells an eye all that the press was handed. It goes on from all that the eye's seat was told.

@@ -8,13 +8,13 @@ use Rattle.rbc_desk.proofs.shared.Shared.commit_now.Goals as goal
 
 pub invariant_of-seat-2 : goal.invariant_of-seat-2
 invariant_of-seat-2 g c =
-    let told = later_twice c.seat.inside.eye _ c.bring.new.eye _ c.publish.new.eye c.bring.ensures.later c.bring.ensures.told c.publish.ensures.later c.publish.ensures.told in
-    (c.add.ensures.parts ∙ c.seat.invariant.0, search rules, later_still g.L.DeskName.opened c.seat.inside.eye c.publish.new.eye c.seat.invariant.2 told)
+    let told = later_twice c.seat.inside.eye _ c.bring.new.eye _ c.follow.new.eye c.bring.ensures.later c.bring.ensures.told c.follow.ensures.later c.follow.ensures.told in
+    (c.add.ensures.parts ∙ c.seat.invariant.0, search rules, later_still g.L.DeskName.opened c.seat.inside.eye c.follow.new.eye c.seat.invariant.2 told)
 
 pub returns-clause-later : goal.returns-clause-later
 returns-clause-later g c =
-    let told = later_twice c.seat.inside.eye _ c.bring.new.eye _ c.publish.new.eye c.bring.ensures.later c.bring.ensures.told c.publish.ensures.later c.publish.ensures.told in
-    subst (λ (s : Seated). IsLater s.told c.publish.new.eye) c.seat.view_is told
+    let told = later_twice c.seat.inside.eye _ c.bring.new.eye _ c.follow.new.eye c.bring.ensures.later c.bring.ensures.told c.follow.ensures.later c.follow.ensures.told in
+    subst (λ (s : Seated). IsLater s.told c.follow.new.eye) c.seat.view_is told
 
 pub returns-then-not-is_there-clause-tries : goal.returns-then-not-is_there-clause-tries
 returns-then-not-is_there-clause-tries g c =

@@ -2,7 +2,7 @@ use Rattle.std.proofs.Common.{IfErr, subst, Err}
 use Rattle.rbc_desk.specs.Asking.{IsAnsweredThen}
 use Rattle.rbc_desk.specs.Seats.{Seated}
 use Rattle.rbc_desk.proofs.AskingLemmas.{look_denied, look_known, look_train}
-use Rattle.rbc_desk.proofs.desk.look.Goals as goal
+use Rattle.rbc_desk.proofs.desk.look_by_eye.Goals as goal
 
 pub returns-clause-train : goal.returns-clause-train
 returns-clause-train g c = look_train c.seat.inside.eye c.view.new.self c.args.train c.view.result c.seen_by.result c.seen_by.ensures c.view.ensures.seen
