@@ -274,12 +274,14 @@ impl<'a, L: DeskName, K: Keeper<L>, G: Gate, R: Wait> Counter<'a, L, K, G, R> {
         }
     }
 
-    /// Treats what is told, all of it in one hold of the desk's lock, and publishes it. There is room for the replies.
+    /// Treats what is told, all of it in one hold of the desk's lock, and publishes it unless more comes.
+    /// There is room for the replies.
     pub(crate) fn hear_all(
         &self,
         alloc: Global,
         seat: &mut Seat<L>,
         told: &[Told],
+        more: bool,
         replies: &mut Vec<SessionReply<'static>>,
     )
         requires of_track { All (IsToldOfTrack L.opened.track) told.now }
@@ -292,7 +294,9 @@ impl<'a, L: DeskName, K: Keeper<L>, G: Gate, R: Wait> Counter<'a, L, K, G, R> {
         for one in told {
             replies.push_reserved(self.hear(alloc, &mut hold, seat, one));
         }
-        hold.publish(self.waiting, alloc, seat);
+        if !more {
+            hold.publish(self.waiting, alloc, seat);
+        }
         hold.leave();
     }
 
@@ -317,7 +321,7 @@ impl<'a, L: DeskName, K: Keeper<L>, G: Gate, R: Wait> Counter<'a, L, K, G, R> {
         }
     }
 
-    /// Publishes what was entered from the seat, and is not published yet.
+    /// Publishes what the seat was told, and is not published yet.
     pub(crate) fn publish(&self, alloc: Global, seat: &mut Seat<L>)
         ensures { seat.new ≡ seat.old }
     {

@@ -59,7 +59,7 @@ impl<L: DeskName, P: Drop> Hearing<L, P> {
         }
     }
 
-    /// Enters what rests, in one hold of the desk's lock, publishes it, and prints the replies to it.
+    /// Enters what rests, in one hold of the desk's lock, publishes it unless more comes, and prints the replies to it.
     ///
     /// # Errors
     ///
@@ -68,6 +68,7 @@ impl<L: DeskName, P: Drop> Hearing<L, P> {
         &mut self,
         alloc: Global,
         counter: &Counter<'a, L, K, G, R>,
+        more: bool,
         writer: &mut W,
     ) -> Result<(), WriteFailed>
         requires going { W.failed writer.old ≡ false }
@@ -79,7 +80,22 @@ impl<L: DeskName, P: Drop> Hearing<L, P> {
             return Ok(());
         }
         let Hearing { sitting, resting } = self;
-        resting.enter(alloc, counter, &mut sitting.seat, writer)
+        resting.enter(alloc, counter, &mut sitting.seat, more, writer)
+    }
+
+    /// Publishes what was told or granted before the connection is read again, or ends.
+    fn publish<'a, K: Keeper<L, Pen = P>, G: Gate, R: Wait>(
+        &mut self,
+        alloc: Global,
+        counter: &Counter<'a, L, K, G, R>,
+        more: bool,
+        said: &Result<(), WriteFailed>,
+    )
+        ensures { self.new ≡ self.old }
+    {
+        if !more || said.is_err() {
+            counter.publish(alloc, &mut self.sitting.seat);
+        }
     }
 
     /// Enters what rests, and then treats a line. Where the replies to what rested could not be printed, the reply to the line
@@ -101,7 +117,7 @@ impl<L: DeskName, P: Drop> Hearing<L, P> {
         ensures { (reply : List ℕ) × CatchesUpAndTreats K.kept self.old line.now reply self.new
             × Prints (W.written writer.old) (W.written writer.new) (self.new.sitting.has_failed || W.failed writer.new) reply result }
     {
-        match self.catch_up(alloc, counter, writer) {
+        match self.catch_up(alloc, counter, true, writer) {
             Ok(()) => counter.treat_line(rt, alloc, &mut self.sitting, line, writer),
             Err(failed) => {
                 let _ = counter.treat_line(rt, alloc, &mut self.sitting, line, &mut Nowhere);
@@ -156,13 +172,12 @@ impl<'a, L: DeskName, P: Drop, K: Keeper<L, Pen = P>, G: Gate, R: Wait> Answers<
             if more && self.resting.len() < MOST_RESTING {
                 return Ok(());
             }
-            return self.catch_up(alloc, counter, writer);
+            let said = self.catch_up(alloc, counter, more, writer);
+            self.publish(alloc, counter, more, &said);
+            return said;
         }
         let said = self.treat(rt, alloc, counter, line, writer);
-        // What was told is published before the connection is read again, or ends.
-        if !more || said.is_err() {
-            counter.publish(alloc, &mut self.sitting.seat);
-        }
+        self.publish(alloc, counter, more, &said);
         said
     }
 

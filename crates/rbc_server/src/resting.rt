@@ -88,7 +88,7 @@ impl Resting {
         true
     }
 
-    /// Enters what rests from the seat, in one hold of the desk's lock, publishes it, and prints the replies.
+    /// Enters what rests from the seat, in one hold of the desk's lock, publishes it unless more comes, and prints the replies.
     ///
     /// # Errors
     ///
@@ -98,6 +98,7 @@ impl Resting {
         alloc: Global,
         counter: &Counter<'a, L, K, G, R>,
         seat: &mut Seat<L>,
+        more: bool,
         writer: &mut W,
     ) -> Result<(), WriteFailed>
         requires going { W.failed writer.old ≡ false }
@@ -107,7 +108,7 @@ impl Resting {
             × Prints (W.written writer.old) (W.written writer.new) (W.failed writer.new) text result }
     {
         let Resting { told, replies } = self;
-        counter.hear_all(alloc, seat, told.as_slice(), replies);
+        counter.hear_all(alloc, seat, told.as_slice(), more, replies);
         let printed = print_all(counter.track, replies.as_slice(), writer);
         told.clear();
         replies.clear();

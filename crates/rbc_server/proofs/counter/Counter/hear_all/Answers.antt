@@ -7,6 +7,7 @@ use Rattle.rbc_sweep.specs.Seats.{Seated}
 use Rattle.rbc_server.specs.SeatChanges.{SeatHears}
 use Rattle.rbc_server.proofs.HearingLemmas.{hears_all, hears_next}
 use Rattle.rbc_server.proofs.counter.Counter.hear_all.Goals as goal
+use Rattle.rbc_server.proofs.counter.Counter.hear_all.Goals.{then-not-more, else-not-more}
 
 pub loop-one-preserved : goal.loop-one-preserved
 loop-one-preserved g c =
@@ -30,5 +31,8 @@ pub returns-clause-hears : goal.returns-clause-hears
 returns-clause-hears g c =
     let loop = c.loop-one in
     let text = flat_map (reply_text c.args.self.now.track.now) loop.replies.items in
-    subst (λ (s : Seated). SeatHears c.args.seat.now c.args.told.now text s) (sym c.publish.ensures)
-    (hears_all c.args.seat.now loop.seat c.args.told.now loop.one-index text c.loop-one-test.false loop.invariant.hears)
+    let hears = hears_all c.args.seat.now loop.seat c.args.told.now loop.one-index text c.loop-one-test.false loop.invariant.hears in
+    elim c.if-not-more.branch [
+      | then-not-more w ↦ subst (λ (s : Seated). SeatHears c.args.seat.now c.args.told.now text s) (sym (w.seat-is ∙ w.publish.ensures)) hears
+      | else-not-more w ↦ subst (λ (s : Seated). SeatHears c.args.seat.now c.args.told.now text s) (sym w.seat-is) hears
+    ]

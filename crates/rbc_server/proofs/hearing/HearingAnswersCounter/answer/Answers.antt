@@ -15,13 +15,14 @@ returns-then-len-lt-MOST_RESTING-clause-reply g c =
 
 pub returns-then-rest-clause-reply : goal.returns-then-rest-clause-reply
 returns-then-rest-clause-reply g c =
-    let caught_up = c.catch_up.ensures in (
+    let caught_up = c.catch_up-said.ensures in
+    rw c.publish.ensures (
       caught_up.0,
-      advances_entered g.L.DeskName.opened.track g.K.Keeper.kept c.args.self.now c.rest.new.self c.catch_up.new.self c.args.line.now caught_up.0 c.if-rest.ensures caught_up.1,
-      prints_whole _ _ _ _ _ c.catch_up.new.self.sitting.has_failed caught_up.1.still_whole caught_up.2,
+      advances_entered g.L.DeskName.opened.track g.K.Keeper.kept c.args.self.now c.rest.new.self c.catch_up-said.new.self c.args.line.now caught_up.0 c.if-rest.ensures caught_up.1,
+      prints_whole _ _ _ _ _ c.catch_up-said.new.self.sitting.has_failed caught_up.1.still_whole caught_up.2,
     )
 
-pub returns-then-not-more-clause-reply : goal.returns-then-not-more-clause-reply
-returns-then-not-more-clause-reply g c =
+pub returns-clause-reply : goal.returns-clause-reply
+returns-clause-reply g c =
     let treated = rw c.if-rest.ensures at c.treat-said.ensures in
-    rw c.publish.ensures (treated.0, advances_treated g.L.DeskName.opened.track g.K.Keeper.kept c.args.self.now c.treat-said.new.self c.args.line.now treated.0 treated.1, treated.2)
+    rw c.publish-2.ensures (treated.0, advances_treated g.L.DeskName.opened.track g.K.Keeper.kept c.args.self.now c.treat-said.new.self c.args.line.now treated.0 treated.1, treated.2)
