@@ -37,6 +37,9 @@ def track_of(lines, sections, metres, chance, runs):
     return tables
 
 
+TURN = 5  # lines that a train says before the next one of its connection
+
+
 def routes_of(lines, sections, most=30):
     """Routes R1_0, R1_1 .. of some legs each, one behind the other along the lines."""
     tables, names = [], []
@@ -80,19 +83,25 @@ def far_asks(asks, sections=1_200, metres=60, seed=3):
     return track, "".join(f"{line}\n" for line in lines).encode()
 
 
-def trains_of_connections(connections, lines):
-    """A track with a line for each connection, and what each sends: its train runs on its line, and asks after every fourth report."""
+def trains_of_connections(connections, lines, trains=1):
+    """A track with a line for each train, and what each connection sends, so many lines: its trains run on their lines, and each in turn
+    reports four times and asks."""
     chance = random.Random(4)
-    routes, names = routes_of(connections, 1)
-    track = "\n".join(track_of(connections, 1, 5_000, chance, (0, 2_000)) + routes) + "\n"
-    return track, [lines_of_train(train, names[train - 1], lines) for train in range(1, connections + 1)]
+    routes, names = routes_of(connections * trains, 1)
+    track = "\n".join(track_of(connections * trains, 1, 5_000, chance, (0, 2_000)) + routes) + "\n"
+    texts = []
+    for first in range(1, connections * trains + 1, trains):
+        said = [lines_of_train(train, names[train - 1], lines // trains) for train in range(first, first + trains)]
+        turns = [line for at in range(0, lines // trains, TURN) for all_lines in said for line in all_lines[at:at + TURN]]
+        texts.append("".join(f"{line}\n" for line in turns).encode())
+    return track, texts
 
 
 def lines_of_train(train, route, count):
     lines = [f"lock {route}"]
     for number in range(count - 1):
-        if number % 5 == 4:
+        if number % TURN == TURN - 1:
             lines.append(f"ask {train}")
         else:
             lines.append(f"report {train} 5/{train} nominal {300 + number * 4_000 // count} 5 5 200 {number}")
-    return "".join(f"{line}\n" for line in lines).encode()
+    return lines
