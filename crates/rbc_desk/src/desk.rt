@@ -212,7 +212,7 @@ impl<L: DeskName> Desk<L> {
         answer
     }
 
-    /// What lies under the lock. A hold is shorter than it takes to sleep and to be woken, so the lock is tried for before.
+    /// What lies under the lock, which is tried for a hundred times before its thread sleeps.
     fn lock<R: Wait>(&self, rt: &R) -> MutexGuard<'_, Shared<L>> {
         let backoff = Backoff::new();
         for _try in 0..LOCK_TRIES {
