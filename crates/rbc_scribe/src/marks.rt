@@ -53,10 +53,16 @@ impl<N: ScribeName> Mark<N> {
         }
     }
 
+    /// Some stamp was seen. This does nothing.
+    pub(crate) fn known(&self)
+        ensures { 0 < length self.now }
+    {
+        let _ = &self.seen;
+    }
+
     /// How many lines the last stamp has.
     pub(crate) fn lines(&self) -> u64
-        ensures lines { result ≡ (latest self.now).lines }
-        ensures some { 0 < length self.now }
+        ensures { result ≡ (latest self.now).lines }
     {
         self.lines
     }

@@ -132,7 +132,7 @@ impl<T: Told + Drop, D: Device, N: ScribeName> Scribe<T, D, N> {
         let place = line.place();
         self.tray.lock(rt).lay(pen.slot, line);
         let mark = self.follow(rt, place)?;
-        let _lines = mark.lines();
+        mark.known();
         pen.note(mark);
         Ok(())
     }
