@@ -1,7 +1,6 @@
 //! Lines that are lengthened along the locks, leg by leg.
 
 ghost use Rattle.std.specs.Prelude.{◌≡◌, Some, None, IfOk, false, if◌then◌else◌};
-ghost use Rattle.rbc_model.specs.Lines.{IsLine};
 ghost use Rattle.rbc_model.specs.Locks.{longer_ahead, longer_back};
 ghost use Rattle.rbc_scene_laws.specs.Good.{IsGoodLocks};
 
@@ -44,9 +43,7 @@ impl Course {
     /// The line as it is now.
     pub fn line(&self) -> &Line
         ensures line { result.now ≡ self.now }
-        ensures is_line { IsLine self.now.track self.now.legs }
     {
-        self.line.known();
         &self.line
     }
 

@@ -116,7 +116,9 @@ fn lengthened_to_rear(
     let sections = line.section_count();
     let mut course = Course::new(alloc, line)?;
     for _added in 0..sections {
-        let before = course.line().length();
+        let shorter = course.line();
+        shorter.known();
+        let before = shorter.length();
         if !course.lengthen_back(locks)? {
             return Err(OrMemory::Refused(Refusal::Unplaced));
         }

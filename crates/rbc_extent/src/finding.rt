@@ -19,6 +19,7 @@ impl Finding {
         requires { place ≤ MOST_SECTIONS * LONGEST_TRACK }
         ensures { result ≡ renumbered self.now.old_origin self.now.placed.placed.origin place }
     {
+        self.placed.known();
         (place + self.placed.origin()).saturating_sub(self.old_origin)
     }
 }

@@ -39,6 +39,7 @@ fn goes_to(walk: &mut Walk<'_>, leg: Leg) -> bool
         }
         let last = walk.last();
         if is_same_leg(&leg, &last) {
+            walk.known();
             return true;
         }
     }
@@ -53,6 +54,7 @@ fn drop_legs_behind(walk: &mut Walk<'_>, told: Leg, rear: u32)
     ensures legs { walk.new.line.legs ≡ drop (min (position_or_len (leg_eq told) walk.old.line.legs)
         (legs_ending_by walk.old.line.track rear walk.old.line.legs)) walk.old.line.legs }
 {
+    walk.known();
     let mut left = rear;
     for _dropped in 0..walk.section_count() {
         let first = walk.first();
@@ -82,7 +84,9 @@ fn has_rear(walk: &mut Walk<'_>, group: &BaliseGroup, report: &Report, beyond: u
     ensures beyond { result ≡ true → origin_on walk.old.line.track group.now report.now walk.new.line.legs + beyond
         ≡ line_length walk.old.line.track walk.new.line.legs }
 {
+    walk.known();
     for _added in 0..walk.section_count() {
+        walk.known();
         if has_rear_from(walk.length() - beyond, report) {
             return true;
         }
@@ -90,6 +94,7 @@ fn has_rear(walk: &mut Walk<'_>, group: &BaliseGroup, report: &Report, beyond: u
             return false;
         }
     }
+    walk.known();
     has_rear_from(walk.length() - beyond, report)
 }
 
@@ -103,6 +108,7 @@ fn has_front(walk: &mut Walk<'_>, group: &BaliseGroup, report: &Report, beyond: 
     ensures front { result ≡ is_some (lengthened (length walk.old.line.track.sections) (longer_ahead walk.old.locks)
         (has_front walk.old.line.track group.now report.now) walk.old.line.legs) }
 {
+    walk.known();
     let front = walk.length() - beyond + metres_ahead(report);
     for _added in 0..walk.section_count() {
         if front <= walk.length() {
@@ -129,6 +135,7 @@ fn refusal_from(
         ≡ line_length walk.old.line.track walk.old.line.legs }
     ensures { result ≡ refusal_from walk.old.line.track walk.old.locks group.now report.now walk.old.line.legs }
 {
+    walk.known();
     let rear = rear_from(walk.length() - beyond, report);
     drop_legs_behind(walk, leg_told(group, report), rear);
     if !has_rear(walk, group, report, beyond) {

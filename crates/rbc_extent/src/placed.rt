@@ -44,6 +44,17 @@ impl Placed {
         }
     }
 
+    /// Neither the group nor the rear lies beyond the front, and the front not beyond the line's end, at most
+    /// 409,600,000 metres from its start. This does nothing.
+    pub fn known(&self)
+        ensures group { self.now.placed.origin ≤ self.now.placed.front }
+        ensures behind { self.now.placed.rear ≤ self.now.placed.front }
+        ensures on_line { self.now.placed.front ≤ line_length self.now.track self.now.placed.line }
+        ensures few_metres { self.now.placed.front ≤ MOST_SECTIONS * LONGEST_TRACK }
+    {
+        self.line.known();
+    }
+
     /// The legs that the train runs along.
     pub fn line(&self) -> &Line
         ensures track { result.now.track ≡ self.now.track }
@@ -55,17 +66,13 @@ impl Placed {
     /// The place of the balise group that the report counts from.
     pub fn origin(&self) -> u32
         ensures origin { result ≡ self.now.placed.origin }
-        ensures at_most { result ≤ self.now.placed.front }
-        ensures few_metres { result ≤ MOST_SECTIONS * LONGEST_TRACK }
     {
-        prove!(self.front <= self.line.length());
         self.origin
     }
 
     /// The place of the first metre that the train may stand on.
     pub fn rear(&self) -> u32
         ensures rear { result ≡ self.now.placed.rear }
-        ensures at_most { result ≤ self.now.placed.front }
     {
         self.rear
     }
@@ -73,10 +80,7 @@ impl Placed {
     /// The place behind the last metre that the train may stand on.
     pub fn front(&self) -> u32
         ensures front { result ≡ self.now.placed.front }
-        ensures on_line { result ≤ line_length self.now.track self.now.placed.line }
-        ensures few_metres { result ≤ MOST_SECTIONS * LONGEST_TRACK }
     {
-        prove!(self.front <= self.line.length());
         self.front
     }
 

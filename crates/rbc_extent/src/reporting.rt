@@ -90,6 +90,8 @@ fn authority_left(known: Option<&Train>, finding: &Finding) -> Authority
     let Some(train) = known else {
         return none;
     };
+    train.known();
+    train.line().known();
     if train.from() == train.to() {
         return none;
     }

@@ -1,10 +1,8 @@
 //! A train, as its last report and its authority leave it.
 
-ghost use Rattle.std.specs.Prelude.{◌≡◌, ◌<◌, ◌≤◌, ◌*◌, IfOk};
+ghost use Rattle.std.specs.Prelude.{◌≡◌, ◌<◌, ◌≤◌, IfOk};
 ghost use Rattle.rbc_model.specs.Events.{with_authority, cut_at};
-ghost use Rattle.rbc_model.specs.Lines.{line_length};
 ghost use Rattle.rbc_model.specs.Views.{start_of};
-ghost use Rattle.rbc_model.specs.declared.limits.TheConstants.{LONGEST_TRACK, MOST_SECTIONS};
 ghost use Rattle.rbc_scene_laws.specs.Good.{IsGoodTrain};
 ghost use Rattle.rbc_extent.specs.PlacedTrains.{placed_train};
 
@@ -109,7 +107,6 @@ impl Train {
     /// The place of the balise group that the last report counts from.
     pub fn origin(&self) -> u32
         ensures origin { result ≡ self.now.train.origin }
-        ensures at_most { result ≤ self.now.train.front }
     {
         self.origin
     }
@@ -117,7 +114,6 @@ impl Train {
     /// The place of the first metre that the train may stand on.
     pub fn rear(&self) -> u32
         ensures rear { result ≡ self.now.train.rear }
-        ensures at_most { result ≤ self.now.train.front }
     {
         self.rear
     }
@@ -125,7 +121,6 @@ impl Train {
     /// The place behind the last metre that the train may stand on.
     pub fn front(&self) -> u32
         ensures front { result ≡ self.now.train.front }
-        ensures on_line { result ≤ line_length self.now.track self.now.train.line }
     {
         self.front
     }
@@ -133,8 +128,6 @@ impl Train {
     /// The place of the first metre of the train's authority.
     pub fn from(&self) -> u32
         ensures from { result ≡ self.now.train.from }
-        ensures at_least { self.now.train.rear ≤ result }
-        ensures at_most { result ≤ self.now.train.to }
     {
         self.from
     }
@@ -142,10 +135,7 @@ impl Train {
     /// The place behind the last metre of the train's authority.
     pub fn to(&self) -> u32
         ensures to { result ≡ self.now.train.to }
-        ensures on_line { result ≤ line_length self.now.track self.now.train.line }
-        ensures few_metres { result ≤ MOST_SECTIONS * LONGEST_TRACK }
     {
-        prove!(self.to <= self.line.length());
         self.to
     }
 

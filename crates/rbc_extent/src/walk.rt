@@ -153,12 +153,20 @@ impl<'a> Walk<'a> {
         }
     }
 
-    /// How many sections the track has.
-    pub(crate) fn section_count(&self) -> usize
-        ensures count { result ≡ length self.now.line.track.sections }
+    /// The track is sound, and the locks are good for it. Of the legs each is linked to the next, and none has the
+    /// section of another. They have at most 409,600,000 metres. This does nothing.
+    pub(crate) fn known(&self)
         ensures sound { IsSound self.now.line.track }
         ensures locks { IsGoodLocks self.now.line.track self.now.locks }
         ensures line { IsLine self.now.line.track self.now.line.legs }
+        ensures at_most { line_length self.now.line.track self.now.line.legs ≤ MOST_SECTIONS * LONGEST_TRACK }
+    {
+        let _ = &self.known;
+    }
+
+    /// How many sections the track has.
+    pub(crate) fn section_count(&self) -> usize
+        ensures count { result ≡ length self.now.line.track.sections }
     {
         self.track.section_count()
     }
@@ -173,8 +181,6 @@ impl<'a> Walk<'a> {
     /// How many metres the legs have.
     pub(crate) fn length(&self) -> u32
         ensures length { result ≡ line_length self.now.line.track self.now.line.legs }
-        ensures at_most { result ≤ MOST_SECTIONS * LONGEST_TRACK }
-        ensures line { IsLine self.now.line.track self.now.line.legs }
     {
         self.metres
     }
@@ -189,7 +195,6 @@ impl<'a> Walk<'a> {
     /// The last leg.
     pub(crate) fn last(&self) -> Leg
         ensures last { last_leg self.now.line.legs ≡ Some result }
-        ensures line { IsLine self.now.line.track self.now.line.legs }
     {
         self.last
     }

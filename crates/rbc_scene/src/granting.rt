@@ -79,8 +79,8 @@ pub(crate) fn granted_along(
     ensures to { IfOk result (λ granted. granted.to ≡ train.now.train.origin + distance) }
 {
     let line = train.line();
-    prove!(train.origin() <= train.front());
-    prove!(train.front() <= line.length());
+    train.known();
+    line.known();
     let to = train.origin() + distance.metres();
     let line = line_along(alloc, train, legs, to)?;
     let from = train.start();
@@ -107,8 +107,8 @@ pub(crate) fn granted_to(
     if distance.metres() > line.track().farthest_end() {
         return Err(OrMemory::Refused(Refusal::NotSafe));
     }
-    prove!(train.origin() <= train.front());
-    prove!(train.front() <= line.length());
+    train.known();
+    line.known();
     let to = train.origin() + distance.metres();
     if to <= train.front() || to < train.to() {
         return Err(OrMemory::Refused(Refusal::NotSafe));

@@ -14,8 +14,8 @@ pub(crate) fn limit_of(train: &Train) -> u32
     ensures fits { result < 2 ^ 31 }
 {
     let line = train.line();
-    prove!(train.origin() <= train.front());
-    prove!(train.front() <= line.length());
+    train.known();
+    line.known();
     train.origin() + line.track().farthest_end()
 }
 

@@ -26,13 +26,14 @@ returns-then-not-branch-clause-line c =
 pub overflow_sub-origin : goal.overflow_sub-origin
 overflow_sub-origin c =
     let more = flag-some c.in_ok-lengthen_back.field-0 c.lengthen_back.new.self.legs (longer_back c.args.locks.now c.loop-added.course.legs) c.in_ok-lengthen_back.ensures.longer c.if-not-branch.false in
-    let is_line : IsLine c.args.line.track c.loop-added.course.legs = subst (λ (t : Track). IsLine t c.loop-added.course.legs) c.loop-added.invariant.lengthening.track c.line.ensures.is_line in
+    let stands : IsLine c.loop-added.course.track c.loop-added.course.legs = subst (λ (l : LineOnTrack). IsLine l.track l.legs) c.line-shorter.ensures.line c.known-in-loop-added.ensures.line in
+    let is_line : IsLine c.args.line.track c.loop-added.course.legs = subst (λ (t : Track). IsLine t c.loop-added.course.legs) c.loop-added.invariant.lengthening.track stands in
     let back = one_back c.args.line.track c.args.locks.now c.args.group.now c.args.report.now c.loop-added.course.legs c.lengthen_back.new.self.legs c.known.ensures.sound c.requires.locks is_line c.loop-added.invariant.told more in
     let before : c.length-before.result ≡ line_length c.args.line.track c.loop-added.course.legs =
-    c.length-before.ensures.length ∙ ap (λ (l : LineOnTrack). line_length l.track l.legs) c.line.ensures.line
+    c.length-before.ensures.length ∙ ap (λ (l : LineOnTrack). line_length l.track l.legs) c.line-shorter.ensures.line
     ∙ ap (λ (t : Track). line_length t c.loop-added.course.legs) c.loop-added.invariant.lengthening.track in
     let longer : c.length-longer.result ≡ line_length c.args.line.track c.lengthen_back.new.self.legs =
-    c.length-longer.ensures.length ∙ ap (λ (l : LineOnTrack). line_length l.track l.legs) c.line-in-loop-added.ensures.line
+    c.length-longer.ensures.length ∙ ap (λ (l : LineOnTrack). line_length l.track l.legs) c.line.ensures.line
     ∙ ap (λ (t : Track). line_length t c.lengthen_back.new.self.legs) (c.in_ok-lengthen_back.ensures.track ∙ c.loop-added.invariant.lengthening.track) in
     let much = back.more in
     omega arith
@@ -41,13 +42,14 @@ pub returns-then-has_rear_from-2-clause-line : goal.returns-then-has_rear_from-2
 unfolding rear_step
 returns-then-has_rear_from-2-clause-line c =
     let more = flag-some c.in_ok-lengthen_back.field-0 c.lengthen_back.new.self.legs (longer_back c.args.locks.now c.loop-added.course.legs) c.in_ok-lengthen_back.ensures.longer c.if-not-branch.false in
-    let is_line : IsLine c.args.line.track c.loop-added.course.legs = subst (λ (t : Track). IsLine t c.loop-added.course.legs) c.loop-added.invariant.lengthening.track c.line.ensures.is_line in
+    let stands : IsLine c.loop-added.course.track c.loop-added.course.legs = subst (λ (l : LineOnTrack). IsLine l.track l.legs) c.line-shorter.ensures.line c.known-in-loop-added.ensures.line in
+    let is_line : IsLine c.args.line.track c.loop-added.course.legs = subst (λ (t : Track). IsLine t c.loop-added.course.legs) c.loop-added.invariant.lengthening.track stands in
     let back = one_back c.args.line.track c.args.locks.now c.args.group.now c.args.report.now c.loop-added.course.legs c.lengthen_back.new.self.legs c.known.ensures.sound c.requires.locks is_line c.loop-added.invariant.told more in
     let before : c.length-before.result ≡ line_length c.args.line.track c.loop-added.course.legs =
-    c.length-before.ensures.length ∙ ap (λ (l : LineOnTrack). line_length l.track l.legs) c.line.ensures.line
+    c.length-before.ensures.length ∙ ap (λ (l : LineOnTrack). line_length l.track l.legs) c.line-shorter.ensures.line
     ∙ ap (λ (t : Track). line_length t c.loop-added.course.legs) c.loop-added.invariant.lengthening.track in
     let longer : c.length-longer.result ≡ line_length c.args.line.track c.lengthen_back.new.self.legs =
-    c.length-longer.ensures.length ∙ ap (λ (l : LineOnTrack). line_length l.track l.legs) c.line-in-loop-added.ensures.line
+    c.length-longer.ensures.length ∙ ap (λ (l : LineOnTrack). line_length l.track l.legs) c.line.ensures.line
     ∙ ap (λ (t : Track). line_length t c.lengthen_back.new.self.legs) (c.in_ok-lengthen_back.ensures.track ∙ c.loop-added.invariant.lengthening.track) in
     let was = c.loop-added.invariant.origin_is in
     let within = c.loop-added.invariant.within in
@@ -60,26 +62,28 @@ returns-then-has_rear_from-2-clause-line c =
 pub returns-then-has_rear_from-2-clause-told : goal.returns-then-has_rear_from-2-clause-told
 returns-then-has_rear_from-2-clause-told c =
     let more = flag-some c.in_ok-lengthen_back.field-0 c.lengthen_back.new.self.legs (longer_back c.args.locks.now c.loop-added.course.legs) c.in_ok-lengthen_back.ensures.longer c.if-not-branch.false in
-    let is_line : IsLine c.args.line.track c.loop-added.course.legs = subst (λ (t : Track). IsLine t c.loop-added.course.legs) c.loop-added.invariant.lengthening.track c.line.ensures.is_line in
+    let stands : IsLine c.loop-added.course.track c.loop-added.course.legs = subst (λ (l : LineOnTrack). IsLine l.track l.legs) c.line-shorter.ensures.line c.known-in-loop-added.ensures.line in
+    let is_line : IsLine c.args.line.track c.loop-added.course.legs = subst (λ (t : Track). IsLine t c.loop-added.course.legs) c.loop-added.invariant.lengthening.track stands in
     let back = one_back c.args.line.track c.args.locks.now c.args.group.now c.args.report.now c.loop-added.course.legs c.lengthen_back.new.self.legs c.known.ensures.sound c.requires.locks is_line c.loop-added.invariant.told more in
     let before : c.length-before.result ≡ line_length c.args.line.track c.loop-added.course.legs =
-    c.length-before.ensures.length ∙ ap (λ (l : LineOnTrack). line_length l.track l.legs) c.line.ensures.line
+    c.length-before.ensures.length ∙ ap (λ (l : LineOnTrack). line_length l.track l.legs) c.line-shorter.ensures.line
     ∙ ap (λ (t : Track). line_length t c.loop-added.course.legs) c.loop-added.invariant.lengthening.track in
     let longer : c.length-longer.result ≡ line_length c.args.line.track c.lengthen_back.new.self.legs =
-    c.length-longer.ensures.length ∙ ap (λ (l : LineOnTrack). line_length l.track l.legs) c.line-in-loop-added.ensures.line
+    c.length-longer.ensures.length ∙ ap (λ (l : LineOnTrack). line_length l.track l.legs) c.line.ensures.line
     ∙ ap (λ (t : Track). line_length t c.lengthen_back.new.self.legs) (c.in_ok-lengthen_back.ensures.track ∙ c.loop-added.invariant.lengthening.track) in
     ap (λ (l : LineOnTrack). has_leg l.legs (leg_told c.args.group.now c.args.report.now)) c.into_line.ensures ∙ back.told
 
 pub loop-added-preserved : goal.loop-added-preserved
 loop-added-preserved c =
     let more = flag-some c.in_ok-lengthen_back.field-0 c.lengthen_back.new.self.legs (longer_back c.args.locks.now c.loop-added.course.legs) c.in_ok-lengthen_back.ensures.longer c.if-not-branch.false in
-    let is_line : IsLine c.args.line.track c.loop-added.course.legs = subst (λ (t : Track). IsLine t c.loop-added.course.legs) c.loop-added.invariant.lengthening.track c.line.ensures.is_line in
+    let stands : IsLine c.loop-added.course.track c.loop-added.course.legs = subst (λ (l : LineOnTrack). IsLine l.track l.legs) c.line-shorter.ensures.line c.known-in-loop-added.ensures.line in
+    let is_line : IsLine c.args.line.track c.loop-added.course.legs = subst (λ (t : Track). IsLine t c.loop-added.course.legs) c.loop-added.invariant.lengthening.track stands in
     let back = one_back c.args.line.track c.args.locks.now c.args.group.now c.args.report.now c.loop-added.course.legs c.lengthen_back.new.self.legs c.known.ensures.sound c.requires.locks is_line c.loop-added.invariant.told more in
     let before : c.length-before.result ≡ line_length c.args.line.track c.loop-added.course.legs =
-    c.length-before.ensures.length ∙ ap (λ (l : LineOnTrack). line_length l.track l.legs) c.line.ensures.line
+    c.length-before.ensures.length ∙ ap (λ (l : LineOnTrack). line_length l.track l.legs) c.line-shorter.ensures.line
     ∙ ap (λ (t : Track). line_length t c.loop-added.course.legs) c.loop-added.invariant.lengthening.track in
     let longer : c.length-longer.result ≡ line_length c.args.line.track c.lengthen_back.new.self.legs =
-    c.length-longer.ensures.length ∙ ap (λ (l : LineOnTrack). line_length l.track l.legs) c.line-in-loop-added.ensures.line
+    c.length-longer.ensures.length ∙ ap (λ (l : LineOnTrack). line_length l.track l.legs) c.line.ensures.line
     ∙ ap (λ (t : Track). line_length t c.lengthen_back.new.self.legs) (c.in_ok-lengthen_back.ensures.track ∙ c.loop-added.invariant.lengthening.track) in
     let was = c.loop-added.invariant.origin_is in
     let within = c.loop-added.invariant.within in

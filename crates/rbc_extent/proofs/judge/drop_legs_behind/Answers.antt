@@ -5,7 +5,7 @@ use Rattle.rbc_extent.proofs.judge.drop_legs_behind.Goals as goal
 pub loop-dropped-init : goal.loop-dropped-init
 loop-dropped-init c =
     let n = c.section_count-dropped-end in
-    dropping-begin c.args.told c.args.walk.now c.args.rear n.result c.requires.none_behind c.requires.told n.ensures.line n.ensures.count
+    dropping-begin c.args.told c.args.walk.now c.args.rear n.result c.requires.none_behind c.requires.told c.known.ensures.line n.ensures.count
 
 pub loop-dropped-preserved : goal.loop-dropped-preserved
 loop-dropped-preserved c =

@@ -42,7 +42,7 @@ has_rear-requires-clause-beyond c =
     let legs = c.drop_legs_behind.ensures.legs ∙ dropped-legs w.line.track w.locks c.args.group.now c.args.report.now w.line.legs c.leg_told.result c.rear_from-rear.result c.length.result c.args.beyond c.leg_told.ensures c.length.ensures.length c.requires.beyond c.rear_from-rear.ensures in
     let P : Track → Line → Type 0 = λ t l. origin_on t c.args.group.now c.args.report.now l + c.args.beyond ≡ line_length t l in
     subst (λ (t : Track). P t d.line.legs) (sym c.drop_legs_behind.ensures.way.track)
-    (subst (P w.line.track) (sym legs) (beyond-dropped w.line.track w.locks c.args.group.now c.args.report.now c.args.beyond w.line.legs c.length.ensures.line c.requires.told c.requires.beyond))
+    (subst (P w.line.track) (sym legs) (beyond-dropped w.line.track w.locks c.args.group.now c.args.report.now c.args.beyond w.line.legs c.known.ensures.line c.requires.told c.requires.beyond))
 
 pub returns-then-not-has_rear : goal.returns-then-not-has_rear
 returns-then-not-has_rear c =

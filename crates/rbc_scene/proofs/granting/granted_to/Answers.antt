@@ -21,9 +21,9 @@ returns-clause-granted c =
     let scene = scene_of c.args.locks.now c.args.book.now.trains in
     let train = c.args.train.now.train in
     let of_track = c.requires.track in
-    let origin = c.origin-2.ensures.origin in
+    let origin = c.origin.ensures.origin in
     let metres = c.metres-2.ensures in
-    safe c.args.book.now.track scene train c.args.distance c.may_end_at.result c.in_ok-line.line.legs c.start-from.result (c.origin-2.result + c.metres-2.result)
+    safe c.args.book.now.track scene train c.args.distance c.may_end_at.result c.in_ok-line.line.legs c.start-from.result (c.origin.result + c.metres-2.result)
     (c.may_end_at.ensures.granted scene (c.in_ok-found.ensures.place ∙ ap (λ (t : Track). reach t scene train) (sym of_track))
     ∙ (λ j. is_safe (of_track j) scene train (origin j + metres j) && is_expressible_end (of_track j) train (origin j + metres j)))
     c.if-not-may_end_at.false
