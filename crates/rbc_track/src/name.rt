@@ -76,10 +76,16 @@ impl Name {
         })
     }
 
+    /// It has 1 to 16 bytes, each of which may stand in a name. This does nothing.
+    pub fn known(&self)
+        ensures name { IsTrue (is_name self.now) }
+    {
+        let _ = &self.bytes;
+    }
+
     /// The name's bytes.
     pub fn text(&self) -> &[u8]
         ensures text { result.now ≡ self.now }
-        ensures name { IsTrue (is_name self.now) }
     {
         &self.bytes[..self.count]
     }
@@ -88,6 +94,8 @@ impl Name {
     pub fn as_str(&self) -> &str
         ensures { result.now ≡ self.now }
     {
+        // The bytes of a name are UTF-8.
+        self.known();
         match str::from_utf8(self.text()) {
             Ok(text) => text,
             Err(_) => "",

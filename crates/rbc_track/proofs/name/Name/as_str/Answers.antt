@@ -5,5 +5,5 @@ use Rattle.rbc_track.proofs.name.Name.as_str.Goals as goal
 
 pub returns-in-Err : goal.returns-in-Err
 returns-in-Err c =
-    let text : IsUtf8 c.text.result.now = subst (λ (bytes : List ℕ). IsUtf8 bytes) (sym c.text.ensures.text) (name_utf8 c.args.self.now c.text.ensures.name) in
+    let text : IsUtf8 c.text.result.now = subst (λ (bytes : List ℕ). IsUtf8 bytes) (sym c.text.ensures.text) (name_utf8 c.args.self.now c.known.ensures.name) in
     absurd (c.in-Err.ensures.cases.0 text)
