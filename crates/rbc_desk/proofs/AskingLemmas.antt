@@ -1,6 +1,7 @@
 -- Lemmas on tries to grant.
-use Rattle.std.proofs.Common.{◌≡◌, ℕ, zero, suc, map, replicate, Bool, true, false, length, List, [], ◌∷◌, ◌++◌, Option, Some, None, is_some, Result, Ok, Err, refl, ap, sym, subst, ◌∙◌}
+use Rattle.std.proofs.Common.{◌≡◌, ℕ, zero, suc, map, replicate, Bool, true, false, length, List, [], ◌∷◌, ◌++◌, Option, Some, None, is_some, Result, Ok, Err, refl, ap, sym, subst, take, ◌∙◌, arith}
 use Rattle.std.proofs.lemmas.Bool.{both_ways}
+use Rattle.std.proofs.lemmas.List.{take_all}
 use Rattle.std.specs.Prelude.{if◌then◌else◌, IfErr, IfOk, IfSome, OnErr, slice_get}
 use Rattle.std.specs.Option.{option_map_or}
 use Rattle.std.specs.Result.{result_map_both}
@@ -12,7 +13,7 @@ use Rattle.rbc_model.specs.declared.refusals.ViewFault.TheVariants.{UnknownTrain
 use Rattle.rbc_model.specs.declared.reports.Told.{Told}
 use Rattle.rbc_model.specs.declared.reports.Event.TheVariants.{Tell}
 use Rattle.rbc_model.specs.Events.{step}
-use Rattle.rbc_model.specs.Histories.{Entry, Heard, Granted, Receipt}
+use Rattle.rbc_model.specs.Histories.{Entry, Grants, Heard, Granted, Receipt}
 use Rattle.rbc_model.specs.Scenes.{Scene, train_numbered}
 use Rattle.rbc_model.specs.Views.{View, view, view_of}
 use Rattle.rbc_snap.specs.SameViews.{is_same_view-decides}
@@ -22,7 +23,7 @@ use Rattle.rbc_snap.specs.CommitFault.{CommitFault}
 use Rattle.rbc_snap.specs.CommitFault.TheVariants.{Full as FullToGrants, Stale}
 use Rattle.rbc_snap.specs.Present.{has_train}
 use Rattle.rbc_snap.specs.Records.{HistoryOnTrack, scene_now, is_full, with_entry}
-use Rattle.rbc_snap.specs.Entering.{EntersOrMemory, entry_granted, is_just, is_shown}
+use Rattle.rbc_snap.specs.Entering.{EntersOrMemory, entry_granted, entry_told, is_just, is_shown}
 use Rattle.rbc_grant_laws.proofs.CandidateLemmas.{view-train}
 use Rattle.rbc_snap.specs.ApplyFault.{ApplyFault}
 use Rattle.rbc_snap.specs.ApplyFault.TheVariants.{Full as FullToTold, Refused as RefusedByScene}
@@ -34,7 +35,7 @@ use Rattle.rbc_snap.proofs.LaterLemmas.{later_still}
 use Rattle.rbc_desk.specs.declared.faults.AskFault.{AskFault}
 use Rattle.rbc_desk.specs.declared.faults.AskFault.TheVariants.{UnknownTrain as UnknownToAsker, Blocked}
 use Rattle.rbc_desk.specs.declared.granted.Granted.{Granted as GrantedAtDesk}
-use Rattle.rbc_desk.specs.Asking.{fault_at, seen_by, shown, tried, IsAnsweredAt, IsAnsweredThen, IsRefused, Means, Tries}
+use Rattle.rbc_desk.specs.Asking.{fault_at, seen_by, shown, tried, IsAnsweredAt, IsAnsweredThen, IsMadeIn, IsRefused, IsViewIn, Means, Tries}
 use Rattle.rbc_desk.specs.Seats.{Seated}
 use Rattle.rbc_desk.specs.Telling.{IsToldAt, IsToldThen}
 
@@ -109,19 +110,39 @@ missing_shown history train e =
 pub known_shown : (history : HistoryOnTrack) (train : ℕ) (v : View) → view history.track (scene_now history) train ≡ Ok v → has_train history train ≡ true
 known_shown history train v e = viewed_there (view_of history.track (scene_now history)) UnknownTrain v (train_numbered (scene_now history) train) e
 
+-- ---- what a history shows that has grown, or has not
+
+-- a history that has as many entries as one that it goes on from is that one
+the_same : (told history : HistoryOnTrack) → IsLater told history → length told.entries ≡ length history.entries → told ≡ history
+the_same told history later as_many =
+    let all : take (length told.entries) history.entries ≡ history.entries = take_all (length told.entries) history.entries (omega (arith, as_many)) in
+    λ i. record { track = sym later.track i; entries = (sym later.opening ∙ all) i }
+
+-- a candidate for what its seat was told is one for a history that goes on from that, if no more was entered
+pub made_still : (told history : HistoryOnTrack) (candidate : Candidate) → IsLater told history → IsMadeIn told candidate → candidate.version ≡ length history.entries → IsMadeIn history candidate
+made_still told history candidate later made same = subst (λ (h : HistoryOnTrack). IsMadeIn h candidate) (the_same told history later (sym made.1 ∙ same)) made
+
+-- a candidate of the view that a train is shown, at its version
+pub made_of : (history : HistoryOnTrack) (train : ℕ) (seen : View × ℕ) (candidate : Candidate) → IsViewIn history train seen → candidate.view ≡ seen.0 → candidate.version ≡ seen.1 → IsMadeIn history candidate
+made_of history train seen candidate shows view_is version_is =
+    let same : candidate.view.train ≡ train = ap (λ (v : View). v.train) view_is ∙ view-train history.track (scene_now history) train seen.0 shows.0 in
+    (subst (λ n. view history.track (scene_now history) n ≡ Ok candidate.view) (sym same) (shows.0 ∙ ap Ok (sym view_is)), version_is ∙ shows.1)
+
+-- so it is shown its view
+pub shown_made : (history : HistoryOnTrack) (candidate : Candidate) → IsMadeIn history candidate → shown history candidate.view.train ≡ Ok candidate.view
+shown_made history candidate made = ap (result_map_both (λ seen. seen) (fault_at (length history.entries))) made.0
+
+-- the train of a view is the one that asked
+pub train_of : (history : HistoryOnTrack) (train : ℕ) (seen : View × ℕ) → IsViewIn history train seen → seen.0.train ≡ train
+train_of history train seen shows = view-train history.track (scene_now history) train seen.0 shows.0
+
 -- ---- what an eye shows
 
-seen_train : (old new : HistoryOnTrack) (train : ℕ) (answer : Result (View × ℕ) (OrMemory EyeFault)) → IsSeenIn old new train answer → IfOk (seen_by answer) (λ seen. IfSome seen (λ s. s.0.train ≡ train))
-seen_train old new train (Ok seen) h = view-train new.track (scene_now new) train seen.0 h.0
-seen_train old new train (Err (Refused (Behind version))) h = tt
-seen_train old new train (Err (Refused (Unshown fault version))) h = tt
-seen_train old new train (Err Memory) h = tt
-
-seen_known : (old new : HistoryOnTrack) (train : ℕ) (answer : Result (View × ℕ) (OrMemory EyeFault)) → IsSeenIn old new train answer → IfOk (seen_by answer) (λ seen. IfSome seen (λ _. has_train new train ≡ true))
-seen_known old new train (Ok seen) h = known_shown new train seen.0 h.0
-seen_known old new train (Err (Refused (Behind version))) h = tt
-seen_known old new train (Err (Refused (Unshown fault version))) h = tt
-seen_known old new train (Err Memory) h = tt
+seen_view : (old new : HistoryOnTrack) (train : ℕ) (answer : Result (View × ℕ) (OrMemory EyeFault)) → IsSeenIn old new train answer → IfOk (seen_by answer) (λ seen. IfSome seen (IsViewIn new train))
+seen_view old new train (Ok seen) h = h
+seen_view old new train (Err (Refused (Behind version))) h = tt
+seen_view old new train (Err (Refused (Unshown fault version))) h = tt
+seen_view old new train (Err Memory) h = tt
 
 unshown : (new : HistoryOnTrack) (train version : ℕ) (fault : ViewFault) → view new.track (scene_now new) train ≡ Err fault → version ≡ length new.entries → IsRefused new train (Refused (fault_at version fault))
 unshown new train version UnknownTrain e is = ap (result_map_both (λ seen. seen) (fault_at (length new.entries))) e
@@ -137,13 +158,9 @@ seen_denied old new train (Err (Refused (Unshown fault version))) later h =
 seen_denied old new train (Err Memory) later h = record { before = new; later = later; answered = h; told = refl }
 
 -- the same for an answer that is known to be what an eye shows
-pub look_train : (old new : HistoryOnTrack) (train : ℕ) (seen : Result (View × ℕ) (OrMemory EyeFault)) (answer : Result (Option (View × ℕ)) (OrMemory AskFault)) → answer ≡ seen_by seen → IsSeenIn old new train seen
-    → IfOk answer (λ seen. IfSome seen (λ s. s.0.train ≡ train))
-look_train old new train seen answer e h = subst (λ a. IfOk a (λ seen. IfSome seen (λ s. s.0.train ≡ train))) (sym e) (seen_train old new train seen h)
-
-pub look_known : (old new : HistoryOnTrack) (train : ℕ) (seen : Result (View × ℕ) (OrMemory EyeFault)) (answer : Result (Option (View × ℕ)) (OrMemory AskFault)) → answer ≡ seen_by seen → IsSeenIn old new train seen
-    → IfOk answer (λ seen. IfSome seen (λ _. has_train new train ≡ true))
-look_known old new train seen answer e h = subst (λ a. IfOk a (λ seen. IfSome seen (λ _. has_train new train ≡ true))) (sym e) (seen_known old new train seen h)
+pub look_view : (old new : HistoryOnTrack) (train : ℕ) (seen : Result (View × ℕ) (OrMemory EyeFault)) (answer : Result (Option (View × ℕ)) (OrMemory AskFault)) → answer ≡ seen_by seen → IsSeenIn old new train seen
+    → IfOk answer (λ seen. IfSome seen (IsViewIn new train))
+look_view old new train seen answer e h = subst (λ a. IfOk a (λ seen. IfSome seen (IsViewIn new train))) (sym e) (seen_view old new train seen h)
 
 pub look_denied : (old new : HistoryOnTrack) (train : ℕ) (seen : Result (View × ℕ) (OrMemory EyeFault)) (answer : Result (Option (View × ℕ)) (OrMemory AskFault)) → answer ≡ seen_by seen → IsLater old new → IsSeenIn old new train seen
     → IfErr answer (λ fault. IsAnsweredThen old new train (Err fault))
@@ -228,6 +245,16 @@ only_told : (full : Bool) (told : Told) (stepped : Result Scene Refusal) (entry 
 only_told true told stepped entry e = cc
 only_told false told (Ok after) entry e = cc
 only_told false told (Err refusal) entry e = cc
+
+-- the receipt of what was told is the one for its place and for what was told
+pub told_receipt : (old new : HistoryOnTrack) (told : Told) (receipt : Receipt) → EntersOrMemory {E = ApplyFault} (Ok receipt) old new (entry_told old told) → record { place = receipt.place; entry = Heard told } ≡ receipt
+told_receipt old new told receipt entered =
+    let same = only_told (is_full old) told (step old.track (scene_now old) (Tell told)) receipt.entry entered.0 in
+    λ i. record { place = receipt.place; entry = sym same i }
+
+-- the receipt of what was granted is the one for its place and for the grant
+pub granted_receipt : (grant : Grants) (receipt : Receipt) → receipt.entry ≡ Granted grant → record { place = receipt.place; entry = Granted grant } ≡ receipt
+granted_receipt grant receipt same = λ i. record { place = receipt.place; entry = sym same i }
 
 -- what the seat has then
 pub told_at : (had has : Seated) (told : Told) (answer : Result Receipt (OrMemory ApplyFault)) → IsToldThen had.told has.told told answer → IsLater had.told has.told

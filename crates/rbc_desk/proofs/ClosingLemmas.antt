@@ -1,9 +1,8 @@
 -- Lemmas on receipts that are found at their places.
-use Rattle.std.proofs.Common.{◌≡◌, ◌≢◌, ℕ, zero, suc, ◌+◌, ◌-◌, ◌<◌, ◌≤◌, ◌==◌, inl, inr, Bool, true, false, ◌||◌, not, List, [], ◌∷◌, ◌++◌, length, get_or, set, take, drop, Some, None, refl, sym, ap, subst, ◌∙◌, append_assoc, arith}
+use Rattle.std.proofs.Common.{◌≡◌, ◌≢◌, ℕ, zero, suc, ◌+◌, ◌-◌, ◌<◌, ◌≤◌, ◌==◌, inl, inr, Bool, true, false, ◌||◌, not, List, [], ◌∷◌, ◌++◌, length, get_or, set, take, Option, Some, None, refl, sym, ap, subst, ◌∙◌, append_assoc, arith}
 use Rattle.std.specs.List.{list_any, slice_get, All}
-use Rattle.std.proofs.Math.Seq.{drop-cons}
 use Rattle.std.proofs.Math.Bool.{or-false, or-true}
-use Rattle.std.proofs.lemmas.List.{append-nil, length-set, get_or-set_same, get_or-set_other, take_more, take-append-drop}
+use Rattle.std.proofs.lemmas.List.{append-nil, length-set, get_or-set_same, get_or-set_other}
 use Rattle.std.proofs.lemmas.List.Folds.{list_any-append, list_any_none, list_any_at}
 use Rattle.std.proofs.lemmas.List.Concat.{flat_map-append}
 use Rattle.std.proofs.lemmas.Bool.Decides.{nat_tests}
@@ -94,59 +93,31 @@ finds entries start earlier r marks place is from entry inside mark was marked =
     let P : ℕ → Type 0 = λ p. start ≤ p → slice_get entries p ≡ Some r.entry → p - start < length marks → get_or marks (p - start) false ≡ mark → Finds entries start earlier r (set marks (p - start) true) (not mark) in
     subst P (sym is) (λ f e i w. finds_here entries start earlier r marks f e i mark w marked) from entry inside was
 
--- ---- the receipts of a seat, up to place i, at which r stands
+-- ---- the receipts of a seat, and of one seat more
 
-module _ (entries : List Entry) (start : ℕ) (earlier rs : List Receipt) (i : ℕ) (r : Receipt) (inside : i < length rs) (is : r ≡ get_or rs i r) where
+-- all items of a vector have been taken from it, once none is left
+pub all_yielded : {X : Type 0} (taken rest : List X) {all : List X} → length rest ≡ 0 → taken ++ rest ≡ all → taken ≡ all
+all_yielded taken [] none split = sym (append-nil taken) ∙ split
+all_yielded taken (x ∷ rest) none split = cc
+
+module _ (entries : List Entry) (start : ℕ) where
   -- with one more that is at its place
-  pub found_more : (marks : List Bool) → AreAtPlaces entries start earlier (take i rs) → Finds entries start (earlier ++ take i rs) r marks true
-      → AreAtPlaces entries start earlier (take (i + 1) rs) × AreMarked start (earlier ++ take (i + 1) rs) marks
-  found_more marks before here =
-      let P : List Receipt → Type 0 = λ xs. AreAtPlaces entries start earlier xs × AreMarked start (earlier ++ xs) marks in
-      let more : take i rs ++ r ∷ [] ≡ take (i + 1) rs = ap (λ x. take i rs ++ x ∷ []) is ∙ sym (take_more rs i r inside) in
-      subst P more (
-        AreAtPlaces-append entries start earlier (take i rs) (r ∷ []) before (here.0, tt),
-        subst (λ l. AreMarked start l marks) (append_assoc earlier (take i rs) (r ∷ [])) here.1,
-      )
+  pub found_more : (earlier receipts : List Receipt) (r : Receipt) (marks : List Bool) → AreAtPlaces entries start earlier receipts → Finds entries start (earlier ++ receipts) r marks true
+      → AreAtPlaces entries start earlier (receipts ++ r ∷ []) × AreMarked start (earlier ++ (receipts ++ r ∷ [])) marks
+  found_more earlier receipts r marks before here = (
+    AreAtPlaces-append entries start earlier receipts (r ∷ []) before (here.0, tt),
+    subst (λ l. AreMarked start l marks) (append_assoc earlier receipts (r ∷ [])) here.1,
+  )
 
-  -- with one more that is not
-  pub misplaced_at : AreAtPlaces entries start earlier (take i rs) → (IsAtPlace entries start (earlier ++ take i rs) r → ⊥) → IsFirstMisplaced entries start earlier rs r
-  misplaced_at before here =
-      let split : take i rs ++ r ∷ drop (suc i) rs ≡ rs =
-      ap (λ x. take i rs ++ x ∷ drop (suc i) rs) is ∙ ap (λ xs. take i rs ++ xs) (sym (drop-cons rs i r inside)) ∙ take-append-drop i rs in
-      subst (λ xs. IsFirstMisplaced entries start earlier xs r) split
-      (misplaced_behind entries start earlier (take i rs) (r ∷ drop (suc i) rs) r before (inl (refl, here)))
+  -- what is found behind receipts that are all at their places
+  pub finds_behind : (earlier receipts : List Receipt) (marks : List Bool) (misplaced : Option Receipt) → AreAtPlaces entries start [] earlier → FindsAll entries start earlier receipts marks misplaced
+      → FindsAll entries start [] (earlier ++ receipts) marks misplaced
+  finds_behind earlier receipts marks None before here = (AreAtPlaces-append entries start [] earlier receipts before here.0, here.1)
+  finds_behind earlier receipts marks (Some r) before here = misplaced_behind entries start [] earlier receipts r before here
 
 -- the receipts of one seat more
 pub receipts_behind : (seats : List Seated) (seat : Seated) → all_receipts (seats ++ seat ∷ []) ≡ all_receipts seats ++ seat.receipts
 receipts_behind seats seat = flat_map-append (λ (s : Seated). s.receipts) seats (seat ∷ []) ∙ ap (λ x. all_receipts seats ++ x) (append-nil seat.receipts)
-
--- ---- the receipts of all seats, up to seat i, which is s
-
-module _ (entries : List Entry) (start : ℕ) (seats : List Seated) (i : ℕ) (s : Seated) (inside : i < length seats) (is : s ≡ get_or seats i s) where
-  receipts_more : all_receipts (take i seats) ++ s.receipts ≡ all_receipts (take (i + 1) seats)
-  receipts_more =
-      ap (λ x. all_receipts (take i seats) ++ x) (sym (append-nil s.receipts)) ∙ sym (flat_map-append (λ (seat : Seated). seat.receipts) (take i seats) (s ∷ []))
-      ∙ ap (λ x. all_receipts (take i seats ++ x ∷ [])) is ∙ ap all_receipts (sym (take_more seats i s inside))
-
-  -- with one more whose receipts are all at their places
-  pub seats_more : (marks : List Bool) → AreAtPlaces entries start [] (all_receipts (take i seats)) → FindsAll entries start (all_receipts (take i seats)) s.receipts marks None
-      → AreAtPlaces entries start [] (all_receipts (take (i + 1) seats)) × AreMarked start (all_receipts (take (i + 1) seats)) marks
-  seats_more marks before here =
-      let P : List Receipt → Type 0 = λ xs. AreAtPlaces entries start [] xs × AreMarked start xs marks in
-      subst P receipts_more (AreAtPlaces-append entries start [] (all_receipts (take i seats)) s.receipts before here.0, here.1)
-
-  -- with one that has the first receipt that is not at its place
-  pub seat_misplaced : (r : Receipt) → AreAtPlaces entries start [] (all_receipts (take i seats)) → IsFirstMisplaced entries start (all_receipts (take i seats)) s.receipts r
-      → IsFirstMisplaced entries start [] (all_receipts seats) r
-  seat_misplaced r before here =
-      let rest = all_receipts (drop (suc i) seats) in
-      let split : (all_receipts (take i seats) ++ s.receipts) ++ rest ≡ all_receipts seats =
-      append_assoc (all_receipts (take i seats)) s.receipts rest ∙ sym (flat_map-append (λ (seat : Seated). seat.receipts) (take i seats) (s ∷ drop (suc i) seats))
-      ∙ ap (λ x. all_receipts (take i seats ++ x ∷ drop (suc i) seats)) is ∙ ap (λ xs. all_receipts (take i seats ++ xs)) (sym (drop-cons seats i s inside))
-      ∙ ap all_receipts (take-append-drop i seats) in
-      subst (λ xs. IsFirstMisplaced entries start [] xs r) split
-      (misplaced_before entries start [] (all_receipts (take i seats) ++ s.receipts) rest r
-      (misplaced_behind entries start [] (all_receipts (take i seats)) s.receipts r before here))
 
 -- ---- all receipts
 

@@ -31,6 +31,14 @@ abbrev pub shown : HistoryOnTrack → ℕ → Result View AskFault
 shown history train =
     result_map_both (λ seen. seen) (fault_at (length history.entries)) (view history.track (scene_now history) train)
 
+-- this is the view that the history shows the train, and its version
+abbrev pub IsViewIn : HistoryOnTrack → ℕ → View × ℕ → Type 0
+IsViewIn history train seen = (view history.track (scene_now history) train ≡ Ok seen.0) × (seen.1 ≡ length history.entries)
+
+-- a candidate for what the history shows its train
+abbrev pub IsMadeIn : HistoryOnTrack → Candidate → Type 0
+IsMadeIn history candidate = IsViewIn history candidate.view.train (candidate.view, candidate.version)
+
 -- Nothing is granted: the history shows the train no end; or it has the train and is full, or memory was refused.
 abbrev pub IsRefused : HistoryOnTrack → ℕ → OrMemory AskFault → Type 0
 IsRefused history train (Refused Full) = (is_full history ≡ true) × (has_train history train ≡ true)

@@ -4,10 +4,9 @@ ghost use Rattle.std.specs.Prelude.{◌≡◌, ◌+◌, ◌-◌, ◌≤◌, ◌<
 ghost use Rattle.std.specs.Prelude.{map, replicate, slice_get, All, Some, Ok, Err, IfOk, IfErr, IfSome, OnErr};
 ghost use Rattle.std.specs.Arc.{arc_value};
 ghost use Rattle.rbc_model.specs.Histories.{Heard, IsLegal, Matches};
-ghost use Rattle.rbc_snap.specs.Present.{has_train};
 ghost use Rattle.rbc_snap.specs.Steps.{IsOfTrack};
 ghost use Rattle.rbc_snap.specs.Later.{IsLater};
-ghost use Rattle.rbc_desk.specs.Asking.{seen_by, IsAnsweredAt, IsAnsweredThen, IsTriedAt};
+ghost use Rattle.rbc_desk.specs.Asking.{seen_by, IsAnsweredAt, IsAnsweredThen, IsMadeIn, IsTriedAt, IsViewIn};
 ghost use Rattle.rbc_desk.specs.Closing.{all_receipts, IsUnmatched};
 ghost use Rattle.rbc_desk.specs.Seats.{seated};
 ghost use Rattle.rbc_desk.specs.Telling.{IsToldAt};
@@ -96,8 +95,7 @@ fn look_by_eye<L: DeskName, R: Wait>(
 ) -> Result<Option<(View, u64)>, OrMemory<AskFault>>
     ensures later { IsLater seat.old.told seat.new.told }
     ensures receipts { seat.new.receipts ≡ seat.old.receipts }
-    ensures train { IfOk result (λ seen. IfSome seen (λ shown. shown.0.train ≡ train)) }
-    ensures known { IfOk result (λ seen. IfSome seen (λ _. has_train seat.new.told train ≡ true)) }
+    ensures seen { IfOk result (λ seen. IfSome seen (IsViewIn seat.new.told train)) }
     ensures denied { IfErr result (λ fault. IsAnsweredThen seat.old.told seat.new.told train (Err fault)) }
 {
     seen_by(seat.eye.view(rt, alloc, train))
@@ -342,8 +340,7 @@ impl<L: DeskName> Desk<L> {
     ) -> Result<(View, u64), OrMemory<AskFault>>
         ensures later { IsLater seat.old.told seat.new.told }
         ensures receipts { seat.new.receipts ≡ seat.old.receipts }
-        ensures train { IfOk result (λ seen. seen.0.train ≡ train) }
-        ensures known { IfOk result (λ _. has_train seat.new.told train ≡ true) }
+        ensures seen { IfOk result (IsViewIn seat.new.told train) }
         ensures denied { IfErr result (λ fault. IsAnsweredThen seat.old.told seat.new.told train (Err fault)) }
     {
         if !seat.is_ahead {
@@ -358,7 +355,7 @@ impl<L: DeskName> Desk<L> {
     }
 
     /// The tries outside the lock. None where each was overtaken.
-    #[tactic(auto, using(rbc_snap::proofs::LaterLemmas::later_still, crate::proofs::AskingLemmas::since_before))]
+    #[tactic(auto, using(rbc_snap::proofs::LaterLemmas::later_still, crate::proofs::AskingLemmas::since_before, crate::proofs::AskingLemmas::known_shown))]
     fn try_outside<T: Threads + Sync, R: Wait, G: Gate>(
         &self,
         rt: &T,
@@ -391,6 +388,7 @@ impl<L: DeskName> Desk<L> {
         seat: &mut Seat<L>,
         candidate: Candidate,
     ) -> Result<Option<Granted>, OrMemory<AskFault>>
+        requires { IsMadeIn seat.old.told candidate }
         ensures { IsTriedAt seat.old seat.new candidate.view.train result }
     {
         let mut shared = self.lock(rt);

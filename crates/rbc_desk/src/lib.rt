@@ -23,8 +23,8 @@ pub use hold::Hold;
 pub use name::DeskName;
 pub use rbc_model::{Memory, OrMemory, Told};
 pub use rbc_snap::{
-    ApplyFault, Candidate, CommitFault, Entry, HistoryName, Receipt, Record, Scene, Sight, Train,
-    View, candidate,
+    ApplyFault, Candidate, CommitFault, Entry, Grant, HistoryName, Receipt, Record, Scene, Sight,
+    Train, View, candidate,
 };
 pub use rbc_track::Track;
 pub use seat::Seat;

@@ -3,7 +3,6 @@
 ghost use Rattle.std.specs.Prelude.{◌≡◌, ◌≢◌, ◌+◌, ◌≤◌, ◌<◌, ◌++◌, ◌∷◌, [], length, take, vec_len, true, false};
 ghost use Rattle.std.specs.Prelude.{All, None, Ok, Err, IfOk, IfErr, IfSome, IfNone, OnErr};
 ghost use Rattle.std.specs.List.{list_any};
-ghost use Rattle.rbc_model.specs.Answers.{AnswersAs};
 ghost use Rattle.rbc_model.specs.Histories.{IsLegal, Matches};
 ghost use Rattle.rbc_model.specs.declared.memory.OrMemory.TheVariants.{Memory as NoMemory};
 ghost use Rattle.rbc_grant_laws.specs.Candidates.{IsCandidateOf};
@@ -14,13 +13,15 @@ ghost use Rattle.rbc_snap.specs.Steps.{IsOfTrack};
 ghost use Rattle.rbc_desk.specs.Closing.{all_receipts, IsUnmatchedIn};
 ghost use Rattle.rbc_desk.specs.Trains.{numbers_of};
 ghost use Rattle.rbc_snap.specs.Later.{IsLater};
-ghost use Rattle.rbc_desk.specs.Asking.{fault_at, shown, tried, IsAnsweredAt, IsRefused, IsTriedAt, Tries};
+ghost use Rattle.rbc_desk.specs.Asking.{fault_at, shown, tried, IsAnsweredAt, IsMadeIn, IsRefused, IsTriedAt, IsViewIn, Tries};
 ghost use Rattle.rbc_desk.specs.Telling.{IsToldAt, IsToldThen};
 
-use crate::closing::{find_seats, merge_all};
+use crate::closing::take_all;
 use crate::{AskFault, CloseFault, DeskName, Granted, Seat};
 use rbc_model::{Memory, OrMemory, Told, TrainId, ViewFault};
-use rbc_snap::{ApplyFault, Candidate, CommitFault, Eye, Press, Receipt, Record, View, candidate};
+use rbc_snap::{
+    ApplyFault, Candidate, CommitFault, Eye, Grant, Press, Receipt, Record, View, candidate,
+};
 use std::alloc::Global;
 use std::sync::Wait;
 use std::sync::ledger::{Book, Share};
@@ -85,15 +86,20 @@ fn in_vain(log: &Record, told: &Told) -> OrMemory<ApplyFault>
     }
 }
 
-/// Enters what the candidate would grant to a train that is there, if it is still shown its view.
+/// Enters what the candidate would grant to a train that is there, if it is still shown its view: so it is where nothing
+/// was entered since.
 fn enter(
     log: &mut Record,
     alloc: Global,
     candidate: &Candidate,
 ) -> Result<Option<Receipt>, OrMemory<AskFault>>
-    requires { has_train log.old candidate.now.view.train ≡ true }
+    requires known { has_train log.old candidate.now.view.train ≡ true }
+    requires shown { candidate.now.version ≡ length log.old.entries → IsMadeIn log.old candidate.now }
     ensures { Tries result log.old log.new candidate.now }
 {
+    if candidate.version() == log.version() {
+        return tried(log.grant(alloc, candidate));
+    }
     tried(log.commit(alloc, candidate))
 }
 
@@ -186,7 +192,7 @@ impl<L: DeskName> Shared<L> {
         let receipt = log.apply(alloc, told)?;
         follow(rt, log, press, eye);
         found.push_reserved(false);
-        receipts.push_reserved(receipt.copy());
+        receipts.push_reserved(Receipt::of_told(receipt.place(), *told));
         entries.add(share, 1);
         *is_ahead = true;
         Ok(receipt)
@@ -243,9 +249,7 @@ impl<L: DeskName> Shared<L> {
         ensures told { seat.new.told ≡ self.now.log }
         ensures later { IsLater seat.old.told seat.new.told }
         ensures receipts { seat.new.receipts ≡ seat.old.receipts }
-        ensures shown { AnswersAs (λ seen. seen.0) result (shown self.now.log train) }
-        ensures train { IfOk result (λ seen. seen.0.train ≡ train) }
-        ensures known { IfOk result (λ _. has_train self.now.log train ≡ true) }
+        ensures seen { IfOk result (IsViewIn self.now.log train) }
         ensures refused { IfErr result (IsRefused self.now.log train) }
     {
         self.bring(rt, seat);
@@ -266,6 +270,7 @@ impl<L: DeskName> Shared<L> {
         seat: &mut Seat<L>,
         candidate: Candidate,
     ) -> Result<Option<Granted>, OrMemory<AskFault>>
+        requires { IsMadeIn seat.old.told candidate }
         ensures comes { IsTriedAt seat.old seat.new candidate.view.train result }
         ensures current { shown self.old.log candidate.view.train ≡ Ok candidate.view → result ≢ Ok None }
     {
@@ -284,6 +289,7 @@ impl<L: DeskName> Shared<L> {
         seat: &mut Seat<L>,
         candidate: &Candidate,
     ) -> Result<Option<Receipt>, OrMemory<AskFault>>
+        requires { IsMadeIn seat.old.told candidate.now }
         ensures tries { Tries result self.old.log self.new.log candidate.now }
         ensures told { seat.new.told ≡ self.new.log }
         ensures before { IsLater seat.old.told self.old.log }
@@ -317,6 +323,7 @@ impl<L: DeskName> Shared<L> {
         }
         found.reserve(1)?;
         receipts.reserve(1)?;
+        let grant = Grant::of(candidate)?;
         let Some(entered) = enter(log, alloc, candidate)? else {
             // The next look is under the lock, and sees what overtook this one.
             *is_ahead = true;
@@ -324,7 +331,7 @@ impl<L: DeskName> Shared<L> {
         };
         follow(rt, log, press, eye);
         found.push_reserved(false);
-        receipts.push_reserved(entered.copy());
+        receipts.push_reserved(Receipt::of_grant(entered.place(), grant));
         entries.add(share, 1);
         *is_ahead = true;
         Ok(Some(entered))
@@ -382,14 +389,13 @@ impl<L: DeskName> Shared<L> {
         let Shared {
             log,
             press,
-            start,
+            start: _,
             mut found,
             mut entries,
             mut rest,
         } = self;
         log.known();
-        let misplaced = find_seats(&log, start, &mut found, seats.as_slice());
-        merge_all(rt, &press, &mut rest, seats);
+        let misplaced = take_all(rt, &log, &mut found, &press, &mut rest, seats);
         press.end(rt);
         entries.audit(&mut rest);
         match misplaced {

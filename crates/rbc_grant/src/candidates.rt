@@ -1,39 +1,43 @@
 //! Candidates: what may be granted for a view.
 
-ghost use Rattle.std.specs.Prelude.{◌≡◌};
+ghost use Rattle.std.specs.Prelude.{◌≡◌, IfOk};
+ghost use Rattle.std.specs.Arc.{arc_value};
 ghost use Rattle.rbc_model.specs.Messages.{message_bytes};
 ghost use Rattle.rbc_grant_laws.specs.Candidates.{IsCandidateOf};
 ghost use Rattle.rbc_grant.specs.Candidates.{HasChosenProfiles, AreLosses, AreGreatestTables};
 
 use crate::{Losses, PriceTables};
-use rbc_model::{Obstacle, TrainId};
+use rbc_model::{Memory, Obstacle, TrainId};
 use rbc_packet::Authority;
 use rbc_reach::View;
 use std::marker::Model;
+use std::sync::Arc;
 
 pub(crate) mod of_view;
 mod reductions;
 
 /// What may be granted to a train that was shown a view: the authority that is best for it, with its message 3 and
 /// the tables of prices that show that no profiles lose less. It knows the version of the history that the view is of.
+/// The authority lies apart, so that what keeps the grant shares it.
 #[derive(Drop)]
 pub struct Candidate {
     view: View,
     version: u64,
-    authority: Authority,
+    authority: Arc<Authority>,
     message: Vec<u8>,
     losses: Losses,
     prices: PriceTables,
 }
 
 impl Model for Candidate {
+    ghost use Rattle.std.specs.Arc.{arc_value};
     ghost use Rattle.rbc_grant.specs.Candidates.{Candidate, candidate_with, granted, IsCandidate};
 
     ghost Value = { Candidate };
 
-    ghost view = { λ c. candidate_with c.view c.version c.authority };
+    ghost view = { λ c. candidate_with c.view c.version (arc_value c.authority) };
 
-    ghost invariant = { λ c. IsCandidate c.view (granted c.view c.authority) c.message.items c.losses c.prices };
+    ghost invariant = { λ c. IsCandidate c.view (granted c.view (arc_value c.authority)) c.message.items c.losses c.prices };
 }
 
 impl Candidate {
@@ -78,6 +82,17 @@ impl Candidate {
         ensures authority { result.now ≡ self.now.grant.authority }
     {
         &self.authority
+    }
+
+    /// The authority, for what keeps it beyond the candidate. It is not copied.
+    ///
+    /// # Errors
+    ///
+    /// [`Memory`] where more keep it than can be counted.
+    pub fn shared_authority(&self) -> Result<Arc<Authority>, Memory>
+        ensures { IfOk result (λ shared. arc_value shared ≡ self.now.grant.authority) }
+    {
+        Ok(self.authority.clone()?)
     }
 
     /// What stands beyond the authority's end.

@@ -2,15 +2,8 @@
 use Rattle.rbc_model.specs.Histories.{Entry, Heard, Granted}
 use Rattle.rbc_record.specs.declared.entry.Entry.{Entry as EntryHeld}
 use Rattle.rbc_record.specs.declared.entry.Entry.TheVariants.{Heard as HeardHeld, Granted as GrantedHeld}
-use Rattle.rbc_record.specs.declared.receipt.Noted.{Noted}
-use Rattle.rbc_record.specs.declared.receipt.Noted.TheVariants.{Heard as HeardNoted, Granted as GrantedNoted}
 
 -- an entry that a record holds, as a history has it
 abbrev pub entry_of : EntryHeld → Entry
 entry_of (HeardHeld told) = Heard told
 entry_of (GrantedHeld grant) = Granted grant
-
--- the entry that a receipt is for
-abbrev pub entry_noted : Noted → Entry
-entry_noted (HeardNoted told) = Heard told
-entry_noted (GrantedNoted grant) = Granted grant

@@ -1,6 +1,6 @@
 //! What a record has: entry by entry, what was told or granted.
 
-use crate::Filed;
+use crate::Grant;
 use rbc_model::Told;
 
 /// An entry of a record.
@@ -9,5 +9,5 @@ pub enum Entry {
     /// A train or the interlocking told this.
     Heard(Told),
     /// A train was granted this.
-    Granted(Filed),
+    Granted(Grant),
 }

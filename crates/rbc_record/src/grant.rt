@@ -1,22 +1,25 @@
 //! What was granted to a train.
 
-ghost use Rattle.std.specs.Prelude.{◌≡◌};
+ghost use Rattle.std.specs.Prelude.{◌≡◌, IfOk};
 
 use rbc_grant::Candidate;
-use rbc_model::{Obstacle, TrainId};
+use rbc_model::{Memory, Obstacle, TrainId};
 use rbc_packet::Authority;
 use std::marker::Model;
+use std::sync::Arc;
 
-/// What was granted to a train: from where on, which authority, and what stands beyond its end.
+/// What was granted to a train: from where on, which authority, and what stands beyond its end. The authority lies apart
+/// and is shared with the candidate and with the same grant elsewhere, so that an entry is small.
 #[derive(Drop)]
 pub struct Grant {
     train: TrainId,
     from: i64,
-    authority: Authority,
+    authority: Arc<Authority>,
     obstacle: Obstacle,
 }
 
 impl Model for Grant {
+    ghost use Rattle.std.specs.Arc.{arc_value};
     ghost use Rattle.rbc_model.specs.Histories.{Grants};
 
     ghost Value = { Grants };
@@ -24,34 +27,26 @@ impl Model for Grant {
     ghost view = { λ g. record {
       train = g.train;
       from = g.from;
-      authority = g.authority;
+      authority = arc_value g.authority;
       obstacle = g.obstacle;
     } };
 }
 
 impl Grant {
-    /// What the candidate would grant. It takes no memory.
-    pub(crate) fn of(candidate: &Candidate) -> Grant
-        ensures { result ≡ candidate.now.grant }
+    /// What the candidate would grant. The authority is shared, not copied.
+    ///
+    /// # Errors
+    ///
+    /// `Memory`, where more keep the authority than can be counted.
+    pub fn of(candidate: &Candidate) -> Result<Grant, Memory>
+        ensures { IfOk result (λ grant. grant ≡ candidate.now.grant) }
     {
-        Grant {
+        Ok(Grant {
             train: candidate.train(),
             from: candidate.from(),
-            authority: candidate.authority().copy(),
+            authority: candidate.shared_authority()?,
             obstacle: candidate.obstacle(),
-        }
-    }
-
-    /// The same grant once more. It takes no memory.
-    pub fn copy(&self) -> Grant
-        ensures { result ≡ self.now }
-    {
-        Grant {
-            train: self.train,
-            from: self.from,
-            authority: self.authority.copy(),
-            obstacle: self.obstacle,
-        }
+        })
     }
 
     /// The train's number.

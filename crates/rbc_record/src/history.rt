@@ -19,7 +19,7 @@ ghost use Rattle.rbc_record.specs.Entering.{EntersOrMemory, as_apply_fault, entr
 ghost use Rattle.rbc_record.specs.Present.{has_train};
 ghost use Rattle.rbc_record.specs.Records.{scene_now, is_full};
 
-use crate::{ApplyFault, CommitFault, Entry, Filed, Receipt};
+use crate::{ApplyFault, CommitFault, Entry, Grant, Receipt};
 use rbc_grant::{Candidate, Scene, View};
 use rbc_model::limits::MOST_ENTRIES;
 use rbc_model::{Distance, Memory, OrMemory, Refusal, Told, TrainId, ViewFault};
@@ -61,15 +61,15 @@ fn as_apply_fault(fault: OrMemory<Refusal>) -> OrMemory<ApplyFault>
     }
 }
 
-/// Puts the entry behind the others, where there is room for it.
-fn append(entries: &mut Vec<Entry>, entry: Entry) -> Receipt
+/// Puts the entry behind the others, where there is room for it, and tells its place.
+fn append(entries: &mut Vec<Entry>, entry: Entry) -> u64
     requires { vec_len entries.old < vec_capacity entries.old }
     ensures items { entries.new.items ≡ entries.old.items ++ entry ∷ [] }
-    ensures receipt { result ≡ record { place = length entries.old.items; entry = entry_of entry } }
+    ensures place { result ≡ length entries.old.items }
 {
-    let receipt = Receipt::new(entries.len() as u64, &entry);
+    let place = entries.len() as u64;
     entries.push_reserved(entry);
-    receipt
+    place
 }
 
 impl Record {
@@ -168,7 +168,10 @@ impl Record {
         }
         self.entries.reserve(1)?;
         match self.scene.tell(alloc, told) {
-            Ok(()) => Ok(append(&mut self.entries, Entry::Heard(*told))),
+            Ok(()) => {
+                let place = append(&mut self.entries, Entry::Heard(*told));
+                Ok(Receipt::of_told(place, *told))
+            }
             Err(fault) => Err(as_apply_fault(fault)),
         }
     }
@@ -237,13 +240,15 @@ impl Record {
         ensures entered { EntersOrMemory result self.old self.new (entry_granted self.old candidate.now) }
     {
         self.entries.reserve(1)?;
-        let filed = Filed::of(alloc, candidate)?;
+        let grant = Grant::of(candidate)?;
+        let kept = Grant::of(candidate)?;
         candidate.known();
         let end = Distance::new(candidate.authority().end());
         let legs = candidate.view().legs();
         // What is best for the view that the train is shown is accepted, and the view's legs lead to its end.
         self.scene.grant_along(alloc, candidate.train(), end, legs)?;
-        Ok(append(&mut self.entries, Entry::Granted(filed)))
+        let place = append(&mut self.entries, Entry::Granted(grant));
+        Ok(Receipt::of_grant(place, kept))
     }
 
     /// Whether the train of the view is shown just this view.

@@ -4,7 +4,6 @@
 
 mod entry;
 mod faults;
-mod filed;
 mod grant;
 mod history;
 mod laws;
@@ -13,7 +12,6 @@ mod sameness;
 
 pub use entry::Entry;
 pub use faults::{ApplyFault, CommitFault};
-pub use filed::Filed;
 pub use grant::Grant;
 pub use history::Record;
 pub use laws::legal_histories_are_best;

@@ -1,77 +1,47 @@
 //! Receipts for entries.
 
 ghost use Rattle.std.specs.Prelude.{◌≡◌, ◌↔◌, IsTrue};
-ghost use Rattle.rbc_record.specs.Entries.{entry_noted, entry_of};
-ghost use Rattle.rbc_record.specs.SameEntries.{is_same_entry};
+ghost use Rattle.rbc_model.specs.Histories.{Granted, Heard};
+ghost use Rattle.rbc_record.specs.Entries.{entry_of};
 
 use crate::{Entry, Grant};
 use rbc_model::Told;
 use std::marker::Model;
 
-/// What a receipt is for. It lies in place, so that a copy takes no memory.
-#[derive(Drop)]
-pub(crate) enum Noted {
-    Heard(Told),
-    Granted(Grant),
-}
-
-impl Noted {
-    /// What the entry says.
-    fn of(entry: &Entry) -> Noted
-        ensures { entry_noted result ≡ entry_of entry.now }
-    {
-        match entry {
-            Entry::Heard(told) => Noted::Heard(*told),
-            Entry::Granted(filed) => Noted::Granted(filed.grant().copy()),
-        }
-    }
-
-    /// The same once more.
-    fn copy(&self) -> Noted
-        ensures { result ≡ self.now }
-    {
-        match self {
-            Noted::Heard(told) => Noted::Heard(*told),
-            Noted::Granted(grant) => Noted::Granted(grant.copy()),
-        }
-    }
-
-    /// Whether the entry says this.
-    fn is_said_by(&self, entry: &Entry) -> bool
-        ensures { result ≡ is_same_entry (entry_noted self.now) (entry_of entry.now) }
-    {
-        match (self, entry) {
-            (Noted::Heard(one), Entry::Heard(other)) => one == other,
-            (Noted::Granted(one), Entry::Granted(other)) => one == other.grant(),
-            _ => false,
-        }
-    }
-}
-
 /// A receipt for an entry that a record has: the entry, and how many stand before it.
 #[derive(Drop)]
 pub struct Receipt {
     place: u64,
-    noted: Noted,
+    entry: Entry,
 }
 
 impl Model for Receipt {
     ghost use Rattle.rbc_model.specs.Histories.{Receipt};
-    ghost use Rattle.rbc_record.specs.Entries.{entry_noted};
+    ghost use Rattle.rbc_record.specs.Entries.{entry_of};
 
     ghost Value = { Receipt };
 
-    ghost view = { λ r. record { place = r.place; entry = entry_noted r.noted } };
+    ghost view = { λ r. record { place = r.place; entry = entry_of r.entry } };
 }
 
 impl Receipt {
-    /// A receipt for the entry at this place.
-    pub(crate) fn new(place: u64, entry: &Entry) -> Receipt
-        ensures { result ≡ record { place = place; entry = entry_of entry.now } }
+    /// A receipt for what was told, at this place.
+    pub fn of_told(place: u64, told: Told) -> Receipt
+        ensures { result ≡ record { place = place; entry = Heard told } }
     {
         Receipt {
             place,
-            noted: Noted::of(entry),
+            entry: Entry::Heard(told),
+        }
+    }
+
+    /// A receipt for what was granted, at this place.
+    pub fn of_grant(place: u64, grant: Grant) -> Receipt
+        ensures { result ≡ record { place = place; entry = Granted grant } }
+    {
+        Receipt {
+            place,
+            entry: Entry::Granted(grant),
         }
     }
 
@@ -86,16 +56,6 @@ impl Receipt {
     pub fn is_for(&self, entry: &Entry) -> bool
         ensures { IsTrue result ↔ (self.now.entry ≡ entry_of entry.now) }
     {
-        self.noted.is_said_by(entry)
-    }
-
-    /// The same receipt once more. It takes no memory.
-    pub fn copy(&self) -> Receipt
-        ensures { result ≡ self.now }
-    {
-        Receipt {
-            place: self.place,
-            noted: self.noted.copy(),
-        }
+        self.entry == *entry
     }
 }

@@ -50,7 +50,7 @@ fn is_same_held(one: &Entry, other: &Entry) -> bool
 {
     match (one, other) {
         (Entry::Heard(one), Entry::Heard(other)) => one == other,
-        (Entry::Granted(one), Entry::Granted(other)) => one.grant() == other.grant(),
+        (Entry::Granted(one), Entry::Granted(other)) => one == other,
         _ => false,
     }
 }

@@ -56,6 +56,6 @@ fn print_entry<W: Sink>(track: &Track, entry: &Entry, writer: &mut W) -> Result<
 {
     match entry {
         Entry::Heard(told) => print_request(&told_request(track, told), writer),
-        Entry::Granted(filed) => print_request(&Request::Ask(filed.grant().train()), writer),
+        Entry::Granted(grant) => print_request(&Request::Ask(grant.train()), writer),
     }
 }

@@ -1,6 +1,6 @@
 //! What was told in a session and rests, until it is entered in one hold of the desk's lock.
 
-ghost use Rattle.std.specs.Prelude.{◌≡◌, ◌++◌, ◌∷◌, [], ℕ, List, All, false, length, nat_eq, MatchBool};
+ghost use Rattle.std.specs.Prelude.{◌≡◌, ◌++◌, ◌∷◌, [], ℕ, List, All, false, length, MatchBool};
 ghost use Rattle.std.specs.List.{flat_map};
 ghost use Rattle.rbc_model.specs.HistoryText.{IsToldOfTrack};
 ghost use Rattle.rbc_model.specs.Sessions.{Prints};

@@ -32,8 +32,8 @@ fn enter<R: Threads + Abort + AllocGlobal + Sync>(
             let told = of_track(rt, history.track(), *told);
             history.apply(rt.alloc(), &told).expect(rt, "an entry")
         }
-        Entry::Granted(filed) => {
-            let candidate = offered(rt, history, filed.grant().train().number());
+        Entry::Granted(grant) => {
+            let candidate = offered(rt, history, grant.train().number());
             history
                 .commit(rt.alloc(), &candidate)
                 .expect(rt, "an entry")

@@ -11,6 +11,7 @@ use rbc_model::Memory;
 use rbc_packet::{Authority, write_message};
 use rbc_reach::View;
 use std::alloc::Global;
+use std::sync::Arc;
 use std::thread::Threads;
 
 /// The candidate of a view at a version of the history: its time, group, direction, end and obstacle are the view's,
@@ -19,7 +20,7 @@ use std::thread::Threads;
 ///
 /// # Errors
 ///
-/// [`Memory`] where there is none for the reductions or for the message.
+/// [`Memory`] where there is none for the reductions, the message or the authority.
 pub fn candidate(
     rt: &(impl Threads + Sync),
     alloc: Global,
@@ -38,10 +39,11 @@ pub fn candidate(
     // Both profiles end where the view does, and a message can give them.
     let authority = Authority::new(time, group, nominal, speeds.profile, grades.profile).unwrap();
     let message = write_message(alloc, &authority)?;
+    let shared = Arc::new(alloc, authority)?;
     Ok(Candidate {
         view,
         version,
-        authority,
+        authority: shared,
         message,
         losses: Losses {
             speeds: speeds.loss,

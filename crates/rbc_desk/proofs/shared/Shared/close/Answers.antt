@@ -1,4 +1,4 @@
-use Rattle.std.proofs.Common.{◌≡◌, ◌+◌, [], All, length, subst, arith}
+use Rattle.std.proofs.Common.{◌≡◌, ◌+◌, ◌-◌, [], All, length, subst, vec_len, arith}
 use Rattle.rbc_snap.specs.Records.{HistoryOnTrack}
 use Rattle.rbc_snap.specs.Later.{IsLater}
 use Rattle.rbc_desk.specs.Seats.{Seated}
@@ -11,23 +11,25 @@ returns-in-None-clause-matches g c =
     let log = c.args.self.log in
     let start = c.args.self.start in
     let receipts = all_receipts c.args.seats.items in
-    let parts : c.merge_all.new.all.parts ≡ g.L.Ledger.parts = omega (arith, c.args.seats.ok.0, c.merge_all.ensures.parts, c.merge_all.ensures.most, c.requires) in
-    let many : length receipts + start ≡ length log.entries = omega (arith, c.audit.ensures.whole parts, c.merge_all.ensures.amount, c.args.self.counted) in
+    let parts : c.take_all-misplaced.new.all.parts ≡ g.L.Ledger.parts = omega (arith, c.args.seats.ok.0, c.take_all-misplaced.ensures.parts, c.take_all-misplaced.ensures.most, c.requires) in
+    let many : length receipts + start ≡ length log.entries = omega (arith, c.audit.ensures.whole parts, c.take_all-misplaced.ensures.amount, c.args.self.counted) in
+    let marked : length log.entries - vec_len c.args.self.found ≡ start = omega (arith, c.args.self.counted, c.args.self.places) in
     matches log.entries start _ receipts c.args.self.starts
-    (subst (λ seats. AreAtPlaces log.entries start [] (all_receipts seats)) c.as_slice.ensures.value c.in-None.ensures.0) many
+    (subst (λ begun. AreAtPlaces log.entries begun [] receipts) marked c.in-None.ensures.finds.0) many
 
 pub returns-in-Some-clause-unmatched : goal.returns-in-Some-clause-unmatched
 returns-in-Some-clause-unmatched g c =
     let log = c.args.self.log in
     let start = c.args.self.start in
     let receipts = all_receipts c.args.seats.items in
-    let parts : c.merge_all.new.all.parts ≡ g.L.Ledger.parts = omega (arith, c.args.seats.ok.0, c.merge_all.ensures.parts, c.merge_all.ensures.most, c.requires) in
-    let many : length receipts + start ≡ length log.entries = omega (arith, c.audit.ensures.whole parts, c.merge_all.ensures.amount, c.args.self.counted) in (
+    let parts : c.take_all-misplaced.new.all.parts ≡ g.L.Ledger.parts = omega (arith, c.args.seats.ok.0, c.take_all-misplaced.ensures.parts, c.take_all-misplaced.ensures.most, c.requires) in
+    let many : length receipts + start ≡ length log.entries = omega (arith, c.audit.ensures.whole parts, c.take_all-misplaced.ensures.amount, c.args.self.counted) in
+    let marked : length log.entries - vec_len c.args.self.found ≡ start = omega (arith, c.args.self.counted, c.args.self.places) in (
       goes_on log g.L.DeskName.opened start receipts c.args.self.track c.args.self.base c.args.self.starts c.known.ensures.legal many,
       subst (λ begun. IsFirstMisplaced log.entries begun [] receipts c.in-Some.receipt) c.args.self.starts
-          (subst (λ seats. IsFirstMisplaced log.entries start [] (all_receipts seats) c.in-Some.receipt) c.as_slice.ensures.value c.in-Some.ensures),
+          (subst (λ begun. IsFirstMisplaced log.entries begun [] receipts c.in-Some.receipt) marked c.in-Some.ensures.finds),
     )
 
 pub returns-in-None-clause-told : goal.returns-in-None-clause-told
 returns-in-None-clause-told g c =
-    subst (λ (h : HistoryOnTrack). All (λ (seat : Seated). IsLater seat.told h) c.args.seats.items) c.args.self.published c.merge_all.ensures.told
+    subst (λ (h : HistoryOnTrack). All (λ (seat : Seated). IsLater seat.told h) c.args.seats.items) c.args.self.published c.take_all-misplaced.ensures.told

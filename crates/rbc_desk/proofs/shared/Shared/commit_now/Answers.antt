@@ -2,8 +2,10 @@ use Rattle.std.proofs.Common.{rules, ◌∙◌, refl, sym, subst}
 use Rattle.std.proofs.lemmas.Result.{err_from_is_err_and}
 use Rattle.rbc_snap.specs.Later.{IsLater}
 use Rattle.rbc_snap.proofs.LaterLemmas.{later_still}
+use Rattle.rbc_snap.specs.Records.{HistoryOnTrack}
+use Rattle.rbc_desk.specs.Asking.{IsMadeIn}
 use Rattle.rbc_desk.specs.Seats.{Seated}
-use Rattle.rbc_desk.proofs.AskingLemmas.{later_twice, missing_shown}
+use Rattle.rbc_desk.proofs.AskingLemmas.{later_twice, made_still, missing_shown}
 use Rattle.rbc_desk.proofs.shared.Shared.commit_now.Goals as goal
 
 pub invariant_of-seat-2 : goal.invariant_of-seat-2
@@ -34,5 +36,10 @@ returns-in_err-reserve-2-clause-tries g c =
     let p = err_from_is_err_and c.from_residual-in_err-reserve-2.result c.from_residual-in_err-reserve-2.ensures.1 in
     rw (p.1, p.2) (sym c.if-not-is_there.ensures, refl)
 
-pub enter-requires : goal.enter-requires
-enter-requires g c = sym c.if-not-is_there.ensures
+pub enter-requires-clause-known : goal.enter-requires-clause-known
+enter-requires-clause-known g c = sym c.if-not-is_there.ensures
+
+pub enter-requires-clause-shown : goal.enter-requires-clause-shown
+enter-requires-clause-shown g c =
+    let made = subst (λ (s : Seated). IsMadeIn s.told c.args.candidate.now) (sym c.seat.view_is) c.requires in
+    made_still c.seat.inside.eye c.args.self.now.log c.args.candidate.now (subst (λ (h : HistoryOnTrack). IsLater c.seat.inside.eye h) c.args.self.now.published c.bring.ensures.later) made

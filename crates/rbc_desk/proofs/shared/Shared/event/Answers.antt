@@ -14,3 +14,6 @@ pub returns-clause-later : goal.returns-clause-later
 returns-clause-later g c =
     let told = later_twice c.seat.inside.eye _ c.bring.new.eye _ c.follow.new.eye c.bring.ensures.later c.bring.ensures.told c.follow.ensures.later c.follow.ensures.told in
     subst (λ (s : Seated). IsLater s.told c.follow.new.eye) c.seat.view_is told
+
+pub returns-clause-receipt : goal.returns-clause-receipt
+returns-clause-receipt g c = search rules

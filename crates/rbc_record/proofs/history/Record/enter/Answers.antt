@@ -6,19 +6,19 @@ use Rattle.rbc_record.specs.Entries.{entry_of}
 use Rattle.rbc_record.specs.Records.{IsKept}
 use Rattle.rbc_record.proofs.KeepingLemmas.{accepted, kept_after_granted, leading}
 use Rattle.rbc_record.proofs.history.Record.enter.Goals as goal
-use Rattle.rbc_record.proofs.history.Record.enter.Goals.{After-append}
+use Rattle.rbc_record.proofs.history.Record.enter.Goals.{After-append-place}
 
 -- with what was granted the record keeps what it keeps
-kept : (c : After-append) → IsKept c.grant_along.new.self (map entry_of c.append.new.entries.items)
+kept : (c : After-append-place) → IsKept c.grant_along.new.self (map entry_of c.append-place.new.entries.items)
 kept c =
-    kept_after_granted c.self.inside.scene c.grant_along.new.self c.self.inside.entries.items c.append.new.entries.items c.args.self.now c.self.view_is c.self.invariant
+    kept_after_granted c.self.inside.scene c.grant_along.new.self c.self.inside.entries.items c.append-place.new.entries.items c.args.self.now c.self.view_is c.self.invariant
     c.requires.room c.in_ok-grant_along.ensures.granted.1 c.args.candidate.now.view c.args.candidate.now.grant c.known.ensures.best
     c.requires.shown
     c.train.result c.new-end.result c.train.ensures (c.new-end.ensures ∙ c.end.ensures ∙ ap (λ (a : Authority). a.end) c.authority.ensures.authority)
-    (c.append.ensures.items ∙ (λ i. c.reserve.ensures.items i ++ Granted (c.in_ok-filed.ensures i) ∷ [])) c.in_ok-grant_along.ensures.granted.0
+    (c.append-place.ensures.items ∙ (λ i. c.reserve.ensures.items i ++ Granted (c.in_ok-grant.ensures i) ∷ [])) c.in_ok-grant_along.ensures.granted.0
 
 pub invariant_of-self-2 : goal.invariant_of-self-2
-invariant_of-self-2 c = kept c
+invariant_of-self-2 c = kept (goal.at.invariant_of-self-2 c).After-append-place
 
 pub grant_along-requires-clause-accepted : goal.grant_along-requires-clause-accepted
 grant_along-requires-clause-accepted c =
