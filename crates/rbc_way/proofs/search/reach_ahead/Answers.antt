@@ -10,7 +10,7 @@ use Rattle.rbc_scene_laws.specs.Good.{IsGoodLocks}
 use Rattle.rbc_way.specs.declared.leg_search.Stop.{Stop}
 use Rattle.rbc_way.specs.OnLegs.{told}
 use Rattle.rbc_way.specs.Reaches.{ReachOnTrack, scene_of}
-use Rattle.rbc_way.proofs.WayLemmas.{IsLonger-longer_ahead, ends, fully_more, goes_on, longer_length}
+use Rattle.rbc_way.proofs.WayLemmas.{IsLonger-longer_ahead, ends, fully_more, goes_on, last-of_track, longer_length}
 use Rattle.rbc_way.proofs.search.reach_ahead.Goals as goal
 
 pub loop-added-init : goal.loop-added-init
@@ -84,7 +84,8 @@ returns-clause-begins c =
 
 pub stop_on-requires-clause-of_track : goal.stop_on-requires-clause-of_track
 stop_on-requires-clause-of_track c =
-    let below = c.last.ensures.of_track in
+    let longer = c.line-longer.result.now in
+    let below = last-of_track longer.track longer.legs c.last.result c.known.ensures.line c.last.ensures.leg in
     let same = ap (λ (l : LineOnTrack). length l.track.sections) c.line-longer.ensures.line
     ∙ ap (λ (x : Track). length x.sections) (c.in_ok-lengthen_ahead.ensures.track ∙ c.loop-added.invariant.track) in
     omega arith
