@@ -65,10 +65,16 @@ impl Reach {
         }
     }
 
+    /// The line has each metre before the reach. This does nothing.
+    pub fn known(&self)
+        ensures on_line { self.now.place ≤ line_length self.now.track self.now.line }
+    {
+        let _ = &self.place;
+    }
+
     /// The first place with an obstacle, counted in metres from the start of the train's line.
     pub fn place(&self) -> u32
         ensures place { result ≡ self.now.place }
-        ensures on_line { result ≤ line_length self.now.track self.now.line }
     {
         self.place
     }
