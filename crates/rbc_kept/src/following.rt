@@ -47,7 +47,7 @@ fn hear(alloc: Global, history: &mut Record, told: &Told) -> Result<bool, Memory
     ensures refused { OnErr result (history.new ≡ history.old) }
 {
     match history.apply(alloc, told) {
-        Ok(_) => Ok(true),
+        Ok(_receipt) => Ok(true),
         Err(OrMemory::Refused(_)) => Ok(false),
         Err(OrMemory::Memory) => Err(Memory),
     }

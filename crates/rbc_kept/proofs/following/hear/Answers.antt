@@ -3,7 +3,7 @@ use Rattle.rbc_kept.proofs.following.hear.Goals as goal
 
 pub returns-in-Ok-clause-followed : goal.returns-in-Ok-clause-followed
 returns-in-Ok-clause-followed c =
-    is_heard c.args.history.now c.apply.new.self c.args.told.now _ _ c.in-Ok.field-0.entry c.in-Ok.ensures.entered.0 c.in-Ok.ensures.entered.2
+    is_heard c.args.history.now c.apply.new.self c.args.told.now _ _ c.in-Ok._receipt.entry c.in-Ok.ensures.entered.0 c.in-Ok.ensures.entered.2
 
 pub returns-in-Err-Refused-clause-followed : goal.returns-in-Err-Refused-clause-followed
 returns-in-Err-Refused-clause-followed c =
