@@ -213,7 +213,7 @@ impl Record {
     /// # Errors
     ///
     /// `Refused` with `Full`, before all else: the record has 100,000 entries. `Memory`, where the allocator refuses room
-    /// for the entry or for the train's line.
+    /// for the entry or for the train's line, or more keep the authority than can be counted.
     pub fn grant(
         &mut self,
         alloc: Global,
