@@ -81,6 +81,7 @@ pub(crate) fn rear_from(origin: u32, report: &Report) -> u32
     requires { origin ≤ MOST_SECTIONS * LONGEST_TRACK }
     ensures { result ≡ origin + report.now.distance - (report.now.over + report.now.length) }
 {
+    report.known();
     let behind = u32::from(report.over()) + u32::from(report.length());
     (origin + report.distance().metres()).saturating_sub(behind)
 }
@@ -90,6 +91,7 @@ pub(crate) fn has_rear_from(origin: u32, report: &Report) -> bool
     requires { origin ≤ MOST_SECTIONS * LONGEST_TRACK }
     ensures { result ≡ nat_le (report.now.over + report.now.length) (origin + report.now.distance) }
 {
+    report.known();
     let behind = u32::from(report.over()) + u32::from(report.length());
     behind <= origin + report.distance().metres()
 }
@@ -99,5 +101,6 @@ pub(crate) fn metres_ahead(report: &Report) -> u32
     ensures ahead { result ≡ report.now.distance + report.now.under }
     ensures at_most { result ≤ FARTHEST_REPORT + MOST_DOUBT }
 {
+    report.known();
     report.distance().metres() + u32::from(report.under())
 }

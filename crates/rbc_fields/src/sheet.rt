@@ -41,8 +41,7 @@ impl Sheet {
 
     /// How many bytes the text has.
     pub(crate) fn len(&self) -> usize
-        ensures value { result ≡ length self.now }
-        ensures bound { result ≤ ROOM }
+        ensures { result ≡ length self.now }
     {
         self.count
     }

@@ -30,6 +30,7 @@ pub(crate) fn replay(
     let mut rest = bytes;
     while let Some((line, after)) = next_line(rest) {
         if !follow(rt, alloc, history, line)? {
+            history.known();
             return Err(KeptFault::Foreign(history.version() + 1));
         }
         rest = after;

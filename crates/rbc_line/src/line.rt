@@ -109,7 +109,7 @@ impl Line {
         self.legs.as_slice()
     }
 
-    /// How many metres the line has.
+    /// How many metres the line has: at most 409,600,000.
     pub fn length(&self) -> u32
         ensures length { result ≡ line_length self.now.track self.now.legs }
     {

@@ -12,9 +12,9 @@ use std::sync::Arc;
 /// and is shared with the candidate and with the same grant elsewhere, so that an entry is small.
 #[derive(Drop)]
 pub struct Grant {
-    train: TrainId,
     from: i64,
     authority: Arc<Authority>,
+    train: TrainId,
     obstacle: Obstacle,
 }
 
@@ -42,9 +42,9 @@ impl Grant {
         ensures { IfOk result (λ grant. grant ≡ candidate.now.grant) }
     {
         Ok(Grant {
-            train: candidate.train(),
             from: candidate.from(),
             authority: candidate.shared_authority()?,
+            train: candidate.train(),
             obstacle: candidate.obstacle(),
         })
     }

@@ -97,11 +97,12 @@ impl Record {
     }
 
     /// Whatever the entries are, each was accepted after those before it. Each authority was the best at its place, and no
-    /// two ever overlapped. This does nothing.
+    /// two ever overlapped. There are at most 100,000. This does nothing.
     pub fn known(&self)
         ensures form { IsInForm self.now.track }
         ensures legal { IsLegal self.now.track self.now.entries }
         ensures best { IsBestHistory self.now.track self.now.entries }
+        ensures few { length self.now.entries ≤ MOST_ENTRIES }
     {
         let _ = &self.entries;
     }
@@ -109,7 +110,6 @@ impl Record {
     /// How many entries the record has: 0 to 100,000.
     pub fn version(&self) -> u64
         ensures count { result ≡ length self.now.entries }
-        ensures few { result ≤ MOST_ENTRIES }
     {
         self.entries.len() as u64
     }

@@ -15,7 +15,7 @@ use Rattle.rbc_scene.proofs.scene.Scene.train_after.Goals.{After-reported}
 known_is : (c : After-reported) → option_map (λ (t : Bor TrainOnTrack). t.now.train) c.get-known.result ≡ train_numbered c.args.self.now.scene c.args.report.now.train
 known_is c =
     known_as c.get-known.result c.self.inside.book.track (train_in c.self.inside.book c.train.result) c.get-known.ensures
-    ∙ ap (train_in c.self.inside.book) c.train.ensures.train
+    ∙ ap (train_in c.self.inside.book) c.train.ensures
     ∙ ap (λ (s : SceneOnTrack). train_numbered s.scene c.args.report.now.train) c.self.view_is
 
 pub returns-clause-reported : goal.returns-clause-reported
