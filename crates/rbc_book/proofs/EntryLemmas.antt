@@ -27,13 +27,13 @@ unlike : (a b n : ℕ) → a ≡ n → ((a ≡ b) → ⊥) → (b == n) ≡ fals
 unlike a b n e h = grind arith
 
 -- the trains with one put in, and without one
-abbrev with_in : List Train → Train → List Train
+abbrev pub with_in : List Train → Train → List Train
 with_in trains train = (with_train (scene_of trains) train).trains
 
-abbrev without_in : List Train → ℕ → List Train
+abbrev pub without_in : List Train → ℕ → List Train
 without_in trains number = (without_train (scene_of trains) number).trains
 
-abbrev is_numbered : ℕ → Train → Bool
+abbrev pub is_numbered : ℕ → Train → Bool
 is_numbered n train = train.report.train == n
 
 -- ---- no other train has the number
@@ -42,12 +42,12 @@ swapped_out : (train y : Train) (ys rest : List Train) (b : Bool) → b ≡ fals
 swapped_out train y ys rest true e r = cc
 swapped_out train y ys rest false e r = ap (λ zs. y ∷ zs) r
 
-no_swap : (train x : Train) (xs : List Train) → x.report.train ≡ train.report.train → AllByRecursion (Differ x) xs → map (swap train) xs ≡ xs
+pub no_swap : (train x : Train) (xs : List Train) → x.report.train ≡ train.report.train → AllByRecursion (Differ x) xs → map (swap train) xs ≡ xs
 no_swap train x [] e h = refl
 no_swap train x (y ∷ ys) e h =
     swapped_out train y ys (map (swap train) ys) (is_numbered train.report.train y) (unlike x.report.train y.report.train train.report.train e h.0) (no_swap train x ys e h.1)
 
-none_out : (n : ℕ) (x : Train) (xs : List Train) → x.report.train ≡ n → AllByRecursion (Differ x) xs → without_in xs n ≡ xs
+pub none_out : (n : ℕ) (x : Train) (xs : List Train) → x.report.train ≡ n → AllByRecursion (Differ x) xs → without_in xs n ≡ xs
 none_out n x [] e h = refl
 none_out n x (y ∷ ys) e h = stays (is_numbered n y) (unlike x.report.train y.report.train n e h.0) (none_out n x ys e h.1)
   where
@@ -144,7 +144,7 @@ module _ (track : Track) where
         of_book = ap (λ ts. record { track = track; trains = ts }) same;
       }
 
-  differ : (es : List (ℕ × TrainOnTrack)) → AreEntries track es → EachPair Differ (trains_of es)
+  pub differ : (es : List (ℕ × TrainOnTrack)) → AreEntries track es → EachPair Differ (trains_of es)
   differ es are = let g = are.good in recursion_from_AllPairs Differ (trains_of es) g.numbers_differ
 
   pub entries-none : (es : List (ℕ × TrainOnTrack)) → es ≡ [] → AreThoseOf (record { track = track; trains = [] }) es
@@ -208,6 +208,10 @@ number_kept : (b : Bool) (train : Train) (line : Line) (to : ℕ) → (cond b (w
 number_kept true train line to = refl
 number_kept false train line to = refl
 
+pub number_cut : (book : Book) (number : ℕ) (before after : TrainOnTrack) (to : ℕ) → IsFound book number before → after.train ≡ cut_at before.track before.train to → after.train.report.train ≡ number
+number_cut book number before after to f e =
+    ap (λ (t : Train). t.report.train) e ∙ number_kept (nat_lt before.train.from to) before.train (through before.track before.train.report (max before.train.front to) before.train.line) to ∙ sym f.numbered
+
 module _ (track : Track) (book : Book) (es : List (ℕ × TrainOnTrack)) (is : book_of track es ≡ book) (are : AreEntries track es) where
   pub got : (n : ℕ) → lookup (nat_eq n) es ≡ option_map (on_track book.track) (train_in book n)
   got n = entries-get track es n are ∙ ap (λ (b : Book). option_map (on_track b.track) (train_in b n)) is
@@ -263,7 +267,7 @@ module _ (track : Track) (book : Book) (es : List (ℕ × TrainOnTrack)) (is : b
       let there : is_some (lookup (nat_eq number) es) ≡ true = got-some number ∙ ap is_some f.there in
       subst (λ t. AreThoseOf track (book_with book t) fs) same
       (placed fs number after
-      (f.numbered ∙ sym (ap (λ (t : Train). t.report.train) e ∙ number_kept (nat_lt before.train.from to) before.train (through before.track before.train.report (max before.train.front to) before.train.line) to))
+      (sym (number_cut book number before after to f e))
       (of_track ∙ f.of_track) fine
       (subst (λ t. AuthoritiesAreApart book.track (with_train (scene_of book.trains) t)) (sym same) (AuthoritiesAreApart-cut_at book.track (scene_of book.trains) number before.train to f.there c good.trains good.numbers_differ good.apart))
       (entries ∙ set_value-insert es number after there))

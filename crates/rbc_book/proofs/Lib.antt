@@ -2,3 +2,4 @@ mod CopyLemmas
 mod EntryLemmas
 mod GoodBookLemmas
 mod LegPlaceLemmas
+mod PresenceLemmas

@@ -12,8 +12,11 @@ ghost use Rattle.rbc_book.specs.Books.{HoldsOfTrain, IsGoodBook, book_with, book
 ghost use Rattle.indexmap.specs.IndexMap.{values};
 ghost use Rattle.rbc_extent.specs.TrainsOnTracks.{TrainOnTrack};
 ghost use Rattle.rbc_book.specs.Entries.{number_on, on_track};
+ghost use Rattle.rbc_book.specs.Presence.{IsAlong, others_along, tally_of};
+ghost use Rattle.rbc_model.specs.declared.limits.TheConstants.{MOST_TRAINS};
 
 use crate::places::{authority_has, extent_has, stands_on};
+use crate::presence::{Presence, Tally, count_in, count_out, nobody_on, recount, tally_at};
 use indexmap::IndexMap;
 use indexmap::map::Values;
 use rbc_extent::{Line, Train};
@@ -23,23 +26,38 @@ use std::alloc::Global;
 use std::marker::Model;
 use std::sync::Arc;
 
-/// The trains of a track in order of arrival. No two have one number, and no metre stands in the authorities of two.
+/// The trains of a track in order of arrival, at most 1,024. No two have one number, and no metre stands in the authorities
+/// of two. It knows how many have a leg of each section on their lines, so that it need not look at those that don't.
 #[derive(Drop)]
 pub struct Book {
     track: Arc<Track>,
     trains: IndexMap<u32, Train>,
+    presence: Presence,
+}
+
+/// Which of some trains have a leg of a section on their lines.
+#[derive(Clone, Copy)]
+pub enum Along<'a> {
+    /// None has one.
+    Nobody,
+    /// This one alone has.
+    One(&'a Train),
+    /// Two or more have.
+    Several,
 }
 
 impl Model for Book {
     ghost use Rattle.std.specs.Arc.{arc_value};
     ghost use Rattle.rbc_book.specs.Books.{Book};
-    ghost use Rattle.rbc_book.specs.Entries.{AreEntries, book_of};
+    ghost use Rattle.rbc_book.specs.Entries.{AreEntries, book_of, trains_of};
+    ghost use Rattle.rbc_book.specs.Presence.{ArePresent};
 
     ghost Value = { Book };
 
     ghost view = { λ b. book_of (arc_value b.track) b.trains.entries };
 
-    ghost invariant = { λ b. AreEntries (arc_value b.track) b.trains.entries };
+    ghost invariant = { λ b. AreEntries (arc_value b.track) b.trains.entries
+        × ArePresent (arc_value b.track) (trains_of b.trains.entries) b.presence.items };
 }
 
 /// The first of the trains whose authority has the metre.
@@ -83,13 +101,19 @@ fn copy_of(alloc: Global, trains: &IndexMap<u32, Train>) -> Result<IndexMap<u32,
 
 impl Book {
     /// The book of no trains.
-    pub fn new(alloc: Global, track: Arc<Track>) -> Book
-        ensures { result ≡ record { track = arc_value track; trains = [] } }
+    ///
+    /// # Errors
+    ///
+    /// `Memory`, where the allocator refuses room for what is counted on the sections.
+    pub fn new(alloc: Global, track: Arc<Track>) -> Result<Book, Memory>
+        ensures { IfOk result (λ book. book ≡ record { track = arc_value track; trains = [] }) }
     {
-        Book {
+        let presence = nobody_on(alloc, track.section_count())?;
+        Ok(Book {
             track,
             trains: IndexMap::new(alloc),
-        }
+            presence,
+        })
     }
 
     /// Each train stands on its line, with its authority. No two have one number, and no metre stands in the authorities of
@@ -129,21 +153,51 @@ impl Book {
         self.trains.get(&id.number())
     }
 
-    /// Puts in the train as it is now, in the place of the one of its number; a new train is last. It may hold no
-    /// metre that another train holds. Where memory is refused nothing changes.
+    /// The tally of the trains but the one of this number that have a leg of the section on their lines.
+    fn tally_but(&self, id: TrainId, section: SectionId) -> Tally
+        ensures { result ≡ tally_of section (book_without self.now id).trains }
+    {
+        let own = self.trains.get(&id.number());
+        tally_at(&self.presence, section).less(own, section)
+    }
+
+    /// Of the trains but the one of this number, those that have a leg of the section on their lines. It looks at no other
+    /// train.
+    pub fn others_along(&self, id: TrainId, section: SectionId) -> Along<'_>
+        ensures { IsAlong (map (on_track self.now.track) (others_along self.now id section)) result }
+    {
+        let trains = &self.trains;
+        let tally = self.tally_but(id, section);
+        if tally.trains == 0 {
+            return Along::Nobody;
+        }
+        if tally.trains > 1 {
+            return Along::Several;
+        }
+        let alone = tally.numbers as u32;
+        Along::One(trains.get(&alone).unwrap())
+    }
+
+    /// Puts in the train as it is now, in the place of the one of its number; a new train is last, and there may be as many
+    /// as 1,024. It may hold no metre that another train holds. Where memory is refused nothing changes.
     ///
     /// # Errors
     ///
     /// `Memory`, where the allocator refuses room for a new train. A train that is there needs none.
     pub fn set_place(&mut self, train: Train) -> Result<(), Memory>
         requires track { train.track ≡ self.old.track }
+        requires room { train_in self.old train.train.report.train ≡ None → length self.old.trains < MOST_TRAINS }
         requires apart { AuthoritiesAreApart self.old.track (with_train (scene_of self.old.trains) train.train) }
         ensures placed { OnOk result (self.new ≡ book_with self.old train.train) }
         ensures refused { OnErr result (self.new ≡ self.old) }
         ensures new { OnErr result (train_in self.old train.train.report.train ≡ None) }
     {
         train.known();
-        self.trains.insert(train.id().number(), train)?;
+        train.report().known();
+        let number = train.id().number();
+        let before = self.trains.insert(number, train)?;
+        let after = self.trains.get(&number).unwrap();
+        recount(&mut self.presence, before.as_ref(), after);
         Ok(())
     }
 
@@ -162,9 +216,8 @@ impl Book {
         let number = id.number();
         let train = self.trains.get(&number).unwrap();
         let held = train.with_authority(line, from, to);
-        held.known();
-        match self.trains.insert(number, held) {
-            Ok(_) => {}
+        match self.set_place(held) {
+            Ok(()) => {}
             Err(_) => unreachable!(),
         }
     }
@@ -180,8 +233,10 @@ impl Book {
             (λ train. self.new ≡ book_with self.old (cut_at self.old.track train to)) }
     {
         let train = self.trains.get_mut(&id.number()).unwrap();
+        count_out(&mut self.presence, train);
         train.cut_at(to);
         train.known();
+        count_in(&mut self.presence, train);
     }
 
     /// Takes out the train of this number. Tells whether it was there. A train that comes again is last.
@@ -189,7 +244,13 @@ impl Book {
         ensures left { self.new ≡ book_without self.old id }
         ensures known { result ≡ is_some (train_in self.old id) }
     {
-        self.trains.shift_remove(&id.number()).is_some()
+        match self.trains.shift_remove(&id.number()) {
+            Some(train) => {
+                count_out(&mut self.presence, &train);
+                true
+            }
+            None => false,
+        }
     }
 
     /// The first train whose authority has the metre.
@@ -210,6 +271,9 @@ impl Book {
     pub fn standing_on(&self, section: SectionId) -> Option<TrainId>
         ensures { result ≡ option_map number_in (find (stands_on self.now.track section) self.now.trains) }
     {
+        if tally_at(&self.presence, section).trains == 0 {
+            return None;
+        }
         first_standing_on(&self.trains, section)
     }
 
@@ -223,6 +287,11 @@ impl Book {
     {
         let track = self.track.clone()?;
         let trains = copy_of(alloc, &self.trains)?;
-        Ok(Book { track, trains })
+        let presence = Vec::from_slice(alloc, self.presence.as_slice())?;
+        Ok(Book {
+            track,
+            trains,
+            presence,
+        })
     }
 }

@@ -3,7 +3,8 @@
 
 mod book;
 mod places;
+mod presence;
 
-pub use book::Book;
+pub use book::{Along, Book};
 pub use rbc_extent::{Course, Line, Locks, Train, reported};
 pub use rbc_model::Memory;

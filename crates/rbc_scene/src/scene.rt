@@ -82,7 +82,7 @@ impl Scene {
     {
         track.known();
         let locks = Locks::new(alloc, &track)?;
-        let book = Book::new(alloc, track);
+        let book = Book::new(alloc, track)?;
         Ok(Scene { locks, book })
     }
 

@@ -54,7 +54,7 @@ span_is : (b : Bool) (metres q from to : ℕ) → span_met b metres q from to �
 span_is true metres q from to = refl
 span_is false metres q from to = refl
 
-none_along : (track : Track) (train : Train) (section q : ℕ) (line : Line) → has_section line section ≡ false → stretches_along track train section q line ≡ []
+pub none_along : (track : Track) (train : Train) (section q : ℕ) (line : Line) → has_section line section ≡ false → stretches_along track train section q line ≡ []
 none_along track train section q [] h = refl
 none_along track train section q (leg ∷ line) h =
     ap (λ (b : Bool). if b then stretch_of track train q leg ∷ stretches_along track train section (q + metres_of track leg.section) line else stretches_along track train section (q + metres_of track leg.section) line)

@@ -1,4 +1,5 @@
 pub mod LegLemmas
+pub mod StretchLemmas
 pub mod StopOnLegLemmas
 pub mod WayLemmas
 pub mod EndLemmas

@@ -1,11 +1,9 @@
--- What trains have of a section, and a table of it for all sections of a track.
-use Rattle.std.specs.Prelude.{◌≡◌, ℕ, ◌+◌, ◌-◌, min, Bool, true, false, ◌&&◌, ◌==◌, nat_le, nat_lt, if◌then◌else◌, List, [], ◌∷◌, length, flat_map, slice_get, All}
-use Rattle.std.specs.Option.{option_map_or}
+-- What trains have of a section.
+use Rattle.std.specs.Prelude.{ℕ, ◌+◌, ◌-◌, min, Bool, true, false, not, ◌&&◌, ◌==◌, nat_le, nat_lt, if◌then◌else◌, List, [], ◌∷◌, filter, flat_map, Option, Some, None}
 use Rattle.rbc_model.specs.Tracks.{Track, metres_of}
 use Rattle.rbc_model.specs.declared.places.Leg.{Leg}
 use Rattle.rbc_model.specs.Lines.{Line}
 use Rattle.rbc_model.specs.Trains.{Train}
-use Rattle.rbc_scene_laws.specs.Good.{IsGoodTrain}
 use Rattle.rbc_way.specs.declared.stretches.Row.{Row}
 use Rattle.rbc_way.specs.declared.stretches.Row.TheVariants.{Free, One, Several}
 use Rattle.rbc_way.specs.declared.stretches.Span.{Span}
@@ -44,18 +42,17 @@ stretches_along track train section q (leg ∷ line) =
 abbrev pub stretches_of : Track → List Train → ℕ → List Stretch
 stretches_of track trains section = flat_map (λ other. stretches_along track other section 0 other.line) trains
 
+-- what one has of it, if anything
+abbrev pub as_list : Option Stretch → List Stretch
+as_list None = []
+as_list (Some stretch) = stretch ∷ []
+
+-- the trains but the one of this number
+abbrev pub but : ℕ → List Train → List Train
+but number trains = filter (λ other. not (other.report.train == number)) trains
+
 -- what trains have of a section by its row, in their order
 abbrev pub stretches_in : Row → List Stretch
 stretches_in Free = []
 stretches_in (One stretch) = stretch ∷ []
 stretches_in (Several several) = several.items
-
--- what a table has for a section
-abbrev pub stretches_at : List Row → ℕ → List Stretch
-stretches_at table section = option_map_or stretches_in (slice_get table section) []
-
--- the table has for each section of the track what these trains have of it
-pub record IsTableOf (track : Track) (trains : List Train) (table : List Row) : Type 0 where
-  pub as_many : length table ≡ length track.sections
-  pub good : All (IsGoodTrain track) trains
-  pub stretches : (section : ℕ) → stretches_at table section ≡ stretches_of track trains section

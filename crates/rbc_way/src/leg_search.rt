@@ -1,21 +1,20 @@
 //! The search for the first obstacle on one leg.
 
-ghost use Rattle.std.specs.Prelude.{◌≡◌, ℕ, ◌+◌, ◌<◌, ◌≤◌, ◌^◌, length, fold, IfSome};
+ghost use Rattle.std.specs.Prelude.{◌≡◌, ℕ, ◌+◌, ◌<◌, ◌≤◌, ◌^◌, length, fold, IfOk, IfSome};
 ghost use Rattle.rbc_model.specs.Obstacles.{is_locked};
 ghost use Rattle.rbc_model.specs.Scales.{farthest};
-ghost use Rattle.rbc_model.specs.Scenes.{others as other_trains};
 ghost use Rattle.rbc_model.specs.Tracks.{metres_of};
 ghost use Rattle.rbc_model.specs.Views.{start_of};
 ghost use Rattle.rbc_model.specs.declared.refusals.Obstacle.{Obstacle};
 ghost use Rattle.rbc_reach_laws.specs.Nearest.{nearer};
 ghost use Rattle.rbc_way.specs.OnLegs.{authority_met, clear_of, extent_met, first_from, first_train, free_of, nearest_in, stop_met, stop_or, told};
-ghost use Rattle.rbc_way.specs.Reaches.{Trains, scene_of};
-ghost use Rattle.rbc_way.specs.Stretches.{IsTableOf, stretches_at};
+ghost use Rattle.rbc_way.specs.Reaches.{scene_of};
 
 use crate::bounds::limit_of;
-use crate::stretches::{Span, Stretch, Stretches};
-use rbc_book::{Locks, Train};
-use rbc_model::{Leg, Obstacle, SectionId, TrainId};
+use crate::stretches::{Span, Stretch, row_of};
+use rbc_book::{Book, Locks, Train};
+use rbc_model::{Leg, Memory, Obstacle, TrainId};
+use std::alloc::Global;
 
 /// A place with an obstacle, and the obstacle.
 #[derive(Clone, Copy)]
@@ -161,50 +160,42 @@ fn free_of(train: &Train, begin: u32, metres: u32) -> u32
     }
 }
 
-/// What the trains have of a section of the table.
-fn stretches_at(others: &Stretches, section: SectionId) -> &[Stretch]
-    requires { section < length others.now.items }
-    ensures { result.now ≡ stretches_at others.now.items section }
-{
-    others[section.index()].as_slice()
-}
-
 /// The first obstacle on a leg of the train's way, if there is one before the leg's end.
 pub(crate) fn stop_on(
+    alloc: Global,
     locks: &Locks,
-    others: &Stretches,
+    book: &Book,
     train: &Train,
     way_leg: &WayLeg,
-) -> Option<Stop>
+) -> Result<Option<Stop>, Memory>
+    requires track { train.now.track ≡ book.now.track }
     requires of_track { way_leg.now.leg.section < length train.now.track.sections }
-    requires table { length others.now.items ≡ length train.now.track.sections }
     requires fits { way_leg.now.begin + metres_of train.now.track way_leg.now.leg.section < 2 ^ 32 }
-    ensures found { (trains : Trains)
-        → IsTableOf train.now.track (other_trains (scene_of locks.now trains) train.now.train) others.now.items
-        → (rest : ℕ × Obstacle) → told result rest ≡ stop_or train.now.track (scene_of locks.now trains)
-        train.now.train way_leg.now.before way_leg.now.begin way_leg.now.leg rest }
-    ensures on_leg { IfSome result (λ stop.
-        stop.place < way_leg.now.begin + metres_of train.now.track way_leg.now.leg.section) }
+    ensures found { IfOk result (λ found. (rest : ℕ × Obstacle) → told found rest ≡ stop_or train.now.track
+        (scene_of locks.now book.now.trains) train.now.train way_leg.now.before way_leg.now.begin way_leg.now.leg rest) }
+    ensures on_leg { IfOk result (λ found. IfSome found (λ stop.
+        stop.place < way_leg.now.begin + metres_of train.now.track way_leg.now.leg.section)) }
 {
     let leg = &way_leg.leg;
     let metres = train.line().track().metres_of(leg);
-    let stretches = stretches_at(others, leg.section);
     let locked = is_locked(locks, way_leg.before, *leg);
+    let others = row_of(alloc, book, train.id(), leg.section)?;
+    book.known();
     let met = LegMet {
         leg: *leg,
         metres,
         locked,
-        stretches,
+        stretches: others.as_slice(),
     };
     let first = train.start().saturating_sub(way_leg.begin);
     let free = free_of(train, way_leg.begin, metres);
     let clear = met.clear_of(first, free);
     if clear < metres {
-        Some(Stop {
+        Ok(Some(Stop {
             place: way_leg.begin + clear,
             obstacle: met.obstacle_at(clear),
-        })
+        }))
     } else {
-        None
+        Ok(None)
     }
 }

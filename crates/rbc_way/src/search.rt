@@ -4,7 +4,6 @@ ghost use Rattle.std.specs.Prelude.{◌≡◌, ℕ, ◌≤◌, None, Some, lengt
 ghost use Rattle.std.specs.Option.{option_map_or};
 ghost use Rattle.rbc_model.specs.Lines.{last_leg, line_length};
 ghost use Rattle.rbc_model.specs.Locks.{lengthened_fully, longer_ahead};
-ghost use Rattle.rbc_model.specs.Scenes.{others as other_trains};
 ghost use Rattle.rbc_model.specs.SoundTracks.{IsSound};
 ghost use Rattle.rbc_model.specs.Views.{reach, stop};
 ghost use Rattle.rbc_model.specs.declared.refusals.Obstacle.{Obstacle};
@@ -13,24 +12,26 @@ ghost use Rattle.rbc_reach_laws.specs.Nearest.{end_obstacle, walk_on, walk_then}
 ghost use Rattle.rbc_scene_laws.specs.Good.{IsGoodLocks};
 ghost use Rattle.rbc_way.specs.OnLegs.{told};
 ghost use Rattle.rbc_way.specs.Reaches.{BeginsWay, Trains, scene_of};
-ghost use Rattle.rbc_way.specs.Stretches.{IsTableOf};
 
 use crate::found::Reach;
 use crate::leg_search::{Stop, WayLeg, stop_on};
-use crate::stretches::{Stretches, stretches_of};
 use rbc_book::{Book, Course, Line, Locks, Train};
 use rbc_model::{Leg, Memory, Obstacle};
 use std::alloc::Global;
 
 /// The first obstacle on the train's line, if there is one before its end.
-fn stop_on_line(locks: &Locks, others: &Stretches, train: &Train) -> Option<Stop>
-    requires table { length others.now.items ≡ length train.now.track.sections }
-    ensures found { (trains : Trains)
-        → IsTableOf train.now.track (other_trains (scene_of locks.now trains) train.now.train) others.now.items
-        → (finish : ℕ → ℕ × Obstacle)
-        → walk_then finish train.now.track (scene_of locks.now trains) train.now.train None 0 train.now.train.line
-        ≡ told result (finish (line_length train.now.track train.now.train.line)) }
-    ensures on_line { IfSome result (λ stop. stop.place ≤ line_length train.now.track train.now.train.line) }
+fn stop_on_line(
+    alloc: Global,
+    locks: &Locks,
+    book: &Book,
+    train: &Train,
+) -> Result<Option<Stop>, Memory>
+    requires track { train.now.track ≡ book.now.track }
+    ensures found { IfOk result (λ found. (finish : ℕ → ℕ × Obstacle) → walk_then finish train.now.track
+        (scene_of locks.now book.now.trains) train.now.train None 0 train.now.train.line
+        ≡ told found (finish (line_length train.now.track train.now.train.line))) }
+    ensures on_line { IfOk result (λ found. IfSome found (λ stop.
+        stop.place ≤ line_length train.now.track train.now.train.line)) }
 {
     let line = train.line();
     let legs = line.legs();
@@ -43,13 +44,14 @@ fn stop_on_line(locks: &Locks, others: &Stretches, train: &Train) -> Option<Stop
             begin,
             leg: *leg,
         };
-        if let Some(found) = stop_on(locks, others, train, &way_leg) {
-            return Some(found);
+        let first = stop_on(alloc, locks, book, train, &way_leg)?;
+        if first.is_some() {
+            return Ok(first);
         }
         before = Some(*leg);
         begin += line.track().metres_of(leg);
     }
-    None
+    Ok(None)
 }
 
 /// What stands at the end of a way with this last leg.
@@ -78,18 +80,17 @@ fn end_reach(locks: &Locks, line: Line) -> Reach
 fn reach_ahead(
     alloc: Global,
     locks: &Locks,
-    others: &Stretches,
+    book: &Book,
     train: &Train,
     line: Line,
 ) -> Result<Reach, Memory>
     requires track { line.track ≡ train.now.track }
+    requires book { train.now.track ≡ book.now.track }
     requires locks { IsGoodLocks train.now.track locks.now }
-    requires table { length others.now.items ≡ length train.now.track.sections }
     ensures track { IfOk result (λ found. found.track ≡ line.track) }
-    ensures stop { IfOk result (λ found. (trains : Trains)
-        → IsTableOf train.now.track (other_trains (scene_of locks.now trains) train.now.train) others.now.items
-        → walk_on train.now.track (scene_of locks.now trains) train.now.train (length train.now.track.sections)
-        line.legs (line_length train.now.track line.legs) ≡ (found.place, found.obstacle)) }
+    ensures stop { IfOk result (λ found. walk_on train.now.track (scene_of locks.now book.now.trains) train.now.train
+        (length train.now.track.sections) line.legs (line_length train.now.track line.legs)
+        ≡ (found.place, found.obstacle)) }
     ensures begins { IfOk result (λ found. (n : ℕ) × (lengthened_fully n (longer_ahead locks.now) found.line
         ≡ lengthened_fully (length train.now.track.sections) (longer_ahead locks.now) line.legs)) }
 {
@@ -108,7 +109,8 @@ fn reach_ahead(
             begin,
             leg: longer.last(),
         };
-        if let Some(found) = stop_on(locks, others, train, &way_leg) {
+        let first = stop_on(alloc, locks, book, train, &way_leg)?;
+        if let Some(found) = first {
             return Ok(Reach::new(found.place, found.obstacle, course.into_line()));
         }
     }
@@ -119,12 +121,12 @@ fn reach_ahead(
 /// lead, and what stands there. The search begins at the start of the train's authority, or at its front where that
 /// lies behind. Another train of its number does not stand in its way.
 ///
-/// It walks the legs up to the first one that is blocked or has the limit; the next leg, and what other trains have of
-/// its section, are looked up directly.
+/// It walks the legs up to the first one that is blocked or has the limit; the next leg is looked up directly, and so is
+/// another train that alone has a leg of the section on its line. Only where several have one it looks at all trains.
 ///
 /// # Errors
 ///
-/// [`Memory`] where there is none for what other trains have of the sections, or for the line.
+/// [`Memory`] where there is none for what several trains have of a section, or for the line.
 pub fn reach(alloc: Global, locks: &Locks, book: &Book, train: &Train) -> Result<Reach, Memory>
     requires track { train.now.track ≡ book.now.track }
     requires locks { IsGoodLocks book.now.track locks.now }
@@ -136,10 +138,10 @@ pub fn reach(alloc: Global, locks: &Locks, book: &Book, train: &Train) -> Result
     ensures line { IfOk result (λ found.
         BeginsWay book.now.track (scene_of locks.now book.now.trains) train.now.train found.line) }
 {
-    let others = stretches_of(alloc, book, train)?;
     let line = train.line().copy(alloc)?;
-    if let Some(found) = stop_on_line(locks, &others, train) {
+    let first = stop_on_line(alloc, locks, book, train)?;
+    if let Some(found) = first {
         return Ok(Reach::new(found.place, found.obstacle, line));
     }
-    reach_ahead(alloc, locks, &others, train, line)
+    reach_ahead(alloc, locks, book, train, line)
 }

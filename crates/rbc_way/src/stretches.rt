@@ -1,16 +1,11 @@
-//! What other trains have of each section: a table that is made once a search.
+//! What other trains have of a section.
 
-ghost use Rattle.std.specs.Prelude.{◌≡◌, ◌≢◌, ℕ, ◌<◌, ◌≤◌, ◌++◌, [], ◌∷◌, length, IfOk, OnOk};
-ghost use Rattle.rbc_model.specs.Locks.{Locks};
-ghost use Rattle.rbc_model.specs.Scenes.{others};
+ghost use Rattle.std.specs.Prelude.{◌≡◌, ◌++◌, [], ◌∷◌, IfOk, OnOk};
 ghost use Rattle.rbc_model.specs.Tracks.{metres_of};
-ghost use Rattle.rbc_model.specs.declared.limits.TheConstants.{LONGEST_TRACK};
-ghost use Rattle.rbc_way.specs.Reaches.{scene_of};
-ghost use Rattle.rbc_way.specs.Stretches.{IsTableOf, span_has, span_met_on, span_on, stretch_of, stretches_along, stretches_at, stretches_in};
+ghost use Rattle.rbc_way.specs.Stretches.{as_list, but, span_has, span_met_on, span_on, stretch_of, stretches_along, stretches_in, stretches_of};
 
-use rbc_book::{Book, Train};
+use rbc_book::{Along, Book, Train};
 use rbc_model::{Direction, Leg, Memory, SectionId, TrainId};
-use rbc_track::Track;
 use std::alloc::Global;
 use std::slice;
 
@@ -39,9 +34,6 @@ pub(crate) enum Row {
     One(Stretch),
     Several(Vec<Stretch>),
 }
-
-/// For each section of a track what trains have of it.
-pub(crate) type Stretches = Vec<Row>;
 
 /// What the places from `from` up to `to` are on a leg that begins at `begin` and is `metres` long.
 fn span_on(metres: u32, begin: u32, from: u32, to: u32) -> Span
@@ -76,6 +68,16 @@ impl Span {
 }
 
 impl Row {
+    /// The row of what a single train has.
+    fn of(stretch: Option<Stretch>) -> Row
+        ensures { stretches_in result ≡ as_list stretch }
+    {
+        match stretch {
+            Some(stretch) => Row::One(stretch),
+            None => Row::Free,
+        }
+    }
+
     /// Puts a stretch behind the others.
     fn push(&mut self, alloc: Global, stretch: Stretch) -> Result<(), Memory>
         ensures { OnOk result (stretches_in self.new ≡ stretches_in self.old ++ stretch ∷ []) }
@@ -116,42 +118,9 @@ fn stretch_of(train: &Train, begin: u32, leg: Leg, metres: u32) -> Stretch
     }
 }
 
-/// The table of a track with this number of sections, of which no train has a metre.
-fn no_stretches(alloc: Global, sections: usize) -> Result<Stretches, Memory>
-    ensures size { IfOk result (λ table. length table.items ≡ sections) }
-    ensures empty { IfOk result (λ table. (section : ℕ) → stretches_at table.items section ≡ []) }
-{
-    let mut table = Vec::with_capacity(alloc, sections)?;
-    for _count in 0..sections {
-        table.push(Row::Free)?;
-    }
-    Ok(table)
-}
-
-/// Puts a stretch behind those of its section.
-fn add_stretch(
-    alloc: Global,
-    table: &mut Stretches,
-    section: SectionId,
-    stretch: Stretch,
-) -> Result<(), Memory>
-    requires { section < length table.old.items }
-    ensures size { length table.new.items ≡ length table.old.items }
-    ensures added { OnOk result
-        (stretches_at table.new.items section ≡ stretches_at table.old.items section ++ stretch ∷ []) }
-    ensures others { OnOk result ((other : ℕ) → other ≢ section
-        → stretches_at table.new.items other ≡ stretches_at table.old.items other) }
-{
-    table[section.index()].push(alloc, stretch)
-}
-
-/// Puts in what the train has of the sections of its line.
-fn add_train(alloc: Global, table: &mut Stretches, train: &Train) -> Result<(), Memory>
-    requires { length table.old.items ≡ length train.now.track.sections }
-    ensures size { length table.new.items ≡ length table.old.items }
-    ensures added { OnOk result ((section : ℕ) → stretches_at table.new.items section
-        ≡ stretches_at table.old.items section
-        ++ stretches_along train.now.track train.now.train section 0 train.now.train.line) }
+/// What the train has of the section, if its line has a leg of it.
+fn stretch_along(train: &Train, section: SectionId) -> Option<Stretch>
+    ensures { as_list result ≡ stretches_along train.now.track train.now.train section 0 train.now.train.line }
 {
     let line = train.line();
     let legs = line.legs();
@@ -159,26 +128,67 @@ fn add_train(alloc: Global, table: &mut Stretches, train: &Train) -> Result<(), 
     let mut begin = 0;
     for leg in legs {
         let metres = line.track().metres_of(leg);
-        let stretch = stretch_of(train, begin, *leg, metres);
-        add_stretch(alloc, table, leg.section, stretch)?;
+        if leg.section == section {
+            return Some(stretch_of(train, begin, *leg, metres));
+        }
         begin += metres;
     }
-    Ok(())
+    None
 }
 
-/// What the book's trains but those of this number have of each section of the track.
-pub(crate) fn stretches_of(alloc: Global, book: &Book, train: &Train) -> Result<Stretches, Memory>
-    ensures { (locks : Locks) → IfOk result (λ table.
-        IsTableOf book.now.track (others (scene_of locks book.now.trains) train.now.train) table.items) }
+/// Puts what the train has of the section behind the others, unless it is the train of this number.
+fn add_train(
+    alloc: Global,
+    row: &mut Row,
+    train: &Train,
+    id: TrainId,
+    section: SectionId,
+) -> Result<(), Memory>
+    ensures { OnOk result (stretches_in row.new ≡ stretches_in row.old
+        ++ stretches_of train.now.track (but id (train.now.train ∷ [])) section) }
 {
-    book.known();
-    let sections = book.track().section_count();
-    let id = train.id();
-    let mut table = no_stretches(alloc, sections)?;
-    for other in book.trains() {
-        if other.id() != id {
-            add_train(alloc, &mut table, other)?;
-        }
+    if train.id() == id {
+        return Ok(());
     }
-    Ok(table)
+    match stretch_along(train, section) {
+        Some(stretch) => row.push(alloc, stretch),
+        None => Ok(()),
+    }
+}
+
+/// What the book's trains but the one of this number have of the section, by a look at each of them.
+fn row_of_several(
+    alloc: Global,
+    book: &Book,
+    id: TrainId,
+    section: SectionId,
+) -> Result<Row, Memory>
+    ensures { IfOk result (λ row. stretches_in row ≡ stretches_of book.now.track (but id book.now.trains) section) }
+{
+    let mut row = Row::Free;
+    for train in book.trains() {
+        add_train(alloc, &mut row, train, id, section)?;
+    }
+    Ok(row)
+}
+
+/// What the book's trains but the one of this number have of the section. Where one of them alone has a leg of it on its
+/// line, or none has, it looks at no other.
+///
+/// # Errors
+///
+/// [`Memory`] where there is none for what several trains have.
+pub(crate) fn row_of(
+    alloc: Global,
+    book: &Book,
+    id: TrainId,
+    section: SectionId,
+) -> Result<Row, Memory>
+    ensures { IfOk result (λ row. stretches_in row ≡ stretches_of book.now.track (but id book.now.trains) section) }
+{
+    match book.others_along(id, section) {
+        Along::Nobody => Ok(Row::Free),
+        Along::One(train) => Ok(Row::of(stretch_along(train, section))),
+        Along::Several => row_of_several(alloc, book, id, section),
+    }
 }

@@ -2,7 +2,6 @@ use Rattle.std.proofs.Common.{◌≡◌, ◌∙◌, ap, sym, subst, length, Opti
 use Rattle.rbc_model.specs.Lines.{Line, line_length}
 use Rattle.rbc_model.specs.Locks.{lengthened_fully, longer_ahead}
 use Rattle.rbc_model.specs.Obstacles.{way}
-use Rattle.rbc_model.specs.Scenes.{others}
 use Rattle.rbc_model.specs.Tracks.{Track}
 use Rattle.rbc_model.specs.Views.{reach, stop}
 use Rattle.rbc_book.specs.OnTracks.{LineOnTrack}
@@ -10,19 +9,8 @@ use Rattle.rbc_reach_laws.specs.Nearest.{walk_on}
 use Rattle.rbc_way.specs.declared.leg_search.Stop.{Stop}
 use Rattle.rbc_way.specs.OnLegs.{told}
 use Rattle.rbc_way.specs.Reaches.{BeginsWay, ReachOnTrack, scene_of}
-use Rattle.rbc_way.specs.Stretches.{IsTableOf}
 use Rattle.rbc_way.proofs.WayLemmas.{begins, if_ok, walked_reach, walked_stop}
 use Rattle.rbc_way.proofs.search.reach.Goals as goal
-
-pub stop_on_line-requires : goal.stop_on_line-requires
-stop_on_line-requires c =
-    let table = c.in_ok-others.ensures c.args.locks.now in
-    record { table = table.as_many ∙ ap (λ (x : Track). length x.sections) (sym c.requires.track) }
-
-pub reach_ahead-requires-clause-table : goal.reach_ahead-requires-clause-table
-reach_ahead-requires-clause-table c =
-    let table = c.in_ok-others.ensures c.args.locks.now in
-    table.as_many ∙ ap (λ (x : Track). length x.sections) (sym c.requires.track)
 
 -- ---- where the line itself has the first obstacle
 
@@ -32,8 +20,8 @@ returns-in-Some-clause-place c =
     let scene = scene_of c.args.locks.now c.args.book.now.trains in
     let train = c.args.train.now.train in
     let found = c.in-Some.found in
-    let table : IsTableOf t (others scene train) c.in_ok-others.others.items = subst (λ (x : Track). IsTableOf x (others scene train) c.in_ok-others.others.items) (sym c.requires.track) (c.in_ok-others.ensures c.args.locks.now) in
-    let walk = c.in-Some.ensures.found c.args.book.now.trains table (walk_on t scene train (length t.sections) train.line) in
+    let walk = c.in_ok-first.ensures.found (walk_on t scene train (length t.sections) train.line)
+    ∙ ap (λ (o : Option Stop). told o (walk_on t scene train (length t.sections) train.line (line_length t train.line))) c.in-Some.is in
     ap (λ (r : ReachOnTrack). r.place) c.new.ensures
     ∙ subst (λ (x : Track). found.place ≡ reach x scene train) c.requires.track (walked_reach t scene train found.place found.obstacle walk)
 
@@ -43,8 +31,8 @@ returns-in-Some-clause-obstacle c =
     let scene = scene_of c.args.locks.now c.args.book.now.trains in
     let train = c.args.train.now.train in
     let found = c.in-Some.found in
-    let table : IsTableOf t (others scene train) c.in_ok-others.others.items = subst (λ (x : Track). IsTableOf x (others scene train) c.in_ok-others.others.items) (sym c.requires.track) (c.in_ok-others.ensures c.args.locks.now) in
-    let walk = c.in-Some.ensures.found c.args.book.now.trains table (walk_on t scene train (length t.sections) train.line) in
+    let walk = c.in_ok-first.ensures.found (walk_on t scene train (length t.sections) train.line)
+    ∙ ap (λ (o : Option Stop). told o (walk_on t scene train (length t.sections) train.line (line_length t train.line))) c.in-Some.is in
     ap (λ (r : ReachOnTrack). r.obstacle) c.new.ensures
     ∙ subst (λ (x : Track). found.obstacle ≡ stop x scene train) c.requires.track (walked_stop t scene train found.place found.obstacle walk)
 
@@ -63,16 +51,15 @@ returns-clause-place c =
     let t = c.args.train.now.track in
     let scene = scene_of c.args.locks.now c.args.book.now.trains in
     let train = c.args.train.now.train in
-    let table : IsTableOf t (others scene train) c.in_ok-others.others.items = subst (λ (x : Track). IsTableOf x (others scene train) c.in_ok-others.others.items) (sym c.requires.track) (c.in_ok-others.ensures c.args.locks.now) in
     let legs : train.line ≡ c.in_ok-line.line.legs = sym (ap (λ (l : LineOnTrack). l.legs) c.in_ok-line.ensures ∙ c.line.ensures.legs) in
     if_ok _ (λ found. found.place ≡ reach c.args.book.now.track scene train) c.reach_ahead.result
     (λ found walked.
     subst (λ (x : Track). found.place ≡ reach x scene train) c.requires.track
     (walked_reach t scene train found.place found.obstacle
-    (c.stop_on_line.ensures.found c.args.book.now.trains table (walk_on t scene train (length t.sections) train.line)
+    (c.in_ok-first.ensures.found (walk_on t scene train (length t.sections) train.line)
     ∙ ap (λ (o : Option Stop). told o (walk_on t scene train (length t.sections) train.line (line_length t train.line))) c.in_default.is
     ∙ ap (λ (l : Line). walk_on t scene train (length t.sections) l (line_length t l)) legs
-    ∙ walked c.args.book.now.trains table)))
+    ∙ walked)))
     c.reach_ahead.ensures.stop
 
 pub returns-clause-obstacle : goal.returns-clause-obstacle
@@ -80,16 +67,15 @@ returns-clause-obstacle c =
     let t = c.args.train.now.track in
     let scene = scene_of c.args.locks.now c.args.book.now.trains in
     let train = c.args.train.now.train in
-    let table : IsTableOf t (others scene train) c.in_ok-others.others.items = subst (λ (x : Track). IsTableOf x (others scene train) c.in_ok-others.others.items) (sym c.requires.track) (c.in_ok-others.ensures c.args.locks.now) in
     let legs : train.line ≡ c.in_ok-line.line.legs = sym (ap (λ (l : LineOnTrack). l.legs) c.in_ok-line.ensures ∙ c.line.ensures.legs) in
     if_ok _ (λ found. found.obstacle ≡ stop c.args.book.now.track scene train) c.reach_ahead.result
     (λ found walked.
     subst (λ (x : Track). found.obstacle ≡ stop x scene train) c.requires.track
     (walked_stop t scene train found.place found.obstacle
-    (c.stop_on_line.ensures.found c.args.book.now.trains table (walk_on t scene train (length t.sections) train.line)
+    (c.in_ok-first.ensures.found (walk_on t scene train (length t.sections) train.line)
     ∙ ap (λ (o : Option Stop). told o (walk_on t scene train (length t.sections) train.line (line_length t train.line))) c.in_default.is
     ∙ ap (λ (l : Line). walk_on t scene train (length t.sections) l (line_length t l)) legs
-    ∙ walked c.args.book.now.trains table)))
+    ∙ walked)))
     c.reach_ahead.ensures.stop
 
 pub returns-clause-line : goal.returns-clause-line

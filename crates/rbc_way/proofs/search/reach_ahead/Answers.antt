@@ -1,7 +1,8 @@
-use Rattle.std.proofs.Common.{◌≡◌, ℕ, suc, [], ◌-◌, ◌+◌, Option, Some, length, ap, sym, ◌∙◌, subst, arith, inl, inr}
+use Rattle.std.proofs.Common.{◌≡◌, ℕ, suc, [], ◌-◌, ◌+◌, ◌<◌, Option, Some, length, ap, sym, ◌∙◌, subst, arith, inl, inr}
+use Rattle.std.specs.Prelude.{IfSome}
 use Rattle.std.specs.Option.{option_map_or}
 use Rattle.rbc_model.specs.declared.refusals.Obstacle.TheVariants.{Own}
-use Rattle.rbc_model.specs.Tracks.{Track}
+use Rattle.rbc_model.specs.Tracks.{Track, metres_of}
 use Rattle.rbc_model.specs.Lines.{line_length, last_leg}
 use Rattle.rbc_model.specs.Locks.{lengthened_fully, longer_ahead}
 use Rattle.rbc_book.specs.OnTracks.{LineOnTrack}
@@ -19,9 +20,9 @@ loop-added-init c =
     let all : length t.sections - 0 ≡ length t.sections = omega arith in
     record {
       track = ap (λ (l : LineOnTrack). l.track) c.in_ok-course.ensures ∙ c.requires.track;
-      walked = λ trains table.
-          ap (λ (m : ℕ). walk_on t (scene_of c.args.locks.now trains) c.args.train.now.train m c.in_ok-course.course.legs (line_length t c.in_ok-course.course.legs)) all
-          ∙ ap (λ (l : LineOnTrack). walk_on t (scene_of c.args.locks.now trains) c.args.train.now.train (length t.sections) l.legs (line_length t l.legs)) c.in_ok-course.ensures;
+      walked =
+          ap (λ (m : ℕ). walk_on t (scene_of c.args.locks.now c.args.book.now.trains) c.args.train.now.train m c.in_ok-course.course.legs (line_length t c.in_ok-course.course.legs)) all
+          ∙ ap (λ (l : LineOnTrack). walk_on t (scene_of c.args.locks.now c.args.book.now.trains) c.args.train.now.train (length t.sections) l.legs (line_length t l.legs)) c.in_ok-course.ensures;
       grown =
           ap (λ (m : ℕ). lengthened_fully m (longer_ahead c.args.locks.now) c.in_ok-course.course.legs) all
           ∙ ap (λ (l : LineOnTrack). lengthened_fully (length t.sections) (longer_ahead c.args.locks.now) l.legs) c.in_ok-course.ensures;
@@ -38,16 +39,16 @@ returns-then-not-branch-clause-track c =
     c.end_reach.ensures.track ∙ ap (λ (l : LineOnTrack). l.track) now ∙ c.loop-added.invariant.track ∙ sym c.requires.track
 
 pub returns-then-not-branch-clause-stop : goal.returns-then-not-branch-clause-stop
-returns-then-not-branch-clause-stop c = λ trains table.
+returns-then-not-branch-clause-stop c =
     let t = c.args.train.now.track in
-    let scene = scene_of c.args.locks.now trains in
+    let scene = scene_of c.args.locks.now c.args.book.now.trains in
     let line = c.loop-added.course.legs in
     let now : c.into_line.result ≡ c.loop-added.course = c.into_line.ensures ∙ c.in_ok-lengthen_ahead.ensures.stays c.if-not-branch.true in
     ends t scene c.args.train.now.train (length t.sections - c.loop-added._added) line _ c.end_reach.result.place c.end_reach.result.obstacle
-    (c.loop-added.invariant.walked trains table)
+    (c.loop-added.invariant.walked)
     (inr (rw c.if-not-branch.true at c.in_ok-lengthen_ahead.ensures.longer))
     (c.end_reach.ensures.place ∙ ap (λ (l : LineOnTrack). line_length l.track l.legs) now ∙ ap (λ (x : Track). line_length x line) c.loop-added.invariant.track)
-    (c.end_reach.ensures.obstacle trains ∙ ap (λ (l : LineOnTrack). option_map_or (end_obstacle scene) (last_leg l.legs) Own) now)
+    (c.end_reach.ensures.obstacle c.args.book.now.trains ∙ ap (λ (l : LineOnTrack). option_map_or (end_obstacle scene) (last_leg l.legs) Own) now)
 
 pub returns-then-not-branch-clause-begins : goal.returns-then-not-branch-clause-begins
 returns-then-not-branch-clause-begins c =
@@ -62,18 +63,18 @@ returns-clause-track c =
     c.end_reach-2.ensures.track ∙ ap (λ (l : LineOnTrack). l.track) c.into_line-2.ensures ∙ c.loop-added.invariant.track ∙ sym c.requires.track
 
 pub returns-clause-stop : goal.returns-clause-stop
-returns-clause-stop c = λ trains table.
+returns-clause-stop c =
     let t = c.args.train.now.track in
-    let scene = scene_of c.args.locks.now trains in
+    let scene = scene_of c.args.locks.now c.args.book.now.trains in
     let line = c.loop-added.course.legs in
     let count : c.section_count-count.result ≡ length t.sections =
     c.section_count-count.ensures ∙ ap (λ (l : LineOnTrack). length l.track.sections) (c.line.ensures.line ∙ c.in_ok-course.ensures) ∙ ap (λ (x : Track). length x.sections) c.requires.track in
     let test = c.loop-added-test.false in
     ends t scene c.args.train.now.train (length t.sections - c.loop-added._added) line _ c.end_reach-2.result.place c.end_reach-2.result.obstacle
-    (c.loop-added.invariant.walked trains table)
+    (c.loop-added.invariant.walked)
     (inl (omega arith))
     (c.end_reach-2.ensures.place ∙ ap (λ (l : LineOnTrack). line_length l.track l.legs) c.into_line-2.ensures ∙ ap (λ (x : Track). line_length x line) c.loop-added.invariant.track)
-    (c.end_reach-2.ensures.obstacle trains ∙ ap (λ (l : LineOnTrack). option_map_or (end_obstacle scene) (last_leg l.legs) Own) c.into_line-2.ensures)
+    (c.end_reach-2.ensures.obstacle c.args.book.now.trains ∙ ap (λ (l : LineOnTrack). option_map_or (end_obstacle scene) (last_leg l.legs) Own) c.into_line-2.ensures)
 
 pub returns-clause-begins : goal.returns-clause-begins
 returns-clause-begins c =
@@ -99,7 +100,7 @@ stop_on-requires-clause-fits c =
     let is = IsLonger-longer_ahead c.args.locks.now line longer c.last.result same (ap (λ (l : LineOnTrack). last_leg l.legs) (sym c.line-longer.ensures.line) ∙ c.last.ensures.leg) in
     let begin : c.length-begin.result ≡ line_length t line =
     c.length-begin.ensures.length ∙ ap (λ (l : LineOnTrack). line_length l.track l.legs) c.line-in-loop-added-2.ensures.line ∙ ap (λ (x : Track). line_length x line) c.loop-added.invariant.track in
-    let length = longer_length t (scene_of c.args.locks.now []) c.args.train.now.train line longer c.last.result is in
+    let length = longer_length t (scene_of c.args.locks.now c.args.book.now.trains) c.args.train.now.train line longer c.last.result is in
     let known = c.known.ensures.at_most in
     let whole = ap (λ (l : LineOnTrack). line_length l.track l.legs) c.line-longer.ensures.line ∙ ap (λ (x : Track). line_length x longer) (c.in_ok-lengthen_ahead.ensures.track ∙ c.loop-added.invariant.track) in
     omega arith
@@ -113,8 +114,8 @@ new-requires-in-Some c =
     let is = IsLonger-longer_ahead c.args.locks.now line longer c.last.result same (ap (λ (l : LineOnTrack). last_leg l.legs) (sym c.line-longer.ensures.line) ∙ c.last.ensures.leg) in
     let begin : c.length-begin.result ≡ line_length t line =
     c.length-begin.ensures.length ∙ ap (λ (l : LineOnTrack). line_length l.track l.legs) c.line-in-loop-added-2.ensures.line ∙ ap (λ (x : Track). line_length x line) c.loop-added.invariant.track in
-    let length = longer_length t (scene_of c.args.locks.now []) c.args.train.now.train line longer c.last.result is in
-    let below = c.in-Some.ensures.on_leg in
+    let length = longer_length t (scene_of c.args.locks.now c.args.book.now.trains) c.args.train.now.train line longer c.last.result is in
+    let below = subst (λ (o : Option Stop). IfSome o (λ (stop : Stop). stop.place < c.length-begin.result + metres_of t c.last.result.section)) c.in-Some.is c.in_ok-first.ensures.on_leg in
     let whole = ap (λ (l : LineOnTrack). line_length l.track l.legs) c.into_line-in-Some.ensures ∙ ap (λ (x : Track). line_length x longer) (c.in_ok-lengthen_ahead.ensures.track ∙ c.loop-added.invariant.track) in
     omega arith
 
@@ -124,7 +125,7 @@ returns-in-Some-clause-track c =
     ∙ c.in_ok-lengthen_ahead.ensures.track ∙ c.loop-added.invariant.track ∙ sym c.requires.track
 
 pub returns-in-Some-clause-stop : goal.returns-in-Some-clause-stop
-returns-in-Some-clause-stop c = λ trains table.
+returns-in-Some-clause-stop c =
     let t = c.args.train.now.track in
     let line = c.loop-added.course.legs in
     let longer = c.lengthen_ahead.new.self.legs in
@@ -138,9 +139,10 @@ returns-in-Some-clause-stop c = λ trains table.
     let test = c.loop-added-test.true in
     let n = length t.sections - (c.loop-added._added + 1) in
     let step : length t.sections - c.loop-added._added ≡ suc n = omega arith in
-    (goes_on t (scene_of c.args.locks.now trains) c.args.train.now.train n line longer _ c.last-before.result c.last.result c.length-begin.result
-    (ap (λ (m : ℕ). walk_on t (scene_of c.args.locks.now trains) c.args.train.now.train m line (line_length t line)) (sym step) ∙ c.loop-added.invariant.walked trains table) was is begin)
-    ∙ sym (c.in-Some.ensures.found trains table (walk_on t (scene_of c.args.locks.now trains) c.args.train.now.train n longer (line_length t longer)))
+    (goes_on t (scene_of c.args.locks.now c.args.book.now.trains) c.args.train.now.train n line longer _ c.last-before.result c.last.result c.length-begin.result
+    (ap (λ (m : ℕ). walk_on t (scene_of c.args.locks.now c.args.book.now.trains) c.args.train.now.train m line (line_length t line)) (sym step) ∙ c.loop-added.invariant.walked) was is begin)
+    ∙ sym (ap (λ (o : Option Stop). told o (walk_on t (scene_of c.args.locks.now c.args.book.now.trains) c.args.train.now.train n longer (line_length t longer))) (sym c.in-Some.is)
+    ∙ c.in_ok-first.ensures.found (walk_on t (scene_of c.args.locks.now c.args.book.now.trains) c.args.train.now.train n longer (line_length t longer)))
     ∙ ap (λ (r : ReachOnTrack). (r.place, r.obstacle)) (sym c.new-in-Some.ensures)
 
 pub returns-in-Some-clause-begins : goal.returns-in-Some-clause-begins
@@ -182,12 +184,12 @@ loop-added-preserved c =
     let step : length t.sections - c.loop-added._added ≡ suc n = omega arith in
     record {
       track = c.in_ok-lengthen_ahead.ensures.track ∙ c.loop-added.invariant.track;
-      walked = λ trains table.
-          let rest = walk_on t (scene_of c.args.locks.now trains) c.args.train.now.train n longer (line_length t longer) in
+      walked =
+          let rest = walk_on t (scene_of c.args.locks.now c.args.book.now.trains) c.args.train.now.train n longer (line_length t longer) in
           ap (λ (o : Option Stop). told o rest) (sym c.in_default.is)
-          ∙ c.stop_on.ensures.found trains table rest
-          ∙ sym (goes_on t (scene_of c.args.locks.now trains) c.args.train.now.train n line longer _ c.last-before.result c.last.result c.length-begin.result
-          (ap (λ (m : ℕ). walk_on t (scene_of c.args.locks.now trains) c.args.train.now.train m line (line_length t line)) (sym step) ∙ c.loop-added.invariant.walked trains table) was is begin);
+          ∙ c.in_ok-first.ensures.found rest
+          ∙ sym (goes_on t (scene_of c.args.locks.now c.args.book.now.trains) c.args.train.now.train n line longer _ c.last-before.result c.last.result c.length-begin.result
+          (ap (λ (m : ℕ). walk_on t (scene_of c.args.locks.now c.args.book.now.trains) c.args.train.now.train m line (line_length t line)) (sym step) ∙ c.loop-added.invariant.walked) was is begin);
       grown = fully_more c.args.locks.now n line longer same
           ∙ ap (λ (m : ℕ). lengthened_fully m (longer_ahead c.args.locks.now) line) (sym step)
           ∙ c.loop-added.invariant.grown;

@@ -1,18 +1,15 @@
 use Rattle.std.proofs.Common.{◌≡◌, ◌-◌, length}
 use Rattle.rbc_model.specs.Lines.{line_length}
 use Rattle.rbc_model.specs.Locks.{lengthened_fully, longer_ahead}
-use Rattle.rbc_model.specs.Scenes.{others}
 use Rattle.rbc_reach_laws.specs.Nearest.{walk_on}
-use Rattle.rbc_way.specs.Reaches.{Trains, scene_of}
-use Rattle.rbc_way.specs.Stretches.{IsTableOf}
+use Rattle.rbc_way.specs.Reaches.{scene_of}
 use Rattle.rbc_way.proofs.search.reach_ahead.Given as goal
 
 abbrev pub invariant-loop-added : goal.invariant-loop-added
 invariant-loop-added l = record {
   track : l.course.track ≡ l.train.track;
-  walked : (trains : Trains) → IsTableOf l.train.track (others (scene_of l.locks trains) l.train.train) l.others.items
-      → walk_on l.train.track (scene_of l.locks trains) l.train.train (length l.train.track.sections - l._added) l.course.legs (line_length l.train.track l.course.legs)
-      ≡ walk_on l.train.track (scene_of l.locks trains) l.train.train (length l.train.track.sections) l.fn.line.legs (line_length l.train.track l.fn.line.legs);
+  walked : walk_on l.train.track (scene_of l.locks l.book.trains) l.train.train (length l.train.track.sections - l._added) l.course.legs (line_length l.train.track l.course.legs)
+      ≡ walk_on l.train.track (scene_of l.locks l.book.trains) l.train.train (length l.train.track.sections) l.fn.line.legs (line_length l.train.track l.fn.line.legs);
   grown : lengthened_fully (length l.train.track.sections - l._added) (longer_ahead l.locks) l.course.legs
       ≡ lengthened_fully (length l.train.track.sections) (longer_ahead l.locks) l.fn.line.legs;
 }

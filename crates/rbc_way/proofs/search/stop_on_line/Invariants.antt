@@ -1,16 +1,14 @@
 use Rattle.std.proofs.Common.{◌≡◌, ℕ, ◌+◌, drop, None}
 use Rattle.rbc_model.specs.declared.refusals.Obstacle.{Obstacle}
 use Rattle.rbc_model.specs.Lines.{line_length}
-use Rattle.rbc_model.specs.Scenes.{others}
 use Rattle.rbc_reach_laws.specs.Nearest.{walk_then}
-use Rattle.rbc_way.specs.Reaches.{Trains, scene_of}
-use Rattle.rbc_way.specs.Stretches.{IsTableOf}
+use Rattle.rbc_way.specs.Reaches.{scene_of}
 use Rattle.rbc_way.proofs.search.stop_on_line.Given as goal
 
 abbrev pub invariant-loop-leg : goal.invariant-loop-leg
 invariant-loop-leg l = record {
   metres : l.begin + line_length l.train.track (drop l.leg-index l.legs) ≡ line_length l.train.track l.legs;
-  walked : (trains : Trains) → IsTableOf l.train.track (others (scene_of l.locks trains) l.train.train) l.others.items → (finish : ℕ → ℕ × Obstacle)
-      → walk_then finish l.train.track (scene_of l.locks trains) l.train.train l.before l.begin (drop l.leg-index l.legs)
-      ≡ walk_then finish l.train.track (scene_of l.locks trains) l.train.train None 0 l.legs;
+  walked : (finish : ℕ → ℕ × Obstacle)
+      → walk_then finish l.train.track (scene_of l.locks l.book.trains) l.train.train l.before l.begin (drop l.leg-index l.legs)
+      ≡ walk_then finish l.train.track (scene_of l.locks l.book.trains) l.train.train None 0 l.legs;
 }

@@ -7,5 +7,5 @@ use Rattle.rbc_scene.proofs.scene.Scene.new.Goals as goal
 
 pub invariant_of-result : goal.invariant_of-result
 invariant_of-result c =
-    kept_empty (arc_value c.args.track) c.in_ok-locks.locks c.new-book.result (c.in_ok-locks.ensures ∙ ap no_locks c.deref-2.ensures) c.new-book.ensures
+    kept_empty (arc_value c.args.track) c.in_ok-locks.locks c.in_ok-book.book (c.in_ok-locks.ensures ∙ ap no_locks c.deref-2.ensures) c.in_ok-book.ensures
     (subst IsSound c.deref.ensures c.known.ensures.sound)
