@@ -6,10 +6,9 @@ ghost use Rattle.rbc_pages.specs.Kept.{IsReady};
 use crate::command_line::Service;
 use crate::failure::Failure;
 use crate::serve::Opening;
-use rbc_pages::desk_journal::scribe::{self, ScribeName};
-use rbc_pages::desk_journal::{self, DeskJournal, Device, Opened, SeatTold, close};
-use rbc_pages::kept::Kept;
+use rbc_pages::kept::scribe::{self, ScribeName};
 use rbc_pages::kept::server::{Client, Clients, DeskName, Served, Staff, serve};
+use rbc_pages::kept::{self, DeskJournal, Device, Kept, Opened, SeatTold, close};
 use rbc_pages::{Sink, Source};
 use std::alloc::Global;
 use std::io::Eprint;
@@ -87,7 +86,7 @@ fn open<
         connections,
         blank,
     } = opening;
-    let opened = desk_journal::open::<L, D, N, T>(rt, alloc, kept, seats, blank, stamps);
+    let opened = kept::open::<L, D, N, T>(rt, alloc, kept, seats, blank, stamps);
     let Opened {
         desk,
         seats,

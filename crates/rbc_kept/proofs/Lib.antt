@@ -8,3 +8,7 @@ mod TalkLemmas
 mod GateLemmas
 mod EndLemmas
 pub mod TreatingLemmas
+mod LaterLemmas
+mod LineLemmas
+mod OpeningLemmas
+mod LastingLemmas

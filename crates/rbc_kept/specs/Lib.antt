@@ -6,6 +6,8 @@ pub mod Advances
 pub mod Laws
 pub mod Ends
 pub mod Sessions
+pub mod Entries
+pub mod Lasting
 pub use Rattle.rbc_server.specs.Keeping
 pub use Rattle.rbc_server.specs.Later
 pub use Rattle.rbc_server.specs.Records

@@ -1,22 +1,35 @@
-//! A centre whose record is kept in a journal: each entry is on the disk before the reply that tells of it is written.
+//! A centre whose record is kept in a journal, so that each entry is on the disk before the reply that tells of it is written: a
+//! session alone, or a desk with the seats of its connections.
 #![tactic(auto)]
 
 mod answering;
+mod closing;
 mod entry_line;
 mod fault;
 mod following;
+mod keeping;
 mod kept;
 mod laws;
+mod opening;
 mod replaying;
+mod request_line;
 mod saying;
 mod sessions;
 mod text;
+mod told;
 
+pub use closing::close;
 pub use entry_line::line_text;
 pub use fault::{KeptFault, RunFault};
 pub use following::follow;
+pub use keeping::DeskJournal;
 pub use kept::Kept;
-pub use laws::files_tell_one_history;
+pub use laws::{files_tell_one_history, kept_lines_last, lines_tell_first_entries};
+pub use opening::{Opened, open};
+pub use rbc_journal::Device;
+pub use rbc_scribe as scribe;
 pub use rbc_server as server;
 pub use rbc_server::words::Request;
+pub use request_line::RequestLine;
 pub use sessions::run;
+pub use told::{SeatTold, line_of};

@@ -12,10 +12,10 @@ use Rattle.rbc_model.specs.Histories.{Entry, replay}
 use Rattle.rbc_model.specs.Sessions.{lines_of, WritesText, Prints}
 use Rattle.rbc_model.specs.Talks.{Answered, IsTalk}
 use Rattle.rbc_model.specs.Tracks.{Track}
-use Rattle.rbc_desk_journal.specs.SessionRuns.{entries_of, entries_added}
-use Rattle.rbc_desk_journal.specs.Answers.{line_answer, turns_of, entries_after}
-use Rattle.rbc_desk_journal.specs.Adds.{Follows}
-use Rattle.rbc_desk_journal.specs.Records.{HistoryOnTrack}
+use Rattle.rbc_kept.specs.SessionRuns.{entries_of, entries_added}
+use Rattle.rbc_kept.specs.Answers.{line_answer, turns_of, entries_after}
+use Rattle.rbc_kept.specs.Adds.{Follows}
+use Rattle.rbc_kept.specs.Records.{HistoryOnTrack}
 use Rattle.rbc_show.specs.Pages.{head_text, scene_text, foot_text}
 use Rattle.rbc_pages.specs.declared.showing.Showing.{Showing}
 use Rattle.rbc_pages.specs.Showing.{change_text, changes_text, lines_text, end_text, shown_text, ShowsAll, reply_to, shown_line, IsShown, ShowsLine}

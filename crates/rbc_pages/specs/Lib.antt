@@ -1,4 +1,4 @@
 pub mod Showing
-pub use Rattle.rbc_desk_journal.specs.Kept
-pub use Rattle.rbc_desk_journal.specs.Retelling
-pub use Rattle.rbc_desk_journal.specs.ServeFault
+pub use Rattle.rbc_kept.specs.Kept
+pub use Rattle.rbc_kept.specs.Retelling
+pub use Rattle.rbc_kept.specs.ServeFault

@@ -4,10 +4,10 @@ use Rattle.rbc_model.specs.declared.limits.TheConstants.{LONGEST_LINE}
 use Rattle.rbc_model.specs.Histories.{Entry, replay}
 use Rattle.rbc_model.specs.Sessions.{lines_of}
 use Rattle.rbc_model.specs.Tracks.{Track}
-use Rattle.rbc_desk_journal.specs.SessionRuns.{entries_of}
-use Rattle.rbc_desk_journal.specs.Answers.{line_answer, entries_after}
-use Rattle.rbc_desk_journal.specs.Adds.{Follows}
-use Rattle.rbc_desk_journal.specs.Records.{HistoryOnTrack}
+use Rattle.rbc_kept.specs.SessionRuns.{entries_of}
+use Rattle.rbc_kept.specs.Answers.{line_answer, entries_after}
+use Rattle.rbc_kept.specs.Adds.{Follows}
+use Rattle.rbc_kept.specs.Records.{HistoryOnTrack}
 use Rattle.rbc_show.specs.Pages.{head_text, scene_text, foot_text}
 use Rattle.rbc_pages.specs.declared.showing.Showing.{Showing}
 

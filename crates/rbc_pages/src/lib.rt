@@ -3,9 +3,8 @@
 
 mod showing;
 
-pub use rbc_desk_journal as desk_journal;
-pub use rbc_desk_journal::kept;
-pub use rbc_desk_journal::kept::server::words::{Word, print_line};
+pub use rbc_kept as kept;
+pub use rbc_kept::server::words::{Word, print_line};
 pub use rbc_show::{check, draw};
 pub use rbc_streams::{SessionFault, Sink, Source, Stream, WriteFailed};
 pub use showing::show;

@@ -11,8 +11,8 @@ ghost use Rattle.rbc_show.specs.Pages.{scene_text, foot_text};
 ghost use Rattle.rbc_show.specs.declared.page.ShowFault.TheVariants.{Memory as NoMemory, Write as NoWrite};
 ghost use Rattle.rbc_pages.specs.Showing.{ShowsAll, ShowsLine, end_text, shown_line};
 
-use rbc_desk_journal::kept::follow;
-use rbc_desk_journal::kept::server::Record;
+use rbc_kept::follow;
+use rbc_kept::server::Record;
 use rbc_model::Memory;
 use rbc_model::limits::LONGEST_LINE;
 use rbc_show::{ShowFault, print_foot, print_head, show_scene};
@@ -216,7 +216,7 @@ fn finish<W: Sink>(alloc: Global, showing: &mut Showing, writer: &mut W) -> Resu
     Ok(())
 }
 
-/// Follows the lines that are read, as [`rbc_desk_journal::kept::server::run`] does, but says no reply; and writes as one page of HTML the
+/// Follows the lines that are read, as [`rbc_kept::server::run`] does, but says no reply; and writes as one page of HTML the
 /// scene that they lead to, or the scene after each line that changes something.
 ///
 /// # Errors

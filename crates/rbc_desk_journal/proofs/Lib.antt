@@ -1,4 +1,0 @@
-mod LaterLemmas
-mod LineLemmas
-mod OpeningLemmas
-mod LastingLemmas

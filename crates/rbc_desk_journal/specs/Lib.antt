@@ -1,9 +1,0 @@
-pub mod Entries
-pub mod Lasting
-pub use Rattle.rbc_kept.specs.Kept
-pub use Rattle.rbc_kept.specs.ServeFault
-pub use Rattle.rbc_kept.specs.Adds
-pub use Rattle.rbc_kept.specs.Answers
-pub use Rattle.rbc_kept.specs.Records
-pub use Rattle.rbc_kept.specs.Retelling
-pub use Rattle.rbc_kept.specs.SessionRuns

@@ -1,0 +1,59 @@
+//! A journal keeps the requests that led to the entries of a desk.
+
+use crate::{RequestLine, SeatTold, line_of};
+use rbc_journal::Device;
+use rbc_model::Memory;
+use rbc_scribe::{Pen, Scribe, ScribeName, Told};
+use rbc_server::words::Request;
+use rbc_server::{DeskName, Keeper, NotKept, Receipt, Seat};
+use std::alloc::Global;
+use std::sync::Wait;
+
+/// The journal of a desk, for its seats: a scribe that hears what they are told.
+#[derive(Drop)]
+pub struct DeskJournal<'a, T: Told + Drop, D: Device, N: ScribeName> {
+    scribe: &'a Scribe<T, D, N>,
+}
+
+impl<'a, T: Told + Drop, D: Device, N: ScribeName> DeskJournal<'a, T, D, N> {
+    /// Over the scribe of the desk.
+    pub fn over(scribe: &'a Scribe<T, D, N>) -> DeskJournal<'a, T, D, N> {
+        DeskJournal { scribe }
+    }
+}
+
+impl<'a, L: DeskName, D: Device, N: ScribeName> Keeper<L> for DeskJournal<'a, SeatTold<L>, D, N> {
+    type Pen = Pen<N>;
+
+    type Text = RequestLine;
+
+    ghost use Rattle.std.specs.Prelude.{◌≡◌, Ok};
+    ghost use Rattle.rbc_model.specs.SessionText.{parse_session};
+    ghost use Rattle.rbc_scribe.specs.Marks.{HasLine};
+
+    ghost kept = { HasLine };
+
+    ghost says = { λ line said. parse_session line ≡ Ok said };
+
+    fn keeps_nothing(&self) -> bool {
+        false
+    }
+
+    fn prepare(&self, alloc: Global, request: &Request) -> Result<RequestLine, Memory> {
+        RequestLine::of(alloc, request)
+    }
+
+    fn keep<R: Wait>(
+        &self,
+        rt: &R,
+        pen: &mut Pen<N>,
+        seat: &Seat<L>,
+        receipt: &Receipt,
+        text: RequestLine,
+    ) -> Result<(), NotKept> {
+        match self.scribe.keep(rt, pen, line_of(seat, receipt, text)) {
+            Ok(()) => Ok(()),
+            Err(_) => Err(NotKept),
+        }
+    }
+}

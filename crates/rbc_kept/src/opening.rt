@@ -1,0 +1,95 @@
+//! A desk over a record that is kept in a journal.
+
+ghost use Rattle.std.specs.Prelude.{◌≡◌, ◌≤◌, ◌⊎◌, ◌∷◌, [], length, replicate, IfOk, IfErr};
+ghost use Rattle.rbc_journal.specs.Journal.{recovered};
+ghost use Rattle.rbc_kept.specs.Kept.{IsReady};
+ghost use Rattle.rbc_server.specs.Seats.{seated};
+ghost use Rattle.rbc_scribe.specs.Stamps.{stamp_of};
+
+use crate::{Kept, KeptFault, SeatTold};
+use rbc_journal::Device;
+use rbc_scribe::{Pen, Scribe, ScribeName, Start, Told};
+use rbc_server::{Blank, Desk, DeskName, Seat};
+use std::alloc::Global;
+use std::sync::Wait;
+
+/// A desk with its seats, and the scribe of its journal with a pen for each of them.
+pub struct Opened<L: DeskName, T: Told + Drop, D: Device, N: ScribeName> {
+    /// The desk.
+    pub desk: Desk<L>,
+    /// Its seats.
+    pub seats: Vec<Seat<L>>,
+    /// The scribe, over the journal that tells the desk's record.
+    pub scribe: Scribe<T, D, N>,
+    /// A pen for each seat.
+    pub pens: Vec<Pen<N>>,
+}
+
+/// A desk over a record that its journal tells, with this number of seats, each with a pen. The file is not asked for
+/// anything.
+///
+/// # Errors
+///
+/// `Memory`, or `Full`, where the file has no room for a line of each pen. The file comes back.
+pub fn open<L: DeskName, D: Device, N: ScribeName, R: Wait>(
+    rt: &R,
+    alloc: Global,
+    kept: Kept<D>,
+    seats: usize,
+    blank: Blank,
+    stamps: rbc_scribe::Blank,
+) -> Result<Opened<L, SeatTold<L>, D, N>, (KeptFault, D)>
+    requires ready { IsReady D.seen D.may_leave kept }
+    requires opened { kept.history ≡ L.opened }
+    requires name { blank.ledger.name ≡ L.name }
+    requires parts { blank.ledger.parts ≡ L.parts }
+    requires book { blank.journal ≡ L.book }
+    requires one_each { seats ≡ L.parts }
+    requires some { (1 ≤ seats) × (seats ≤ 16) }
+    requires stamps { stamps ≡ N.book }
+
+    // The file has a line for each of the record's entries, and the pens have a stamp of them.
+    ensures lines { length (recovered (D.seen kept.journal.device)) ≡ length L.opened.entries }
+    ensures seats { IfOk result (λ opened. opened.seats.items ≡ replicate seats (seated [] L.opened)) }
+    ensures pens { IfOk result (λ opened. opened.pens.items ≡ replicate seats (stamp_of D.seen D.moment kept.journal ∷ [])) }
+    ensures back { IfErr result (λ fault. fault.1 ≡ kept.journal.device) }
+    ensures refused { IfErr result (λ fault. (fault.0 ≡ KeptFault.Memory) ⊎ (fault.0 ≡ KeptFault.Full)) }
+{
+    let (history, journal) = kept.into_parts();
+    let lines = history.version();
+    let (desk, made) = match Desk::<L>::new(rt, alloc, history, seats, blank) {
+        Ok(made) => made,
+        Err(_) => return Err((KeptFault::Memory, journal.into_device())),
+    };
+    let told = told_first(seats, made.as_slice());
+    let start = Start {
+        journal,
+        told,
+        lines,
+    };
+    match Scribe::open(rt, alloc, start, seats, stamps) {
+        Ok((scribe, pens)) => Ok(Opened {
+            desk,
+            seats: made,
+            scribe,
+            pens,
+        }),
+        Err((fault, device)) => {
+            desk.end(rt);
+            Err((KeptFault::from(fault), device))
+        }
+    }
+}
+
+/// What the first of the new seats was told.
+#[tactic(auto, using(crate::proofs::OpeningLemmas::first_of_all, crate::proofs::OpeningLemmas::none_of_some))]
+fn told_first<L: DeskName>(count: usize, seats: &[Seat<L>]) -> SeatTold<L>
+    requires some { 1 ≤ count }
+    requires new { seats.now ≡ replicate count (seated [] L.opened) }
+    ensures { result ≡ L.opened }
+{
+    match seats {
+        [first, ..] => SeatTold::of(first),
+        [] => unreachable!(),
+    }
+}
