@@ -1,5 +1,5 @@
 -- What is counted on the sections of a track, as trains are put in and taken out, and who is found by it.
-use Rattle.std.proofs.Common.{◌≡◌, ℕ, zero, suc, ◌+◌, ◌-◌, ◌*◌, ◌≤◌, ◌<◌, Bool, true, false, cond, List, [], ◌∷◌, ◌++◌, get_or, length, map, slice_get, take, nat_eq, Option, Some, None, refl, sym, ◌∙◌, ap, subst, arith}
+use Rattle.std.proofs.Common.{◌≡◌, ℕ, zero, suc, ◌+◌, ◌-◌, ◌*◌, ◌≤◌, ◌<◌, Bool, true, false, cond, List, [], ◌∷◌, ◌++◌, get_or, length, map, slice_get, take, nat_eq, Option, Some, None, refl, sym, ◌∙◌, ap, subst, ◌⊎◌, inl, inr, arith}
 use Rattle.std.specs.Prelude.{is_some, ◌==◌, ◌||◌, find, filter, not, option_map}
 use Rattle.std.specs.List.{AllByRecursion}
 use Rattle.std.specs.Map.{lookup}
@@ -16,6 +16,7 @@ use Rattle.rbc_model.specs.Trains.{Train}
 use Rattle.rbc_model.specs.Scenes.{train_numbered}
 use Rattle.rbc_model.specs.Events.{stands_on}
 use Rattle.rbc_scene_laws.proofs.BasicLemmas.{EachPair, and_left, and_right, each_filter, pairs_filter, the_some}
+use Rattle.rbc_model.proofs.BasicLemmas.{find-passes}
 use Rattle.rbc_scene_laws.proofs.LegLemmas.{stands_on-lacks}
 use Rattle.rbc_scene_laws.proofs.OnLineLemmas.{OnLine-IsLine}
 use Rattle.rbc_scene_laws.proofs.TrainListLemmas.{Differ, each_with_train, find-holds, swap}
@@ -379,6 +380,40 @@ pub alone-found : (s n : ℕ) (xs : List Train) → EachPair Differ xs → Small
 alone-found s n xs differ small a =
     found_with n (number_in a.train) a.train xs (find-holds (λ t. (t.report.train ≡ n) → ⊥) (is_numbered (number_in a.train)) (without_in xs n) a.train a.there (left-apart n xs)) a.there
 
+-- ---- of one train at most
+
+-- a tally of one train at most, and the tally without a train of this number: it is nobody's where the numbers are the same
+pub record IsOnly (n : ℕ) (t r : Tally) : Type 0 where
+  pub same : t.numbers ≡ n → r ≡ nobody
+  pub other : ((t.numbers ≡ n) → ⊥) → r ≡ t
+
+empty_is : (count : ℕ) (r : Tally) → IsWithin count r → r.trains ≡ 0 → r ≡ nobody
+empty_is count r w h =
+    let below = w.numbers in
+    let zero : r.numbers ≡ 0 = omega (arith, h, below) in
+    λ i. record { trains = h i; numbers = zero i }
+
+only-by : (b : Bool) (n count : ℕ) (t r : Tally) → t ≡ cond b (with_one n r) r → t.trains ≤ 1 → IsWithin count r → (r.trains ≡ 1 → r.numbers ≡ n → ⊥) → IsOnly n t r
+only-by true n count t r e few w apart =
+    let trains = ap (λ (x : Tally). x.trains) e in
+    let numbers = ap (λ (x : Tally). x.numbers) e in
+    let below = w.numbers in
+    let none : r.trains ≡ 0 = omega (arith, few, trains) in
+    record { same = λ h. empty_is count r w none; other = λ h. absurd (h (omega (arith, numbers, none, below))) }
+only-by false n count t r e few w apart = record {
+  same = λ h. by (either r.trains (subst (λ (x : Tally). x.trains ≤ 1) e few)) (sym (ap (λ (x : Tally). x.numbers) e) ∙ h);
+  other = λ h. sym e;
+}
+  where
+    either : (k : ℕ) → k ≤ 1 → (k ≡ 0) ⊎ (k ≡ 1)
+    either zero h = inl refl
+    either (suc zero) h = inr refl
+    either (suc (suc k)) h = absurd (omega (arith, h))
+
+    by : (r.trains ≡ 0) ⊎ (r.trains ≡ 1) → r.numbers ≡ n → r ≡ nobody
+    by (inl none) h = empty_is count r w none
+    by (inr one) h = absurd (apart one h)
+
 -- ---- nobody stands where nobody has the section
 
 stands-by : (b : Bool) (track : Track) (s : ℕ) (x : Train) (xs : List Train) (t : Tally) → has s x ≡ b → (t.trains ≡ 0 → find (stands_on track s) xs ≡ None) → (cond b (with_one (number_in x) t) t).trains ≡ 0
@@ -475,6 +510,33 @@ module _ (track : Track) (book : Book) (es : List (ℕ × TrainOnTrack)) (is : b
       let f = found track book es is are n x h in
       subst (λ l. ArePresent track l new) (sym (ap (λ (b : Book). b.trains) those.of_book))
       (present-without track book.trains n (Some x.train) tallies new all_differ here f.there size now)
+
+  -- ---- of one train at most
+
+  not_n : (n s : ℕ) → (tally_of s (without_in book.trains n)).trains ≡ 1 → (tally_of s (without_in book.trains n)).numbers ≡ n → ⊥
+  not_n n s one h =
+      let p = here in
+      let a = alone s (without_in book.trains n) (pairs_filter Differ (λ other. not (other.report.train == n)) book.trains all_differ)
+      (each_filter (λ train. number_in train ≤ LAST_TRAIN) (λ other. not (other.report.train == n)) book.trains p.numbers) one in
+      find-holds (λ t. (t.report.train ≡ n) → ⊥) (is_numbered (number_in a.train)) (without_in book.trains n) a.train a.there (left-apart n book.trains) (sym a.number ∙ h)
+
+  only-of : (n s : ℕ) (o : Option Train) → train_in book n ≡ o → (t : Tally) → t ≡ tally_at tallies s → t.trains ≤ 1 → IsOnly n t (tally_of s (without_in book.trains n))
+  only-of n s None found t is_t few =
+      let p = here in
+      let w = are_without n book.trains all_differ in
+      only-by false n (length (without_in book.trains n)) t (tally_of s (without_in book.trains n)) (is_t ∙ p.each s ∙ w.tallies s ∙ ap (λ o. tally_more o s (tally_of s (without_in book.trains n))) found) few
+      (within s (without_in book.trains n) (each_filter (λ train. number_in train ≤ LAST_TRAIN) (λ other. not (other.report.train == n)) book.trains p.numbers)) (not_n n s)
+  only-of n s (Some y) found t is_t few =
+      let p = here in
+      let w = are_without n book.trains all_differ in
+      let numbered : number_in y ≡ n = eqb-true y.report.train n (find-passes (is_numbered n) book.trains y found) in
+      only-by (has s y) n (length (without_in book.trains n)) t (tally_of s (without_in book.trains n))
+      (is_t ∙ p.each s ∙ w.tallies s ∙ ap (λ o. tally_more o s (tally_of s (without_in book.trains n))) found
+      ∙ ap (λ k. cond (has s y) (with_one k (tally_of s (without_in book.trains n))) (tally_of s (without_in book.trains n))) numbered)
+      few (within s (without_in book.trains n) (each_filter (λ train. number_in train ≤ LAST_TRAIN) (λ other. not (other.report.train == n)) book.trains p.numbers)) (not_n n s)
+
+  pub only : (n s : ℕ) (t : Tally) → t ≡ tally_at tallies s → t.trains ≤ 1 → IsOnly n t (tally_of s (without_in book.trains n))
+  only n s t is_t few = only-of n s (train_in book n) refl t is_t few
 
   -- ---- the others along a section
 

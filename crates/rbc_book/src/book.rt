@@ -153,12 +153,21 @@ impl Book {
         self.trains.get(&id.number())
     }
 
-    /// The tally of the trains but the one of this number that have a leg of the section on their lines.
+    /// The tally of the trains but the one of this number that have a leg of the section on their lines. Where one is there
+    /// alone its number tells which one it is, and no line is looked at.
     fn tally_but(&self, id: TrainId, section: SectionId) -> Tally
         ensures { result ≡ tally_of section (book_without self.now id).trains }
     {
-        let own = self.trains.get(&id.number());
-        tally_at(&self.presence, section).less(own, section)
+        let tally = tally_at(&self.presence, section);
+        if tally.trains > 1 {
+            let own = self.trains.get(&id.number());
+            return tally.less(own, section);
+        }
+        if tally.numbers == u64::from(id.number()) {
+            Tally::nobody()
+        } else {
+            tally
+        }
     }
 
     /// Of the trains but the one of this number, those that have a leg of the section on their lines. It looks at no other

@@ -23,6 +23,16 @@ pub(crate) struct Tally {
 pub(crate) type Presence = Vec<Tally>;
 
 impl Tally {
+    /// The tally of no train.
+    pub(crate) fn nobody() -> Tally
+        ensures { result ≡ nobody }
+    {
+        Tally {
+            trains: 0,
+            numbers: 0,
+        }
+    }
+
     /// The tally with a train more.
     pub(crate) fn with(self, train: TrainId) -> Tally
         requires room { HasRoom self }
@@ -62,13 +72,7 @@ pub(crate) fn nobody_on(alloc: Global, sections: usize) -> Result<Presence, Memo
     ensures empty { IfOk result (λ presence. (section : ℕ) → tally_at presence.items section ≡ nobody) }
 {
     let mut presence = Vec::new(alloc);
-    presence.resize(
-        sections,
-        Tally {
-            trains: 0,
-            numbers: 0,
-        },
-    )?;
+    presence.resize(sections, Tally::nobody())?;
     Ok(presence)
 }
 
@@ -78,10 +82,7 @@ pub(crate) fn tally_at(presence: &Presence, section: SectionId) -> Tally
 {
     match presence.get(section.index()) {
         Some(tally) => *tally,
-        None => Tally {
-            trains: 0,
-            numbers: 0,
-        },
+        None => Tally::nobody(),
     }
 }
 
