@@ -1,7 +1,7 @@
 -- Which trains have a leg of a section on their lines: how many they are, and who it is where it is one.
 use Rattle.std.specs.Prelude.{◌≡◌, ℕ, ◌+◌, ◌-◌, ◌*◌, ◌≤◌, ◌<◌, ◌==◌, not, if◌then◌else◌, List, [], ◌∷◌, length, filter, get_or, Option, Some, None}
 use Rattle.std.specs.List.{AllByRecursion}
-use Rattle.rbc_model.specs.Lines.{Line, has_section}
+use Rattle.rbc_model.specs.Lines.{has_section}
 use Rattle.rbc_model.specs.Tracks.{Track}
 use Rattle.rbc_model.specs.Trains.{Train}
 use Rattle.rbc_model.specs.declared.limits.TheConstants.{LAST_TRAIN, MOST_TRAINS}
@@ -29,11 +29,6 @@ HasRoom tally = (tally.trains < MOST_TRAINS) × (tally.numbers ≤ tally.trains 
 -- what a table has for a section
 abbrev pub tally_at : List Tally → ℕ → Tally
 tally_at tallies section = get_or tallies section nobody
-
--- a section's tally after a change for each leg of it
-abbrev pub changed_along : (Tally → Tally) → ℕ → Line → Tally → Tally
-changed_along change section [] tally = tally
-changed_along change section (leg ∷ line) tally = changed_along change section line (if leg.section == section then change tally else tally)
 
 -- the tally once a train is counted where it stands, and once it is no more
 abbrev pub tally_with : Train → ℕ → Tally → Tally
