@@ -27,10 +27,6 @@ granted view authority = record {
   obstacle = view.obstacle;
 }
 
--- the candidate of this view at this version, with this authority
-abbrev pub candidate_with : View → ℕ → Authority → Candidate
-candidate_with view version authority = record { view = view; version = version; grant = granted view authority }
-
 -- Of the best profiles for the view's speeds and gradients the grant has those that the rules choose.
 pub record HasChosenProfiles (view : View) (grant : Grants) : Type 0 where
   pub speeds : IsChosenProfile speed_levels (unit_of grant.authority.end) view.speed_steps grant.authority.end (value_at view.speeds) grant.authority.speeds

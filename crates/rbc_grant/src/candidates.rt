@@ -6,7 +6,7 @@ ghost use Rattle.rbc_model.specs.Messages.{message_bytes};
 ghost use Rattle.rbc_grant_laws.specs.Candidates.{IsCandidateOf};
 ghost use Rattle.rbc_grant.specs.Candidates.{HasChosenProfiles, AreLosses, AreGreatestTables};
 
-use crate::{Losses, PriceTables};
+use crate::{Losses, Offer, PriceTables};
 use rbc_model::{Memory, Obstacle, TrainId};
 use rbc_packet::Authority;
 use rbc_reach::View;
@@ -18,12 +18,12 @@ mod reductions;
 
 /// What may be granted to a train that was shown a view: the authority that is best for it, with its message 3 and
 /// the tables of prices that show that no profiles lose less. It knows the version of the history that the view is of.
-/// The authority lies apart, so that what keeps the grant shares it.
+/// Its offer lies apart, so that what keeps the grant shares it.
 #[derive(Drop)]
 pub struct Candidate {
     view: View,
     version: u64,
-    authority: Arc<Authority>,
+    offer: Arc<Offer>,
     message: Vec<u8>,
     losses: Losses,
     prices: PriceTables,
@@ -31,13 +31,13 @@ pub struct Candidate {
 
 impl Model for Candidate {
     ghost use Rattle.std.specs.Arc.{arc_value};
-    ghost use Rattle.rbc_grant.specs.Candidates.{Candidate, candidate_with, granted, IsCandidate};
+    ghost use Rattle.rbc_grant.specs.Candidates.{Candidate, IsCandidate};
 
     ghost Value = { Candidate };
 
-    ghost view = { λ c. candidate_with c.view c.version (arc_value c.authority) };
+    ghost view = { λ c. record { view = c.view; version = c.version; grant = arc_value c.offer } };
 
-    ghost invariant = { λ c. IsCandidate c.view (granted c.view (arc_value c.authority)) c.message.items c.losses c.prices };
+    ghost invariant = { λ c. IsCandidate c.view (arc_value c.offer) c.message.items c.losses c.prices };
 }
 
 impl Candidate {
@@ -67,39 +67,39 @@ impl Candidate {
     pub fn train(&self) -> TrainId
         ensures { result ≡ self.now.grant.train }
     {
-        self.view.train()
+        self.offer.train()
     }
 
     /// Where the authority begins, in metres from the group; it is negative before the group.
     pub fn from(&self) -> i64
         ensures { result ≡ self.now.grant.from }
     {
-        i64::from(self.view.start()) - i64::from(self.view.origin())
+        self.offer.from()
     }
 
     /// The authority.
     pub fn authority(&self) -> &Authority
         ensures authority { result.now ≡ self.now.grant.authority }
     {
-        &self.authority
+        self.offer.authority()
     }
 
-    /// The authority, for what keeps it beyond the candidate. It is not copied.
+    /// The offer, for what keeps it beyond the candidate. It is not copied.
     ///
     /// # Errors
     ///
     /// [`Memory`] where more keep it than can be counted.
-    pub fn shared_authority(&self) -> Result<Arc<Authority>, Memory>
-        ensures { IfOk result (λ shared. arc_value shared ≡ self.now.grant.authority) }
+    pub fn shared_offer(&self) -> Result<Arc<Offer>, Memory>
+        ensures { IfOk result (λ shared. arc_value shared ≡ self.now.grant) }
     {
-        Ok(self.authority.clone()?)
+        Ok(self.offer.clone()?)
     }
 
     /// What stands beyond the authority's end.
     pub fn obstacle(&self) -> Obstacle
         ensures { result ≡ self.now.grant.obstacle }
     {
-        self.view.obstacle()
+        self.offer.obstacle()
     }
 
     /// The authority as message 3: 39 to 234 bytes.

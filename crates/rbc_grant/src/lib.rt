@@ -4,9 +4,11 @@
 
 mod candidates;
 mod certificates;
+mod offer;
 
 pub use candidates::Candidate;
 pub use candidates::of_view::candidate;
 pub use certificates::{Losses, PriceTables};
+pub use offer::Offer;
 pub use rbc_model::Memory;
 pub use rbc_reach::{Locks, Scene, Train, View, view};

@@ -11,3 +11,5 @@ pub enum Entry {
     /// A train was granted this.
     Granted(Grant),
 }
+
+const _: () = prove!(size_of::<Entry>() == 40);

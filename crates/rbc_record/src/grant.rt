@@ -2,20 +2,17 @@
 
 ghost use Rattle.std.specs.Prelude.{◌≡◌, IfOk};
 
-use rbc_grant::Candidate;
+use rbc_grant::{Candidate, Offer};
 use rbc_model::{Memory, Obstacle, TrainId};
 use rbc_packet::Authority;
 use std::marker::Model;
 use std::sync::Arc;
 
-/// What was granted to a train: from where on, which authority, and what stands beyond its end. The authority lies apart
-/// and is shared with the candidate and with the same grant elsewhere, so that an entry is small.
+/// What was granted to a train: from where on, which authority, and what stands beyond its end. All of it lies apart, and
+/// is shared with the candidate and with the same grant elsewhere, so that an entry is small.
 #[derive(Drop)]
 pub struct Grant {
-    from: i64,
-    authority: Arc<Authority>,
-    train: TrainId,
-    obstacle: Obstacle,
+    offer: Arc<Offer>,
 }
 
 impl Model for Grant {
@@ -24,28 +21,20 @@ impl Model for Grant {
 
     ghost Value = { Grants };
 
-    ghost view = { λ g. record {
-      train = g.train;
-      from = g.from;
-      authority = arc_value g.authority;
-      obstacle = g.obstacle;
-    } };
+    ghost view = { λ g. arc_value g.offer };
 }
 
 impl Grant {
-    /// What the candidate would grant. The authority is shared, not copied.
+    /// What the candidate would grant. It is shared, not copied.
     ///
     /// # Errors
     ///
-    /// `Memory`, where more keep the authority than can be counted.
+    /// `Memory`, where more keep it than can be counted.
     pub fn of(candidate: &Candidate) -> Result<Grant, Memory>
         ensures { IfOk result (λ grant. grant ≡ candidate.now.grant) }
     {
         Ok(Grant {
-            from: candidate.from(),
-            authority: candidate.shared_authority()?,
-            train: candidate.train(),
-            obstacle: candidate.obstacle(),
+            offer: candidate.shared_offer()?,
         })
     }
 
@@ -53,27 +42,27 @@ impl Grant {
     pub fn train(&self) -> TrainId
         ensures { result ≡ self.now.train }
     {
-        self.train
+        self.offer.train()
     }
 
     /// Where the authority begins, in metres from the group; it is negative before the group.
     pub fn from(&self) -> i64
         ensures { result ≡ self.now.from }
     {
-        self.from
+        self.offer.from()
     }
 
     /// The authority.
     pub fn authority(&self) -> &Authority
         ensures { result.now ≡ self.now.authority }
     {
-        &self.authority
+        self.offer.authority()
     }
 
     /// What stands beyond the authority's end.
     pub fn obstacle(&self) -> Obstacle
         ensures { result ≡ self.now.obstacle }
     {
-        self.obstacle
+        self.offer.obstacle()
     }
 }

@@ -6,7 +6,7 @@ ghost use Rattle.rbc_grant.specs.Candidates.{HasChosenProfiles};
 
 use super::Candidate;
 use super::reductions::reduced;
-use crate::{Losses, PriceTables};
+use crate::{Losses, Offer, PriceTables};
 use rbc_model::Memory;
 use rbc_packet::{Authority, write_message};
 use rbc_reach::View;
@@ -20,7 +20,7 @@ use std::thread::Threads;
 ///
 /// # Errors
 ///
-/// [`Memory`] where there is none for the reductions, the message or the authority.
+/// [`Memory`] where there is none for the reductions, the message or the offer.
 pub fn candidate(
     rt: &(impl Threads + Sync),
     alloc: Global,
@@ -39,11 +39,11 @@ pub fn candidate(
     // Both profiles end where the view does, and a message can give them.
     let authority = Authority::new(time, group, nominal, speeds.profile, grades.profile).unwrap();
     let message = write_message(alloc, &authority)?;
-    let shared = Arc::new(alloc, authority)?;
+    let offer = Arc::new(alloc, Offer::of(&view, authority))?;
     Ok(Candidate {
         view,
         version,
-        authority: shared,
+        offer,
         message,
         losses: Losses {
             speeds: speeds.loss,
