@@ -6,7 +6,7 @@ use Rattle.std.specs.Map.{lookup}
 use Rattle.std.proofs.lemmas.Bool.{eqb-true, not-true, or_from, or_parts}
 use Rattle.std.proofs.lemmas.List.Folds.{list_any_more}
 use Rattle.std.proofs.lemmas.Option.{slice_get-get_or}
-use Rattle.std.proofs.lemmas.List.{length-append, length-map}
+use Rattle.std.proofs.lemmas.List.{length-append, length-map, nil_from_length}
 use Rattle.rbc_model.specs.declared.limits.TheConstants.{LAST_TRAIN, MOST_TRAINS}
 use Rattle.rbc_model.specs.Lines.{IsLine, Line, has_section}
 use Rattle.rbc_model.specs.SoundTracks.{sections_differ}
@@ -301,10 +301,6 @@ pub tally_of-count : (s : ℕ) (xs : List Train) → (tally_of s xs).trains ≡ 
 tally_of-count s [] = refl
 tally_of-count s (x ∷ xs) = counted-by (has s x) (number_in x) x (tally_of s xs) (filter (has s) xs) (tally_of-count s xs)
 
-no_length : {X : Type 0} (xs : List X) → length xs ≡ 0 → xs ≡ []
-no_length [] h = refl
-no_length (x ∷ xs) h = absurd (omega (arith, h))
-
 -- one train alone has the section
 pub record IsAlone (s : ℕ) (xs : List Train) : Type 0 where
   pub train : Train
@@ -326,7 +322,7 @@ alone-by s x xs true e w differ rest h =
     let zero_sum : (tally_of s xs).numbers + number_in x ≡ number_in x = omega (arith, none, zero) in
     record {
       train = x;
-      is = ap (λ b. cond b (x ∷ filter (has s) xs) (filter (has s) xs)) e ∙ ap (λ l. x ∷ l) (no_length (filter (has s) xs) (sym (tally_of-count s xs) ∙ none));
+      is = ap (λ b. cond b (x ∷ filter (has s) xs) (filter (has s) xs)) e ∙ ap (λ l. x ∷ l) (nil_from_length (filter (has s) xs) (sym (tally_of-count s xs) ∙ none));
       number = ap (λ b. (cond b (with_one (number_in x) (tally_of s xs)) (tally_of s xs)).numbers) e ∙ zero_sum;
       there = found_first x (train_numbered (scene_of xs) (number_in x));
     }
@@ -542,7 +538,7 @@ module _ (track : Track) (book : Book) (es : List (ℕ × TrainOnTrack)) (is : b
 
   module _ (n s : ℕ) (t : Tally) (of : t ≡ tally_of s (without_in book.trains n)) where
     pub none_else : t.trains ≡ 0 → map (on_track book.track) (others_along book n s) ≡ []
-    none_else h = ap (map (on_track book.track)) (no_length (others_along book n s) (sym (tally_of-count s (without_in book.trains n)) ∙ ap (λ (x : Tally). x.trains) (sym of) ∙ h))
+    none_else h = ap (map (on_track book.track)) (nil_from_length (others_along book n s) (sym (tally_of-count s (without_in book.trains n)) ∙ ap (λ (x : Tally). x.trains) (sym of) ∙ h))
 
     the_one : t.trains ≡ 1 → IsAlone s (without_in book.trains n)
     the_one h =

@@ -2,7 +2,7 @@
 use Rattle.std.proofs.Common.{◌≡◌, ℕ, ◌<◌, ◌≤◌, ◌+◌, Bool, true, false, List, [], ◌∷◌, ◌++◌, length, refl, sym, ap, ◌∙◌, subst, arith, inl, inr, append_assoc, append-nil, length-append, nat_lt, lit<}
 use Rattle.std.specs.Prelude.{◌⊎◌}
 use Rattle.std.specs.Bool.{MatchBool}
-use Rattle.std.proofs.lemmas.Bool.{ltb-true, lt-ltb}
+use Rattle.std.proofs.lemmas.Bool.{both_ways, ltb-true, lt-ltb}
 use Rattle.rbc_journal.specs.Device.{LeavesOnly}
 use Rattle.rbc_journal.specs.Journal.{recovered, IsBeforeOrAfter}
 use Rattle.rbc_journal.specs.Settled.{staged}
@@ -61,11 +61,8 @@ module _ {D : Type 0} (seen : D → List ℕ) where
       (not_grown first.history now.history line said treated.goes (λ less. no_more version (length now.history.entries) (subst (λ n. n < length now.history.entries) (sym is) less) more))
       device lines
     where
-      both : (b : Bool) → b ≡ false → b ≡ true → ⊥
-      both b low high = cc
-
       no_more : (m n : ℕ) → m < n → nat_lt m n ≡ false → ⊥
-      no_more m n less least = both (nat_lt m n) least (lt-ltb m n less)
+      no_more m n less least = both_ways (nat_lt m n) least (lt-ltb m n less)
 
   -- the line of the entry, if there is one, is staged
   pub told_after : (first made now : Kept D) (line text said : List ℕ) (version : ℕ) (after : HistoryOnTrack) → IsInForm first.history.track → version ≡ length first.history.entries

@@ -3,6 +3,7 @@ use Rattle.std.proofs.Common.{◌≡◌, ℕ, ◌<◌, ◌≤◌, Bool, true, fa
 use Rattle.std.specs.Prelude.{is_err}
 use Rattle.std.specs.Io.KnownBytes.{Appends, Keeps}
 use Rattle.std.proofs.KnownBytes.{Appends-nil, Appends-kept, Appends-trans}
+use Rattle.std.proofs.lemmas.Bool.{both_ways}
 use Rattle.rbc_journal.specs.Device.{LeavesOnly}
 use Rattle.rbc_journal.specs.Journal.{recovered, IsBeforeOrAfter}
 use Rattle.rbc_journal.specs.Settled.{IsSettled, staged}
@@ -12,9 +13,6 @@ use Rattle.rbc_kept.specs.Advances.{Holds, IsSaid}
 use Rattle.rbc_kept.specs.declared.kept.Kept.{Kept}
 use Rattle.rbc_kept.specs.declared.kept.TheConstants.{MOST_TOGETHER}
 use Rattle.rbc_kept.proofs.BetweenLemmas.{still}
-
-pub never_both : (b : Bool) → b ≡ false → b ≡ true → ⊥
-never_both b whole broken = cc
 
 module _ {D : Type 0} (seen : D → List ℕ) (may_leave : D → List ℕ → Type 0) (moment : D → ℕ) (left_since : D → ℕ → List ℕ → Type 0) (faults : D → ℕ)
     (only_now : (file : D) (c : List ℕ) → left_since file (moment file) c → may_leave file c) where
@@ -28,7 +26,7 @@ module _ {D : Type 0} (seen : D → List ℕ) (may_leave : D → List ℕ → Ty
         history = same;
         settled = λ whole. (subst (IsSettled seen may_leave) (sym journal) settled, works);
         said = λ whole. inl (record { silent = refl; device = device; holds = holds }, ap (λ (j : Journal D). staged j) journal, few);
-        unsaid = λ fails. absurd (never_both after.has_failed (failed ∙ whole) fails);
+        unsaid = λ fails. absurd (both_ways after.has_failed (failed ∙ whole) fails);
         any_moment = still moment left_since before.journal.device after.journal.device (IsBeforeOrAfter (recovered (seen before.journal.device)) (staged before.journal)) device
             (λ c left. inl (ap recovered (settled.durable c (only_now before.journal.device c left))));
         later = omega (arith, same_faults);

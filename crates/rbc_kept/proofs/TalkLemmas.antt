@@ -2,6 +2,7 @@
 use Rattle.std.proofs.Common.{◌≡◌, ℕ, ◌<◌, ◌≤◌, Bool, true, false, List, [], ◌∷◌, ◌++◌, length, Option, Result, Ok, Err, inl, inr, refl, sym, ap, ◌∙◌, subst, arith, append_assoc, append-nil}
 use Rattle.std.specs.Prelude.{◌↔◌, ◌||◌, ◌⊎◌, OnOk}
 use Rattle.std.specs.Bool.{IsTrue}
+use Rattle.std.proofs.lemmas.Bool.{both_ways}
 use Rattle.std.proofs.lemmas.List.{length-append, length-map}
 use Rattle.std.specs.Io.KnownBytes.{Consumes, IsAtEnd}
 use Rattle.rbc_journal.specs.Device.{LeavesOnly}
@@ -29,7 +30,6 @@ use Rattle.rbc_kept.specs.declared.kept.Kept.{Kept}
 use Rattle.rbc_kept.specs.declared.kept.TheConstants.{MOST_TOGETHER}
 use Rattle.rbc_kept.proofs.BetweenLemmas.{steady, further}
 use Rattle.rbc_kept.proofs.KeepingLemmas.{ready_goes, goes_ready}
-use Rattle.rbc_kept.proofs.SayingLemmas.{never_both}
 use Rattle.rbc_kept.proofs.TellingLemmas.{as_many}
 
 -- some lines are answered, and then others
@@ -258,7 +258,7 @@ module _ {D : Type 0} (seen : D → List ℕ) (may_leave : D → List ℕ → Ty
 
   fails_behind : (first last : Kept D) (lines : List (List ℕ)) (text : List ℕ) → first.has_failed ≡ false → last.has_failed ≡ true → Answered Steps first lines text last
       → faults first.journal.device < faults last.journal.device
-  fails_behind first last [] text works broken (none, same) = absurd (never_both last.has_failed (ap (λ (k : Kept D). k.has_failed) same ∙ works) broken)
+  fails_behind first last [] text works broken (none, same) = absurd (both_ways last.has_failed (ap (λ (k : Kept D). k.has_failed) same ∙ works) broken)
   fails_behind first last (line ∷ []) text works broken (reply, rest, next, step, whole, (none, same)) =
       let is : Steps first line reply last = subst (Steps first line reply) (sym same) step in
       let lost = is.unanswered broken in
@@ -316,7 +316,7 @@ module _ {D : Type 0} (seen : D → List ℕ) (may_leave : D → List ℕ → Ty
   cut_of : (one now last : Kept D) (lines more : List (List ℕ)) (text further : List ℕ) → Along one now lines text → last.has_failed ≡ true → Answered Steps now more further last
       → Cut one last (lines ++ more) (text ++ further)
   cut_of one now last lines [] text further a broken (none, same) =
-      absurd (never_both last.has_failed (ap (λ (k : Kept D). k.has_failed) same ∙ a.going.whole) broken)
+      absurd (both_ways last.has_failed (ap (λ (k : Kept D). k.has_failed) same ∙ a.going.whole) broken)
   cut_of one now last lines (line ∷ []) text further a broken (said, rest, next, step, whole, (none, same)) =
       let is : Steps now line said last = subst (Steps now line said) (sym same) step in
       subst (λ t. Cut one last (lines ++ line ∷ []) (text ++ t)) (sym (whole ∙ ap (λ (r : List ℕ). said ++ r) none ∙ append-nil said)) (cut_in one now last lines text line said a is broken)

@@ -1,8 +1,8 @@
 -- A track function has one spelling: two lists of runs with the same level at each metre are one list.
-use Rattle.std.proofs.Common.{◌≡◌, ℕ, ◌<◌, ◌≤◌, ◌⊎◌, inl, inr, Bool, true, false, not, List, [], ◌∷◌, Option, Some, None, refl, arith, ap, sym, ◌∙◌, nat_lt, ◌==◌}
+use Rattle.std.proofs.Common.{◌≡◌, ℕ, ◌<◌, ◌≤◌, ◌⊎◌, inl, inr, true, false, not, List, [], ◌∷◌, Option, Some, None, refl, arith, ap, sym, ◌∙◌, nat_lt, ◌==◌}
 use Rattle.std.specs.Option.{option_or}
 use Rattle.std.specs.List.{list_all}
-use Rattle.std.proofs.lemmas.Bool.{le-leb, ltb-true, lt-leb}
+use Rattle.std.proofs.lemmas.Bool.{le-leb, ltb-true, lt-leb, not-true}
 use Rattle.std.proofs.lemmas.Bool.Decides.{nat_tests}
 use Rattle.rbc_model.specs.Levels.{Levels, is_same, IsInRange, IsLawful}
 use Rattle.rbc_model.specs.Profiles.{value_at, starts_of, rises_above, is_joined, IsTrackFunction}
@@ -57,13 +57,9 @@ module _ {V : Type 0} (levels : Levels V) (lawful : IsLawful levels) (n : ℕ) w
       let once = both_of (not (is_same levels run.1 v)) (is_joined levels (run ∷ runs)) b.once in (
         ltb-true low run.0 rising.0,
         ltb-true run.0 n inside.0,
-        differs (is_same levels run.1 v) once.0,
+        not-true (is_same levels run.1 v) once.0,
         record { value = values.0; rising = rising.1; inside = inside.1; values = values.1; once = once.1 },
       )
-    where
-      differs : (b : Bool) → not b ≡ true → b ≡ false
-      differs true e = cc
-      differs false e = refl
 
   -- a value can't change where the other list keeps it
   no_change : (v w : V) → IsInRange levels v → is_same levels w v ≡ false → Some w ≡ Some v → ⊥

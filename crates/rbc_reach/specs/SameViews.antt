@@ -82,7 +82,7 @@ is_same_view a b =
 leg_eq-decides : (a b : Leg) → Decides (leg_eq a b) (a ≡ b)
 leg_eq-decides a b = (leg_eq-true a b, λ e. ap (leg_eq a) (sym e) ∙ leg_eq-itself a)
 
-group_name_eq-decides : (a b : GroupName) → Decides (group_name_eq a b) (a ≡ b)
+pub group_name_eq-decides : (a b : GroupName) → Decides (group_name_eq a b) (a ≡ b)
 group_name_eq-decides a b = (group_name_eq-true a b, λ e. ap (group_name_eq a) (sym e) ∙ group_name_eq-itself a)
 
 -- where two tests decide the parts, both decide the pair
@@ -90,7 +90,7 @@ pair_decides : {X Y : Type 0} (a b : X × Y) (first second : Bool) → Decides f
 pair_decides a b first second f s =
     Decides-like (first && second) (λ e. λ i. (e.0 i, e.1 i)) (λ e. (ap (λ p. p.0) e, ap (λ p. p.1) e)) (Decides-and first second f s)
 
-is_same_run-decides : {V : Type 0} (same : V → V → Bool) → ((v w : V) → Decides (same v w) (v ≡ w)) → (a b : ℕ × V) → Decides (is_same_run same a b) (a ≡ b)
+pub is_same_run-decides : {V : Type 0} (same : V → V → Bool) → ((v w : V) → Decides (same v w) (v ≡ w)) → (a b : ℕ × V) → Decides (is_same_run same a b) (a ≡ b)
 is_same_run-decides same decides a b = pair_decides a b (a.0 == b.0) (same a.1 b.1) (unsigned_Decides a.0 b.0) (decides a.1 b.1)
 
 pub obstacle_eq-decides : (a b : Obstacle) → Decides (obstacle_eq a b) (a ≡ b)

@@ -1,21 +1,19 @@
 -- Entries compared part by part, and the law that this tells equal entries.
-use Rattle.std.specs.Prelude.{◌≡◌, ℕ, Bool, false, ◌&&◌, ◌==◌}
+use Rattle.std.specs.Prelude.{◌≡◌, Bool, false, ◌&&◌, ◌==◌}
 use Rattle.std.specs.Bool.{Decides}
 use Rattle.std.specs.Ordering.{int_eq}
 use Rattle.std.specs.Cmp.{IsEquivalence, decided, unsigned_Decides, signed_Decides, booleans_Decides}
 use Rattle.std.specs.Cmp.Lexicographic.{pointwise, pointwise_decides}
-use Rattle.std.proofs.Common.{sym, ap, ◌∙◌}
+use Rattle.std.proofs.Common.{ap}
 use Rattle.std.proofs.Math.Bool.{beq}
 use Rattle.std.proofs.lemmas.Bool.Decides.{Decides-and, Decides-like}
 use Rattle.rbc_model.specs.declared.reports.Told.{Told}
 use Rattle.rbc_model.specs.declared.reports.Told.TheVariants.{Report as ToldReport, Lock, Free, Leave, GiveBack}
-use Rattle.rbc_model.specs.GroupNames.{GroupName}
 use Rattle.rbc_model.specs.Tracks.{group_name_eq}
 use Rattle.rbc_model.specs.Reports.{Report}
 use Rattle.rbc_model.specs.Messages.{Authority}
 use Rattle.rbc_model.specs.Histories.{Entry, Heard, Granted, Grants}
-use Rattle.rbc_model.proofs.SamenessLemmas.{group_name_eq-itself, group_name_eq-true}
-use Rattle.rbc_grant.specs.SameViews.{is_same_run, obstacle_eq, obstacle_eq-decides}
+use Rattle.rbc_grant.specs.SameViews.{group_name_eq-decides, is_same_run, is_same_run-decides, obstacle_eq, obstacle_eq-decides}
 use Rattle.rbc_record.specs.declared.entry.Entry.{Entry as EntryHeld}
 use Rattle.rbc_record.specs.declared.entry.Entry.TheVariants.{Heard as HeardHeld, Granted as GrantedHeld}
 use Rattle.rbc_record.specs.Entries.{entry_of}
@@ -56,14 +54,6 @@ abbrev pub is_same_held : EntryHeld → EntryHeld → Bool
 is_same_held a b = is_same_entry (entry_of a) (entry_of b)
 
 -- ---- this tells equal entries
-
-group_name_eq-decides : (a b : GroupName) → Decides (group_name_eq a b) (a ≡ b)
-group_name_eq-decides a b = (group_name_eq-true a b, λ e. ap (group_name_eq a) (sym e) ∙ group_name_eq-itself a)
-
-is_same_run-decides : {V : Type 0} (same : V → V → Bool) → ((v w : V) → Decides (same v w) (v ≡ w)) → (a b : ℕ × V) → Decides (is_same_run same a b) (a ≡ b)
-is_same_run-decides same decides a b =
-    Decides-like (is_same_run same a b) (λ e. λ i. (e.0 i, e.1 i)) (λ e. (ap (λ p. p.0) e, ap (λ p. p.1) e))
-    (Decides-and (a.0 == b.0) (same a.1 b.1) (unsigned_Decides a.0 b.0) (decides a.1 b.1))
 
 pub is_same_report-decides : (a b : Report) → Decides (is_same_report a b) (a ≡ b)
 is_same_report-decides a b =

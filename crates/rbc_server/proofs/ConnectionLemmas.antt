@@ -1,11 +1,12 @@
 -- Connections: each client is served from a seat.
-use Rattle.std.proofs.Common.{◌≡◌, ℕ, ◌+◌, ◌<◌, ◌≤◌, Bool, true, false, List, [], ◌∷◌, ◌++◌, length, take, map, Option, Some, None, Result, Err, refl, sym, ap, ◌∙◌, subst, append_assoc, lit≤, arith}
+use Rattle.std.proofs.Common.{◌≡◌, ℕ, ◌+◌, ◌<◌, ◌≤◌, Bool, false, List, [], ◌∷◌, ◌++◌, length, take, map, Option, Some, None, Result, Err, refl, sym, ap, ◌∙◌, subst, append_assoc, lit≤, arith}
 use Rattle.std.specs.Prelude.{◌↔◌, ◌||◌, All, IsTrue, OnOk}
-use Rattle.std.proofs.lemmas.List.{append-nil, length-map, map_push}
+use Rattle.std.proofs.KnownBytes.{Appends-nil, Consumes-nil}
+use Rattle.std.proofs.lemmas.List.{append-nil, length-map, map_push, nil_from_length}
 use Rattle.std.proofs.lemmas.List.Elements.{All-nil, All-cons, All-map}
 use Rattle.std.proofs.lemmas.Bool.{or_parts}
 use Rattle.std.specs.List.{AllZip, list_any}
-use Rattle.std.specs.Io.KnownBytes.{Appends, Consumes, IsAtEnd}
+use Rattle.std.specs.Io.KnownBytes.{Consumes, IsAtEnd}
 use Rattle.rbc_model.specs.declared.sessions.SessionFault.{SessionFault}
 use Rattle.rbc_model.specs.declared.sessions.SessionFault.TheVariants.{Read, Write, Memory}
 use Rattle.rbc_port.specs.Clients.{Came, Coming, FewerCome, NoneComes, Parting, unheard}
@@ -55,18 +56,6 @@ module _ {L P : Type 0} (kept : P → ℕ → Type 0) where
       } in
       subst (λ (w : Parting). IsConnection kept (record { came = came; before = before; after = after; went = w })) (sym parted) whole
 
-pub or_right : (a b : Bool) → IsTrue b → IsTrue (a || b)
-or_right true b is = refl
-or_right false b is = is
-
-consumes_nothing : (known : Option (List ℕ)) → Consumes known known []
-consumes_nothing None = tt
-consumes_nothing (Some bytes) = refl
-
-pub appends_nothing : (known : Option (List ℕ)) → Appends known known []
-appends_nothing None = tt
-appends_nothing (Some bytes) = sym (append-nil bytes)
-
 no_truth : IsTrue false → ⊥
 no_truth e = cc
 
@@ -82,20 +71,20 @@ pub none_begun : {L P : Type 0} (kept : P → ℕ → Type 0) (came : Coming) (s
 none_begun kept came sitting went parted =
     let seat = sitting.seat in
     let session : IsSeatSession seat seat [] came.told came.told (Err Memory) =
-    record { turns = []; rest = []; lines = refl; few = lit≤ tt; each = refl; receipts = sym (append-nil seat.receipts); ends = (appends_nothing came.told, refl) } in
+    record { turns = []; rest = []; lines = refl; few = lit≤ tt; each = refl; receipts = sym (append-nil seat.receipts); ends = (Appends-nil came.told, refl) } in
     let none : AreToldKept (kept sitting.pen) sitting.has_failed [] came.told came.told = record {
       told = [];
       untold = [];
       all = refl;
       none_untold = λ _. refl;
       one_untold = lit≤ tt;
-      written = ([], [], refl, appends_nothing came.told);
+      written = ([], [], refl, Appends-nil came.told);
       each = All-nil (λ (turn : SeatTurn). IsKept (kept sitting.pen) turn.receipt);
     } in
     let parting : Parting = record { unread = came.says; told = came.told; held_back = []; read_failed = false; write_failed = false; ended = Err Memory } in
     let whole : IsConnection kept (record { came = came; before = sitting; after = sitting; went = parting }) = record {
       input = [];
-      read = consumes_nothing came.says;
+      read = Consumes-nil came.says;
       session = session;
       answers = tt;
       is_kept = none;
@@ -143,15 +132,11 @@ one_mapped f handles more h y is mine = ap (map f) is ∙ map_push f handles h �
 
 -- ---- all connections
 
-no_items : {A : Type 0} (xs : List A) → length xs ≡ 0 → xs ≡ []
-no_items [] e = refl
-no_items (x ∷ xs) e = absurd (omega (arith, e))
-
 -- what came back of each handle, where nothing is left to come
 pub all_came : {H S : Type 0} (R : H → S → Type 0) (handles begun rest : List H) (back : List S)
     → ((more : List S) → AllZip R rest more → AllZip R begun (back ++ more)) → length rest ≡ 0 → begun ≡ handles → AllZip R handles back
 all_came R handles begun rest back goes over same =
-    subst (λ l. AllZip R l back) same (subst (AllZip R begun) (append-nil back) (goes [] (rw (no_items rest over) tt)))
+    subst (λ l. AllZip R l back) same (subst (AllZip R begun) (append-nil back) (goes [] (rw (nil_from_length rest over) tt)))
 
 -- a seat more went to a thread that promised to keep what it had
 pub one_handed : {H S : Type 0} (promised : H → S) (handles more : List H) (h : H) (s : S) (left rest all : List S) → map promised handles ++ left ≡ all → left ≡ s ∷ rest
@@ -206,7 +191,7 @@ module _ {H V L P : Type 0} (keeps : P → ℕ → Type 0) (came : H → Coming)
   pub connected : (handles : List H) (visits : List V) (sittings left : List (Sitting L P)) (coming later : Option (List Coming)) → AllZip Kept handles visits
       → map before handles ++ left ≡ sittings → length left ≡ 0 → Came coming later (map came handles) → AreConnections keeps coming sittings (map after visits) (map went visits)
   connected handles visits sittings left coming later kept begun over came_first =
-      let whole : map before handles ≡ sittings = sym (append-nil (map before handles)) ∙ ap (λ l. map before handles ++ l) (sym (no_items left over)) ∙ begun in
+      let whole : map before handles ≡ sittings = sym (append-nil (map before handles)) ∙ ap (λ l. map before handles ++ l) (sym (nil_from_length left over)) ∙ begun in
       record {
         connections = all_joined handles visits;
         each = all_kept handles visits kept;

@@ -2,6 +2,7 @@
 use Rattle.std.proofs.Common.{◌≡◌, ℕ, ◌<◌, ◌≤◌, ◌+◌, Bool, true, false, List, [], ◌∷◌, ◌++◌, length, take, get_or, Option, Result, Ok, Err, inl, inr, refl, sym, ap, ◌∙◌, subst, append_assoc, append-nil, arith}
 use Rattle.std.specs.Prelude.{All, ◌||◌, ◌⊎◌, MatchBool}
 use Rattle.std.specs.List.{flat_map}
+use Rattle.std.proofs.lemmas.Bool.{or_right}
 use Rattle.std.proofs.lemmas.List.{take_all, take_more}
 use Rattle.std.proofs.lemmas.List.Elements.{All-nil, All-push}
 use Rattle.rbc_model.specs.HistoryText.{IsToldOfTrack}
@@ -114,9 +115,5 @@ module _ {E : Type 0} (old new : Option (List ℕ)) (writer_failed : Bool) (earl
   pub cut_early : (fault : E) (failed : Bool) → Prints old new writer_failed early (Err fault) → Prints old new (failed || writer_failed) (early ++ late) (Err fault)
   cut_early fault failed printed = record {
     text = longer_part old new early late printed.text;
-    failed = either failed writer_failed printed.failed;
+    failed = or_right failed writer_failed printed.failed;
   }
-    where
-      either : (a b : Bool) → b ≡ true → (a || b) ≡ true
-      either true b is = refl
-      either false b is = is

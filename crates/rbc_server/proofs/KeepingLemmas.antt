@@ -1,5 +1,7 @@
 -- What is asked for is treated, and its reply is written once what led to the entry is kept.
 use Rattle.std.proofs.Common.{◌≡◌, ◌≢◌, ℕ, zero, suc, Bool, true, false, cond, List, [], ◌∷◌, ◌++◌, length, take, Option, Some, None, Result, Ok, Err, inl, inr, refl, sym, ap, ◌∙◌, subst, append-nil}
+use Rattle.std.proofs.KnownBytes.{Appends-nil}
+use Rattle.std.proofs.lemmas.Bool.{both_ways}
 use Rattle.std.proofs.lemmas.Option.{none-some}
 use Rattle.std.specs.Prelude.{◌||◌, is_err, slice_get}
 use Rattle.std.specs.Io.KnownBytes.{Appends}
@@ -27,7 +29,7 @@ use Rattle.rbc_server.specs.Keeping.{AddsEntry}
 use Rattle.rbc_server.specs.SeatTurns.{AnswersDemandAtDesk, IsAnsweredSince}
 use Rattle.rbc_server.specs.Sittings.{StaysKept, Treats}
 use Rattle.rbc_server.specs.declared.sitting.Sitting.{Sitting}
-use Rattle.rbc_server.proofs.ConnectionLemmas.{appends_nothing, take_append}
+use Rattle.rbc_server.proofs.ConnectionLemmas.{take_append}
 
 -- ---- what a request adds
 
@@ -82,7 +84,7 @@ module _ {E : Type 0} (old new : Option (List ℕ)) (writer_failed : Bool) (repl
 prints_none : {E : Type 0} (old new : Option (List ℕ)) (result : Result (Unit {0}) E) → new ≡ old → is_err result ≡ true → Prints old new true [] result
 prints_none old new (Ok done) same fails = absurd (let c : ⊥ = cc in c)
 prints_none old new (Err fault) same fails =
-    record { text = ([], [], refl, subst (λ w. Appends old w []) (sym same) (appends_nothing old)); failed = refl }
+    record { text = ([], [], refl, subst (λ w. Appends old w []) (sym same) (Appends-nil old)); failed = refl }
 
 pub prints_said : {E : Type 0} (old new : Option (List ℕ)) (failed writer_failed : Bool) (reply : List ℕ) (result : Result (Unit {0}) E) → (failed ≡ false → Prints old new writer_failed reply result)
     → (failed ≡ true → (new ≡ old) × (is_err result ≡ true)) → Prints old new (failed || writer_failed) (cond failed [] reply) result
@@ -101,11 +103,8 @@ module _ {L P : Type 0} (kept : P → ℕ → Type 0) (demand : Result Demand Se
     comes = (None, answers, receipts ∙ sym (append-nil before.seat.receipts));
     stays = subst (λ p. StaysKept kept before.pen p) (sym pen) (λ place k. k);
     said = λ _. (refl, tt);
-    unsaid = λ failed. absurd (both (same ∙ whole) failed);
+    unsaid = λ failed. absurd (both_ways after.has_failed (same ∙ whole) failed);
   }
-    where
-      both : {b : Bool} → b ≡ false → b ≡ true → ⊥
-      both low high = cc
 
   -- an entry was, and it is kept, unless keeping has failed
   pub treats_entered : (before after : Sitting L P) (seat : Seated) (receipt : Receipt) (reply : List ℕ) → before.has_failed ≡ false → after.seat ≡ seat

@@ -3,6 +3,7 @@ use Rattle.std.proofs.Common.{◌≡◌, ℕ, ◌≤◌, Bool, true, false, List
 use Rattle.std.specs.Prelude.{All, IsTrue, ◌||◌, ◌⊎◌}
 use Rattle.std.specs.List.{flat_map}
 use Rattle.std.specs.Io.KnownBytes.{Appends}
+use Rattle.std.proofs.lemmas.Bool.{both_ways}
 use Rattle.std.proofs.lemmas.List.{length-map}
 use Rattle.std.proofs.lemmas.List.Concat.{flat_map-append}
 use Rattle.std.proofs.lemmas.List.Elements.{All-nil, All-cons}
@@ -32,9 +33,6 @@ use Rattle.rbc_server.proofs.SeatSessionLemmas.{begins_turns, turn_track}
 still_kept : {P : Type 0} (kept : P → ℕ → Type 0) (one other : P) (receipt : Option Receipt) → StaysKept kept one other → IsKept (kept one) receipt → IsKept (kept other) receipt
 still_kept kept one other None stays is = tt
 still_kept kept one other (Some receipt) stays is = stays receipt.place is
-
-both : {b : Bool} → b ≡ false → b ≡ true → ⊥
-both low high = cc
 
 -- ---- how it ended
 
@@ -147,7 +145,7 @@ module _ {L P : Type 0} (kept : P → ℕ → Type 0) where
         untold = turn ∷ [];
         of_lines = refl;
         said = is ∙ ap (λ r. r ++ rest) (goes.unsaid failed) ∙ none;
-        none_untold = λ whole. absurd (both whole failed);
+        none_untold = λ whole. absurd (both_ways _ whole failed);
         one_untold = lit≤ tt;
         right = (comes.1, refl);
         receipts = comes.2 ∙ ap (λ r. before.seat.receipts ++ r) (sym (append-nil (receipts_of comes.0)));
@@ -181,7 +179,7 @@ module _ {L P : Type 0} (kept : P → ℕ → Type 0) where
         comes = comes;
         stays = λ place k. k;
         said = λ _. (refl, kept_at_once comes.0);
-        unsaid = λ failed. absurd (both refl failed);
+        unsaid = λ failed. absurd (both_ways _ refl failed);
       }) refl is more
     where
       kept_at_once : (receipt : Option Receipt) → IsKept (kept before.pen) receipt
@@ -271,7 +269,7 @@ module _ {L P : Type 0} (kept : P → ℕ → Type 0) where
             by_failure false whole more then turns = one_told mid.sitting next.sitting after.sitting line late rest more (late ++ rest) treats whole refl turns
             by_failure true failed [] (said, same) turns =
                 one_untold_last mid.sitting next.sitting after.sitting line late rest (late ++ rest) treats failed refl said (ap (λ (h : Hearing L P). h.sitting) same)
-            by_failure true failed (other ∷ more) (said, others, behind, advances, so, still) turns = absurd (both (advances_whole next behind other said advances) failed)
+            by_failure true failed (other ∷ more) (said, others, behind, advances, so, still) turns = absurd (both_ways _ (advances_whole next behind other said advances) failed)
 
         by : Continues → (Rests track kept before line next × (reply ≡ []))
             ⊎ (((behind : Hearing L P) × Rests track kept before line behind × CatchesUp kept behind reply next) ⊎ CatchesUpAndTreats kept before line reply next)

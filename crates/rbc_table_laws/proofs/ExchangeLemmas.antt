@@ -2,6 +2,8 @@
 -- A place between two breaks lies where all metres are alike. Of the two steps that meet there the cheaper one is
 -- stretched up to a break, and the dearer one loses its metres there; which one is cheaper is known only once both are.
 use Rattle.std.proofs.Common.{◌≡◌, refl, ap, sym, arith, ℕ, zero, suc, ◌+◌, ◌-◌, ◌<◌, ◌≤◌, ◌⊎◌, inl, inr, List, [], ◌∷◌, length}
+use Rattle.std.proofs.lemmas.Bool.{cases_lt}
+use Rattle.rbc_model.proofs.BasicLemmas.{next_or_at_most}
 use Rattle.rbc_table_laws.proofs.WayLemmas.{Reach, reach_more, reach_on}
 
 -- the values; what one loses over the metres before a place; whether one may be given between two places; m stretches
@@ -41,13 +43,10 @@ module _ {V : Type 0} (spent : V → ℕ → ℕ) (May : V → ℕ → ℕ → T
   module _ (world : IsWorld) where
     breaks_up : (i j : ℕ) → i ≤ j → j ≤ m → break i ≤ break j
     breaks_up i zero h inside = let same : break i ≡ break 0 = ap break (omega arith) in omega arith
-    breaks_up i (suc j) h inside = elim (last_or_before i j h) [
+    breaks_up i (suc j) h inside = elim (next_or_at_most i j h) [
       | inl e ↦ let same : break i ≡ break (suc j) = ap break e in omega arith
       | inr l ↦ let before = breaks_up i j l (omega arith) in let up = world.breaks_rise j (omega arith) in omega arith
     ]
-      where
-        last_or_before : (i j : ℕ) → i ≤ suc j → (i ≡ suc j) ⊎ (i ≤ j)
-        last_or_before i j h = grind arith
 
     next_or_later : (i to : ℕ) → i < to → (to ≡ suc i) ⊎ (suc i < to)
     next_or_later i to h = grind arith
@@ -172,13 +171,10 @@ module _ {V : Type 0} (spent : V → ℕ → ℕ) (May : V → ℕ → ℕ → T
 
     pub find_in : (count x : ℕ) → count ≤ m → x < break count → IsIn x
     find_in zero x room h = let first = world.first_break in absurd (omega arith)
-    find_in (suc count) x room h = elim (before_or_in x (break count)) [
+    find_in (suc count) x room h = elim (cases_lt x (break count)) [
       | inl before ↦ find_in count x (omega arith) before
       | inr low ↦ record { stretch = count; inside = omega arith; low = low; high = h }
     ]
-      where
-        before_or_in : (x y : ℕ) → (x < y) ⊎ (y ≤ x)
-        before_or_in x y = grind arith
 
     -- ---- lists of steps
 

@@ -1,4 +1,5 @@
-use Rattle.rbc_server.proofs.ConnectionLemmas.{none_begun, or_right, talked}
+use Rattle.std.proofs.lemmas.Bool.{or_right}
+use Rattle.rbc_server.proofs.ConnectionLemmas.{none_begun, talked}
 use Rattle.rbc_server.proofs.connections.connection.Goals as goal
 
 pub returns-in-Err : goal.returns-in-Err
