@@ -2,11 +2,11 @@
 
 ghost use Rattle.std.specs.Prelude.{◌≡◌, []};
 
-use crate::command_line::Service;
 use crate::failure::Failure;
 use crate::history::write_history;
 use crate::serve::open_port;
 use crate::serve_kept::serve_kept;
+use rbc_command_line::Service;
 use rbc_pages::Stream;
 use rbc_pages::kept::server::Record;
 use rbc_pages::kept::{self, Kept};

@@ -1,19 +1,18 @@
 //! The program `rbc`, the deciding part of an ETCS Level 2 radio block centre.
 #![tactic(auto)]
 
-mod command_line;
 mod failure;
 mod history;
 mod journal;
 mod serve;
 mod serve_kept;
 
-use command_line::{Centre, Printing, Service, Shown, Task};
 use failure::Failure;
 use history::write_history;
 pub use journal::JournalFault;
 use journal::{run_kept, serve_with};
 pub use rbc_certifier::steps;
+use rbc_command_line::{Centre, Printing, Service, Shown, Task};
 pub use rbc_fields::{Form, Json, Plain, decode};
 use rbc_model::Memory;
 use rbc_pages::Stream;
@@ -58,7 +57,7 @@ fn run(
 ) -> Result<(), Failure> {
     let alloc = rt.alloc();
     let words: Vec<String> = env::args(rt)?.collect(alloc)?;
-    match command_line::read(alloc, words.as_slice())? {
+    match rbc_command_line::read(alloc, words.as_slice())? {
         Task::Steps => {
             steps(
                 rt,

@@ -4,8 +4,8 @@ ghost use Rattle.std.specs.Prelude.{◌≡◌, ◌<◌, ◌≤◌, false, [], On
 ghost use Rattle.rbc_model.specs.Sessions.{Prints};
 ghost use Rattle.rbc.specs.Listening.{listening_line};
 
-use crate::command_line::Service;
 use crate::failure::Failure;
+use rbc_command_line::Service;
 use rbc_pages::kept::server::{
     self, Blank, Client, Clients, Desk, DeskName, NoJournal, Port, Record, ServeFault, Staff,
     no_pens,

@@ -3,9 +3,9 @@
 ghost use Rattle.std.specs.Prelude.{◌≡◌, ◌<◌, ◌≤◌, false};
 ghost use Rattle.rbc_pages.specs.Kept.{IsReady};
 
-use crate::command_line::Service;
 use crate::failure::Failure;
 use crate::serve::Opening;
+use rbc_command_line::Service;
 use rbc_pages::kept::scribe::{self, ScribeName};
 use rbc_pages::kept::server::{Client, Clients, DeskName, Served, Staff, serve};
 use rbc_pages::kept::{self, DeskJournal, Device, Kept, Opened, SeatTold, close};

@@ -1,9 +1,10 @@
-//! The command line of the program.
+//! The command line of the program `rbc`.
+#![tactic(auto)]
 
 ghost use Rattle.std.specs.Prelude.{◌≤◌};
 
 use clap::{Arg, ArgAction, ArgMatches, Command, Error, value_parser};
-use rbc_pages::kept::server::Terms;
+use rbc_port::Terms;
 use std::alloc::{AllocError, Global};
 use std::time::Duration;
 
@@ -88,67 +89,92 @@ Requests, one a line:
 /// Reads the command line, whose first word is the program's name. A line that asks for help is an error whose exit
 /// code is 0.
 pub fn read<'a>(alloc: Global, words: &'a [String]) -> Result<Task<'a>, Error> {
-    let steps = Command::new(alloc, "steps").about(
+    let command = Command::new(alloc, "rbc")
+        .about("The deciding part of an ETCS Level 2 radio block centre")
+        .subcommand_required(true)
+        .subcommand(steps(alloc))?
+        .subcommand(check(alloc))?
+        .subcommand(decode(alloc)?)?
+        .subcommand(draw(alloc))?
+        .subcommand(run(alloc)?)?
+        .subcommand(show(alloc)?)?
+        .subcommand(serve(alloc)?)?;
+    let matches = command.try_get_matches_from(words)?;
+    Ok(task_in(&matches))
+}
+
+/// What a command line asks for, which the parser has accepted.
+fn task_in<'a>(matches: &ArgMatches<'a>) -> Task<'a> {
+    if let Some(run) = matches.subcommand_matches("run") {
+        return Task::Run(Centre {
+            track: run.get_str("TRACK").unwrap_or(""),
+            history: run.get_str("history"),
+            journal: run.get_str("journal"),
+        });
+    }
+    if let Some(show) = matches.subcommand_matches("show") {
+        return Task::Show(Shown {
+            track: show.get_str("TRACK").unwrap_or(""),
+            each: show.get_flag("each"),
+        });
+    }
+    if let Some(serve) = matches.subcommand_matches("serve") {
+        return Task::Serve(service_in(serve));
+    }
+    if let Some(decode) = matches.subcommand_matches("decode") {
+        return Task::Decode(printing_in(decode));
+    }
+    if matches.subcommand_matches("draw").is_some() {
+        return Task::Draw;
+    }
+    match matches.subcommand_matches("check") {
+        Some(_) => Task::Check,
+        None => Task::Steps,
+    }
+}
+
+/// The command that answers requests for steps.
+fn steps<'a>(alloc: Global) -> Command<'a> {
+    Command::new(alloc, "steps").about(
         "Answers each request on standard input with a best profile of few steps, its loss and its packet",
-    );
-    let check = Command::new(alloc, "check").about(
+    )
+}
+
+/// The command that judges certificates.
+fn check<'a>(alloc: Global) -> Command<'a> {
+    Command::new(alloc, "check").about(
         "Tells of each certificate on standard input whether its prices show that no profile loses less",
-    );
+    )
+}
+
+/// The command that prints messages.
+fn decode<'a>(alloc: Global) -> Result<Command<'a>, AllocError> {
     let json = Arg::new(alloc, "json")
         .long("json")
         .help("Prints each as a line of JSON")
         .action(ArgAction::SetTrue);
-    let decode = Command::new(alloc, "decode")
+    Command::new(alloc, "decode")
         .about("Prints each message 3 and packet on standard input field by field, and in words")
-        .arg(json)?;
-    let draw = Command::new(alloc, "draw").about(
+        .arg(json)
+}
+
+/// The command that draws certificates.
+fn draw<'a>(alloc: Global) -> Command<'a> {
+    Command::new(alloc, "draw").about(
         "Draws each certificate on standard input, and tells whether its prices show that no profile loses less, as one page of HTML",
-    );
-    let run = Command::new(alloc, "run")
+    )
+}
+
+/// The command that runs a centre.
+fn run<'a>(alloc: Global) -> Result<Command<'a>, AllocError> {
+    Command::new(alloc, "run")
         .about(
             "Runs a centre on the track of a file: answers reports, locks and requests on standard input",
         )
         .after_help(REQUESTS)
         .arg(track_file(alloc))?
         .arg(history_file(alloc))?
-        .arg(journal_file(alloc))?;
-    let command = Command::new(alloc, "rbc")
-        .about("The deciding part of an ETCS Level 2 radio block centre")
-        .subcommand_required(true)
-        .subcommand(steps)?
-        .subcommand(check)?
-        .subcommand(decode)?
-        .subcommand(draw)?
-        .subcommand(run)?
-        .subcommand(show(alloc)?)?
-        .subcommand(serve(alloc)?)?;
-    let matches = command.try_get_matches_from(words)?;
-    if let Some(run) = matches.subcommand_matches("run") {
-        return Ok(Task::Run(Centre {
-            track: run.get_str("TRACK").unwrap_or(""),
-            history: run.get_str("history"),
-            journal: run.get_str("journal"),
-        }));
-    }
-    if let Some(show) = matches.subcommand_matches("show") {
-        return Ok(Task::Show(Shown {
-            track: show.get_str("TRACK").unwrap_or(""),
-            each: show.get_flag("each"),
-        }));
-    }
-    if let Some(serve) = matches.subcommand_matches("serve") {
-        return Ok(Task::Serve(service_in(serve)));
-    }
-    if let Some(decode) = matches.subcommand_matches("decode") {
-        return Ok(Task::Decode(printing_in(decode)));
-    }
-    if matches.subcommand_matches("draw").is_some() {
-        return Ok(Task::Draw);
-    }
-    match matches.subcommand_matches("check") {
-        Some(_) => Ok(Task::Check),
-        None => Ok(Task::Steps),
-    }
+        .arg(journal_file(alloc))
 }
 
 /// The command that shows a session.
@@ -205,40 +231,63 @@ fn number<'a>(alloc: Global, name: &'a str, value: &'a str, help: &'a str) -> Ar
 
 /// The command that serves connections.
 fn serve<'a>(alloc: Global) -> Result<Command<'a>, AllocError> {
-    let port = number(alloc, "port", "P", "The port on 127.0.0.1");
-    let connections = number(
-        alloc,
-        "connections",
-        "N",
-        "How many connections are taken, 1 to 8",
-    );
-    let workers = number(
-        alloc,
-        "workers",
-        "W",
-        "How many workers serve all trains at the end, 1 to 8",
-    );
-    let patience = Arg::new(alloc, "patience")
-        .long("patience")
-        .value_name("SECONDS")
-        .help("Ends a connection that says nothing, or takes nothing, for so long, 1 to 86400")
-        .action(ArgAction::Set);
-    let log = Arg::new(alloc, "log")
-        .long("log")
-        .help("Tells on standard error which connections begin and end")
-        .action(ArgAction::SetTrue);
     Command::new(alloc, "serve")
         .about(
             "Runs a centre on the track of a file for several connections at once, and serves every train at the end",
         )
         .after_help(REQUESTS)
         .arg(track_file(alloc))?
-        .arg(port.value_parser(value_parser!(u16).range(1..)))?
-        .arg(connections.value_parser(value_parser!(u8).range(1..=8)))?
-        .arg(workers.value_parser(value_parser!(u8).range(1..=8)))?
-        .arg(patience.value_parser(value_parser!(u32).range(1..=86_400)))?
-        .arg(log)?
+        .arg(port(alloc))?
+        .arg(connections(alloc))?
+        .arg(workers(alloc))?
+        .arg(patience(alloc))?
+        .arg(log(alloc))?
         .arg(journal_file(alloc))
+}
+
+/// The port that a centre serves.
+fn port<'a>(alloc: Global) -> Arg<'a> {
+    number(alloc, "port", "P", "The port on 127.0.0.1").value_parser(value_parser!(u16).range(1..))
+}
+
+/// How many connections a centre serves.
+fn connections<'a>(alloc: Global) -> Arg<'a> {
+    number(
+        alloc,
+        "connections",
+        "N",
+        "How many connections are taken, 1 to 8",
+    )
+    .value_parser(value_parser!(u8).range(1..=8))
+}
+
+/// How many workers a centre has for its sweep.
+fn workers<'a>(alloc: Global) -> Arg<'a> {
+    number(
+        alloc,
+        "workers",
+        "W",
+        "How many workers serve all trains at the end, 1 to 8",
+    )
+    .value_parser(value_parser!(u8).range(1..=8))
+}
+
+/// How long a centre waits for a client.
+fn patience<'a>(alloc: Global) -> Arg<'a> {
+    Arg::new(alloc, "patience")
+        .long("patience")
+        .value_name("SECONDS")
+        .help("Ends a connection that says nothing, or takes nothing, for so long, 1 to 86400")
+        .action(ArgAction::Set)
+        .value_parser(value_parser!(u32).range(1..=86_400))
+}
+
+/// Whether a centre keeps a log.
+fn log<'a>(alloc: Global) -> Arg<'a> {
+    Arg::new(alloc, "log")
+        .long("log")
+        .help("Tells on standard error which connections begin and end")
+        .action(ArgAction::SetTrue)
 }
 
 /// How many of something a command line asks for, 1 to 8. The parser accepts nothing else.
