@@ -1,5 +1,4 @@
-mod CopyLemmas
-mod EntryLemmas
+mod KeptLemmas
 mod GoodBookLemmas
 mod LegPlaceLemmas
 mod PresenceLemmas

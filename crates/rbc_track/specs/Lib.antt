@@ -1,6 +1,7 @@
 pub mod GroupKeys
 pub mod Kept
 pub mod KeptBack
+pub mod Keys
 pub mod LinkKeys
 pub mod Making
 pub mod PartsView

@@ -5,6 +5,7 @@
 
 mod group_table;
 mod judge;
+mod keys;
 mod leg_name;
 mod legs;
 mod link_table;
@@ -24,6 +25,7 @@ mod step_limit;
 mod track;
 mod written;
 
+pub use keys::Keys;
 pub use leg_name::LegName;
 pub use legs::reverse;
 pub use name::Name;

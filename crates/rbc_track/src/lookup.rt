@@ -4,8 +4,7 @@ ghost use Rattle.std.specs.Prelude.{◌≡◌, [], ◌∷◌, ◌++◌, not, fal
 ghost use Rattle.std.specs.List.{list_any};
 ghost use Rattle.rbc_model.specs.Tracks.{group_name_eq};
 
-use crate::Name;
-use indexmap::IndexSet;
+use crate::{Keys, Name};
 use rbc_model::{GroupName, Memory};
 use std::alloc::Global;
 use std::marker::Model;
@@ -13,7 +12,7 @@ use std::marker::Model;
 /// The names of a table's entries in order, each once. A name is found by a look-up.
 #[derive(Drop)]
 pub(crate) struct Names {
-    set: IndexSet<Name>,
+    keys: Keys<Name>,
 }
 
 impl Model for Names {
@@ -21,7 +20,7 @@ impl Model for Names {
 
     ghost Value = { List (List ℕ) };
 
-    ghost view = { λ names. names.set.keys };
+    ghost view = { λ names. names.keys };
 }
 
 impl Names {
@@ -30,7 +29,7 @@ impl Names {
         ensures { result ≡ [] }
     {
         Names {
-            set: IndexSet::new(alloc),
+            keys: Keys::new(alloc),
         }
     }
 
@@ -40,21 +39,21 @@ impl Names {
         ensures names { IfOk result (λ new. self.new ≡ (if new then self.old ++ name ∷ [] else self.old)) }
         ensures memory { OnErr result (list_any (λ other. bytes_eq other name) self.old ≡ false) }
     {
-        Ok(self.set.insert(name)?)
+        self.keys.insert(name)
     }
 
     /// The place of a name.
     pub(crate) fn position(&self, name: Name) -> Option<usize>
         ensures { result ≡ position (λ other. bytes_eq other name) self.now }
     {
-        self.set.get_index_of(&name)
+        self.keys.place(name)
     }
 }
 
 /// The identities of balise groups in order, each once. An identity is found by a look-up.
 #[derive(Drop)]
 pub(crate) struct GroupNames {
-    set: IndexSet<(u16, u16)>,
+    keys: Keys<(u16, u16)>,
 }
 
 impl Model for GroupNames {
@@ -64,7 +63,7 @@ impl Model for GroupNames {
 
     ghost Value = { List GroupName };
 
-    ghost view = { λ names. map group_name names.set.keys };
+    ghost view = { λ names. map group_name names.keys };
 }
 
 /// What an identity is looked up by: its country or region, and its number there.
@@ -80,7 +79,7 @@ impl GroupNames {
         ensures { result ≡ [] }
     {
         GroupNames {
-            set: IndexSet::new(alloc),
+            keys: Keys::new(alloc),
         }
     }
 
@@ -90,13 +89,13 @@ impl GroupNames {
         ensures names { IfOk result (λ new. self.new ≡ (if new then self.old ++ name ∷ [] else self.old)) }
         ensures memory { OnErr result (list_any (λ other. group_name_eq other name) self.old ≡ false) }
     {
-        Ok(self.set.insert(group_key(name))?)
+        self.keys.insert(group_key(name))
     }
 
     /// The place of an identity.
     pub(crate) fn position(&self, name: GroupName) -> Option<usize>
         ensures { result ≡ position (λ other. group_name_eq other name) self.now }
     {
-        self.set.get_index_of(&group_key(name))
+        self.keys.place(group_key(name))
     }
 }

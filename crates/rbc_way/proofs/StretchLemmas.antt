@@ -1,8 +1,8 @@
 -- What trains have of a section: of one train leg by leg, and of all by those that have the section on their lines.
-use Rattle.std.proofs.Common.{◌≡◌, ℕ, ◌+◌, ◌<◌, Bool, true, false, cond, List, [], ◌∷◌, ◌++◌, drop, filter, get_or, length, map, subst, take, ap, arith, refl, sym, ◌∙◌}
+use Rattle.std.proofs.Common.{◌≡◌, ℕ, ◌+◌, ◌<◌, Bool, true, false, cond, List, [], ◌∷◌, ◌++◌, drop, filter, get_or, length, map, subst, take, ap, refl, sym, ◌∙◌}
 use Rattle.std.specs.Prelude.{◌==◌, not}
 use Rattle.std.proofs.lemmas.Bool.{eqb-true, not-true}
-use Rattle.std.proofs.lemmas.List.{append-nil, drop_all, drop_more, take-append-drop}
+use Rattle.std.proofs.lemmas.List.{append-nil, drop_more, take-append-drop}
 use mathlib.Core.List.{map-map, map-id}
 use Rattle.rbc_model.specs.declared.places.Leg.{Leg}
 use Rattle.rbc_model.specs.Lines.{IsLine, Line, has_section}
@@ -14,7 +14,7 @@ use Rattle.rbc_scene_laws.proofs.OnLineLemmas.{OnLine-IsLine, differ_right}
 use Rattle.rbc_book.specs.Entries.{on_track}
 use Rattle.rbc_book.specs.TrainsOnTracks.{TrainOnTrack}
 use Rattle.rbc_way.specs.declared.stretches.Stretch.{Stretch}
-use Rattle.rbc_way.specs.Stretches.{but, stretch_of, stretches_along, stretches_of}
+use Rattle.rbc_way.specs.Stretches.{stretch_of, stretches_along, stretches_of}
 use Rattle.rbc_way.proofs.LegLemmas.{none_along}
 
 -- ---- of one train, from a leg of its line on

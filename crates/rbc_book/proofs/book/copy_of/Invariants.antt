@@ -1,5 +1,5 @@
 use Rattle.std.proofs.Common.{◌≡◌, take}
 use Rattle.rbc_book.proofs.book.copy_of.Given as goal
 
-abbrev pub invariant-loop-index : goal.invariant-loop-index
-invariant-loop-index l = l.copy.entries ≡ take l.index l.trains.entries
+abbrev pub invariant-loop-train : goal.invariant-loop-train
+invariant-loop-train l = l.copy.items ≡ take l.train-index l.trains

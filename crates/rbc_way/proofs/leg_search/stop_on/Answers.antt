@@ -2,7 +2,6 @@ use Rattle.std.proofs.Common.{◌≡◌, ◌∙◌, All, ap, arith, subst, sym}
 use Rattle.std.proofs.lemmas.List.Elements.{All-filter}
 use Rattle.rbc_model.specs.Scenes.{others}
 use Rattle.rbc_model.specs.Tracks.{Track}
-use Rattle.rbc_model.specs.Trains.{Train}
 use Rattle.rbc_scene_laws.specs.Good.{IsGoodTrain}
 use Rattle.rbc_way.specs.Reaches.{scene_of}
 use Rattle.rbc_way.specs.Stretches.{but, stretches_in, stretches_of}

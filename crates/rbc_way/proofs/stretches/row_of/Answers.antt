@@ -1,8 +1,5 @@
-use Rattle.std.proofs.Common.{◌≡◌, ◌∙◌, ap, sym}
-use Rattle.std.specs.Prelude.{map}
+use Rattle.std.proofs.Common.{◌∙◌, ap, sym}
 use Rattle.rbc_model.specs.Tracks.{Track}
-use Rattle.rbc_book.specs.Entries.{on_track}
-use Rattle.rbc_book.specs.TrainsOnTracks.{TrainOnTrack}
 use Rattle.rbc_way.specs.Stretches.{but, stretches_along}
 use Rattle.rbc_way.proofs.StretchLemmas.{none_has, one_has, one_track}
 use Rattle.rbc_way.proofs.stretches.row_of.Goals as goal

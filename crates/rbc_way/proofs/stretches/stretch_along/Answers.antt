@@ -1,5 +1,5 @@
-use Rattle.std.proofs.Common.{◌≡◌, [], ◌∷◌, ap, arith, subst, sym, ◌∙◌}
-use Rattle.rbc_model.specs.Lines.{IsLine, Line}
+use Rattle.std.proofs.Common.{[], ◌∷◌, ap, subst, sym, ◌∙◌}
+use Rattle.rbc_model.specs.Lines.{IsLine}
 use Rattle.rbc_model.specs.Tracks.{Track}
 use Rattle.rbc_way.specs.Stretches.{stretches_along}
 use Rattle.rbc_way.specs.declared.stretches.Stretch.{Stretch}

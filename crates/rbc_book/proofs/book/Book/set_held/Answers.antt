@@ -2,14 +2,13 @@
 use Rattle.std.proofs.Common.{◌≡◌, ℕ, Option, Some, None, Bor, refl, ◌∙◌, ap, sym, subst}
 use Rattle.std.specs.Prelude.{is_some}
 use Rattle.std.specs.Option.{option_copied}
-use Rattle.std.specs.Arc.{arc_value}
 use Rattle.rbc_model.specs.Events.{with_authority, with_train}
 use Rattle.rbc_model.specs.Histories.{AuthoritiesAreApart}
 use Rattle.rbc_model.specs.Trains.{Train}
 use Rattle.rbc_scene_laws.specs.Good.{IsGoodTrain}
 use Rattle.rbc_scene_laws.proofs.BasicLemmas.{the_some}
 use Rattle.rbc_book.specs.Books.{Book, book_with, scene_of, train_in}
-use Rattle.rbc_book.proofs.EntryLemmas.{IsFound, found, got-some}
+use Rattle.rbc_book.proofs.KeptLemmas.{IsFound, found_as, some_on}
 use Rattle.rbc_book.proofs.book.Book.set_held.Goals as goal
 use Rattle.rbc_book.proofs.book.Book.set_held.Goals.{After-unwrap-train}
 
@@ -19,14 +18,12 @@ copied_some (Some x) = refl
 
 pub unwrap-train-requires : goal.unwrap-train-requires
 unwrap-train-requires c =
-    copied_some c.get.result ∙ ap is_some (rw c.number-number.ensures at c.get.ensures.value)
-    ∙ got-some (arc_value c.self.inside.track) c.args.self.now c.self.inside.trains.entries c.self.view_is c.self.invariant.0 c.args.id
-    ∙ c.requires.known
+    copied_some c.numbered.result ∙ ap is_some (rw c.number.ensures at c.numbered.ensures) ∙ some_on c.args.self.now.track (train_in c.args.self.now c.args.id) ∙ c.requires.known
 
 was : (c : After-unwrap-train) → IsFound c.args.self.now c.args.id c.unwrap-train.result.now
 was c =
-    found (arc_value c.self.inside.track) c.args.self.now c.self.inside.trains.entries c.self.view_is c.self.invariant.0 c.args.id c.unwrap-train.result.now
-    (sym (ap option_copied c.unwrap-train.ensures) ∙ (rw c.number-number.ensures at c.get.ensures.value))
+    found_as c.args.self.now c.args.id c.unwrap-train.result.now (train_in c.args.self.now c.args.id) refl
+    (sym (ap option_copied c.unwrap-train.ensures) ∙ (rw c.number.ensures at c.numbered.ensures))
 
 pub with_authority-held-requires-clause-track : goal.with_authority-held-requires-clause-track
 with_authority-held-requires-clause-track c = let f = was c in c.requires.track ∙ sym f.of_track

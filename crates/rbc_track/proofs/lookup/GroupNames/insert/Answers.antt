@@ -1,8 +1,8 @@
-use Rattle.std.proofs.Common.{◌≡◌, ℕ, nat_eq, ◌&&◌, List, map, not, false, ap, sym, ◌∙◌}
+use Rattle.std.proofs.Common.{◌≡◌, ℕ, nat_eq, ◌&&◌, List, map, not, false, ap, subst, ◌∙◌}
+use Rattle.std.specs.Prelude.{IfOk, OnErr}
 use Rattle.std.specs.List.{list_any}
 use Rattle.rbc_model.specs.GroupNames.{GroupName}
 use Rattle.rbc_model.specs.Tracks.{group_name_eq}
-use Rattle.rbc_model.proofs.ResultLemmas.{on_err}
 use Rattle.rbc_track.specs.GroupKeys.{group_name}
 use Rattle.rbc_track.proofs.FindingLemmas.{any_key}
 use Rattle.rbc_track.proofs.lookup.GroupNames.insert.Goals as goal
@@ -16,9 +16,8 @@ there name key keys names is view =
 
 pub returns-clause-new : goal.returns-clause-new
 returns-clause-new c =
-    c.in_ok-insert.ensures.added ∙ ap not (there c.args.name c.group_key.result c.self.inside.set.keys c.args.self.now c.group_key.ensures c.self.view_is)
+    subst (λ found. IfOk c.insert.result (λ new. new ≡ not found)) (there c.args.name c.group_key.result c.self.inside.keys c.args.self.now c.group_key.ensures c.self.view_is) c.insert.ensures.new
 
-pub returns-in_err-insert-clause-memory : goal.returns-in_err-insert-clause-memory
-returns-in_err-insert-clause-memory c =
-    on_err c.from_residual.result (list_any (λ other. group_name_eq other c.args.name) c.args.self.now ≡ false)
-    (sym (there c.args.name c.group_key.result c.self.inside.set.keys c.args.self.now c.group_key.ensures c.self.view_is) ∙ c.in_err-insert.ensures.absent)
+pub returns-clause-memory : goal.returns-clause-memory
+returns-clause-memory c =
+    subst (λ found. OnErr c.insert.result (found ≡ false)) (there c.args.name c.group_key.result c.self.inside.keys c.args.self.now c.group_key.ensures c.self.view_is) c.insert.ensures.absent
