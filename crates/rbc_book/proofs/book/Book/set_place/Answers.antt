@@ -1,9 +1,10 @@
 -- The trains after one is put in are those of the book with it, and so is what is counted.
-use Rattle.std.proofs.Common.{◌≡◌, ◌≤◌, None, Result, Ok, Err, Some, nat_eq, position, slice_set, ◌∙◌, ap, subst, sym, true, not, cond, ◌++◌, ◌∷◌, []}
-use Rattle.std.specs.Prelude.{OnErr, find, is_some}
+use Rattle.std.proofs.Common.{◌≡◌, ◌≤◌, None, Some, nat_eq, position, slice_set, ◌∙◌, ap, subst, sym, true, not, cond, ◌++◌, ◌∷◌, []}
+use Rattle.std.specs.Prelude.{find, is_some}
 use Rattle.std.specs.Arc.{arc_value}
 use Rattle.std.proofs.lemmas.List.{get_or-set_same}
 use Rattle.rbc_extent.specs.TrainsOnTracks.{TrainOnTrack}
+use Rattle.rbc_model.proofs.ResultLemmas.{on_err}
 use Rattle.rbc_model.specs.Reports.{Report}
 use Rattle.rbc_model.specs.declared.limits.TheConstants.{LAST_TRAIN}
 use Rattle.rbc_track.proofs.KeyLemmas.{any-is, place-is}
@@ -69,10 +70,6 @@ returns-in-Some-clause-placed c = let p = put (goal.at.returns-in-Some-clause-pl
 
 -- ---- behind all, where no train has its number
 
-on_err : {A E P : Type 0} (r : Result A E) → P → OnErr r P
-on_err (Ok x) p = tt
-on_err (Err e) p = p
-
 nowhere : (c : In-None) → position (nat_eq c.number-number.result) c.self.inside.numbers ≡ None
 nowhere c = sym c.place.ensures ∙ c.in-None.is
 
@@ -80,10 +77,10 @@ nobody : (c : In-None) → train_in c.args.self.now c.args.train.train.report.tr
 nobody c = ap (train_in c.args.self.now) (sym (c.number-number.ensures ∙ c.id.ensures)) ∙ got-nobody (arc_value c.self.inside.track) c.args.self.now c.self.inside.trains.items c.self.inside.numbers c.self.view_is c.self.invariant.0 c.number-number.result (nowhere c)
 
 pub returns-in_err-reserve-in-None-clause-new : goal.returns-in_err-reserve-in-None-clause-new
-returns-in_err-reserve-in-None-clause-new c = on_err c.from_residual.result (nobody (goal.at.returns-in_err-reserve-in-None-clause-new c).In-None)
+returns-in_err-reserve-in-None-clause-new c = on_err c.from_residual.result (train_in c.args.self.now c.args.train.train.report.train ≡ None) (nobody (goal.at.returns-in_err-reserve-in-None-clause-new c).In-None)
 
 pub returns-in_err-insert-in-None-clause-new : goal.returns-in_err-insert-in-None-clause-new
-returns-in_err-insert-in-None-clause-new c = on_err c.from_residual-in_err-insert-in-None.result (nobody (goal.at.returns-in_err-insert-in-None-clause-new c).In-None)
+returns-in_err-insert-in-None-clause-new c = on_err c.from_residual-in_err-insert-in-None.result (train_in c.args.self.now c.args.train.train.report.train ≡ None) (nobody (goal.at.returns-in_err-insert-in-None-clause-new c).In-None)
 
 pub recount-requires-in-None-clause-room : goal.recount-requires-in-None-clause-room
 recount-requires-in-None-clause-room c s has =

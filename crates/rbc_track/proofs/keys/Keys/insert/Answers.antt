@@ -1,15 +1,12 @@
 -- A key that is not there is put behind the others, and its place is how many there were.
-use Rattle.std.proofs.Common.{◌≡◌, ℕ, false, None, Option, Some, cond, length, position, not, refl, sym, ap, ◌∙◌, arith, subst, Result, Ok, Err, ◌∷◌, [], ◌++◌}
-use Rattle.std.specs.Prelude.{is_some, OnErr}
+use Rattle.std.proofs.Common.{◌≡◌, ℕ, false, None, Option, Some, cond, length, position, not, refl, sym, ap, ◌∙◌, arith, subst, ◌∷◌, [], ◌++◌}
+use Rattle.std.specs.Prelude.{is_some}
 use Rattle.std.specs.List.{IsDistinct, list_any}
+use Rattle.rbc_model.proofs.ResultLemmas.{on_err}
 use Rattle.rbc_track.proofs.KeyLemmas.{IsDistinct-behind, any-is, place, place-behind, place-is}
 use Rattle.rbc_track.proofs.keys.Keys.insert.Given.{Over}
 use Rattle.rbc_track.proofs.keys.Keys.insert.Goals as goal
 use Rattle.rbc_track.proofs.keys.Keys.insert.Goals.{After-contains_key}
-
-on_err : {A E P : Type 0} (r : Result A E) → P → OnErr r P
-on_err (Ok x) p = tt
-on_err (Err e) p = p
 
 -- whether the key is there
 there : (g : Over) (c : After-contains_key g) → list_any (g.K.PartialEq.eq c.args.key) c.args.self.now ≡ c.contains_key.result
@@ -27,11 +24,11 @@ returns-then-contains_key-clause-new g c =
 
 pub returns-in_err-reserve-clause-absent : goal.returns-in_err-reserve-clause-absent
 returns-in_err-reserve-clause-absent g c =
-    let a = (goal.at.returns-in_err-reserve-clause-absent g c).After-contains_key in on_err c.from_residual.result (there g a ∙ c.if-contains_key.false)
+    let a = (goal.at.returns-in_err-reserve-clause-absent g c).After-contains_key in on_err c.from_residual.result (list_any (g.K.PartialEq.eq c.args.key) c.args.self.now ≡ false) (there g a ∙ c.if-contains_key.false)
 
 pub returns-in_err-insert-clause-absent : goal.returns-in_err-insert-clause-absent
 returns-in_err-insert-clause-absent g c =
-    let a = (goal.at.returns-in_err-insert-clause-absent g c).After-contains_key in on_err c.from_residual-in_err-insert.result (there g a ∙ c.if-contains_key.false)
+    let a = (goal.at.returns-in_err-insert-clause-absent g c).After-contains_key in on_err c.from_residual-in_err-insert.result (list_any (g.K.PartialEq.eq c.args.key) c.args.self.now ≡ false) (there g a ∙ c.if-contains_key.false)
 
 pub returns-clause-new : goal.returns-clause-new
 returns-clause-new g c = let a = (goal.at.returns-clause-new g c).After-contains_key in ap not (sym c.if-contains_key.false ∙ sym (there g a))
