@@ -1,5 +1,5 @@
 -- Connections: each client is served from a seat.
-use Rattle.std.proofs.Common.{◌≡◌, ℕ, ◌+◌, ◌<◌, ◌≤◌, Bool, false, List, [], ◌∷◌, ◌++◌, length, take, map, Option, Some, None, Result, Err, refl, sym, ap, ◌∙◌, subst, append_assoc, lit≤, arith}
+use Rattle.std.proofs.Common.{◌≡◌, ℕ, ◌+◌, ◌<◌, ◌≤◌, Bool, false, List, [], ◌∷◌, ◌++◌, length, map, Option, Some, None, Result, Err, refl, sym, ap, ◌∙◌, subst, append_assoc, lit≤, arith}
 use Rattle.std.specs.Prelude.{◌↔◌, ◌||◌, All, IsTrue, OnOk}
 use Rattle.std.proofs.KnownBytes.{Appends-nil, Consumes-nil}
 use Rattle.std.proofs.lemmas.List.{append-nil, length-map, map_push, nil_from_length}
@@ -10,16 +10,12 @@ use Rattle.std.specs.Io.KnownBytes.{Consumes, IsAtEnd}
 use Rattle.rbc_model.specs.declared.sessions.SessionFault.{SessionFault}
 use Rattle.rbc_model.specs.declared.sessions.SessionFault.TheVariants.{Read, Write, Memory}
 use Rattle.rbc_port.specs.Clients.{Came, Coming, FewerCome, NoneComes, Parting, unheard}
-use Rattle.rbc_sweep.specs.Seats.{Seated}
+use Rattle.rbc_sessions.specs.Seats.{Seated}
 use Rattle.rbc_server.specs.Connections.{AreConnections, AreParted, Connection, IsConnection}
-use Rattle.rbc_server.specs.SeatAnswers.{AreLineAnswers}
-use Rattle.rbc_server.specs.SeatSessions.{IsSeatSession, SeatTurn}
-use Rattle.rbc_server.specs.Sittings.{AreToldKept, IsKept, StaysKept}
-use Rattle.rbc_server.specs.declared.sitting.Sitting.{Sitting}
-
-pub take_append : {A : Type 0} (xs ys : List A) → take (length xs) (xs ++ ys) ≡ xs
-take_append [] ys = refl
-take_append (x ∷ xs) ys = ap (λ l. x ∷ l) (take_append xs ys)
+use Rattle.rbc_sessions.specs.SeatAnswers.{AreLineAnswers}
+use Rattle.rbc_sessions.specs.SeatSessions.{IsSeatSession, SeatTurn}
+use Rattle.rbc_sessions.specs.Sittings.{AreToldKept, IsKept, StaysKept}
+use Rattle.rbc_sessions.specs.declared.sitting.Sitting.{Sitting}
 
 -- ---- one connection
 

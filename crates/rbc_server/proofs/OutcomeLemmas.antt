@@ -12,19 +12,19 @@ use Rattle.rbc_model.specs.Tracks.{Track}
 use Rattle.rbc_model.specs.Histories.{Entry, replay}
 use Rattle.rbc_model.specs.Views.{view}
 use Rattle.rbc_model.specs.declared.limits.TheConstants.{MOST_ENTRIES}
-use Rattle.rbc_sweep.specs.Records.{history_on}
-use Rattle.rbc_sweep.specs.Seats.{Seated}
-use Rattle.rbc_sweep.specs.Asking.{IsAnswered}
-use Rattle.rbc_sweep.specs.Granted.{Granted as Grant}
-use Rattle.rbc_replies.specs.Replies.{ObstacleIsOfTrack}
-use Rattle.rbc_sweep.specs.Outcomes.{IsToldToOne, asked}
-use Rattle.rbc_sweep.specs.declared.outcome.Answer.{Answer}
-use Rattle.rbc_sweep.specs.declared.outcome.Answer.TheVariants.{Granted, Blocked, Gone, Full, Memory}
-use Rattle.rbc_sweep.specs.declared.outcome.Outcome.{Outcome}
-use Rattle.rbc_sweep.proofs.AskingLemmas.{viewed}
+use Rattle.rbc_sessions.specs.Records.{history_on}
+use Rattle.rbc_sessions.specs.Seats.{Seated}
+use Rattle.rbc_sessions.specs.Asking.{IsAnswered}
+use Rattle.rbc_sessions.specs.Granted.{Granted as Grant}
+use Rattle.rbc_sessions.specs.Replies.{ObstacleIsOfTrack}
+use Rattle.rbc_sessions.specs.Outcomes.{IsToldToOne, asked}
+use Rattle.rbc_sessions.specs.Answer.{Answer}
+use Rattle.rbc_sessions.specs.Answer.TheVariants.{Granted, Blocked, Gone, Full, Memory}
+use Rattle.rbc_sessions.specs.Outcome.{Outcome}
+use Rattle.rbc_sessions.proofs.DeskAskingLemmas.{viewed}
 use Rattle.rbc_server.specs.Serving.{TellsAll, TellsOutcome, IsTellable, AnswerIsTellable}
-use Rattle.rbc_server.proofs.AskingLemmas.{shown_named}
-use Rattle.rbc_server.proofs.SeatLemmas.{below_most, asked_blocked_named}
+use Rattle.rbc_sessions.proofs.AskingLemmas.{shown_named}
+use Rattle.rbc_sessions.proofs.SeatLemmas.{below_most, asked_blocked_named}
 
 -- one outcome more is told behind those so far
 tells_more : (track : Track) (outcomes : List Outcome) (outcome : Outcome) (text said : List ℕ) → TellsAll track outcomes text → TellsOutcome track outcome said
@@ -48,9 +48,6 @@ tells_all track outcomes index past text told = subst (λ os. TellsAll track os 
 pub part_behind : (a b c : Option (List ℕ)) (text said : List ℕ) → Appends a b text → WritesPart b c said → WritesPart a c (text ++ said)
 part_behind a b c text said before (part, rest, is, after) =
     (text ++ part, rest, ap (λ t. text ++ t) is ∙ sym (append_assoc text part rest), Appends-trans a b c text part before after)
-
-pub whole_part : (a b : Option (List ℕ)) (text : List ℕ) → Appends a b text → WritesPart a b text
-whole_part a b text written = (text, [], sym (append-nil text), written)
 
 pub on_ok : {T E : Type 0} (r : Result T E) (P : Type 0) → P → OnOk r P
 on_ok (Ok x) P p = p

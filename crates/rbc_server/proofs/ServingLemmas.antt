@@ -8,15 +8,15 @@ use Rattle.std.specs.List.{AllZip}
 use Rattle.std.specs.Io.KnownBytes.{Appends}
 use Rattle.rbc_model.specs.Sessions.{WritesPart}
 use Rattle.rbc_port.specs.Clients.{Coming, Parting}
-use Rattle.rbc_sweep.specs.Closing.{all_receipts, IsUnmatched}
-use Rattle.rbc_sweep.specs.Outcomes.{AreFirst, AreTrainsOfFirst, IsToldToOne, granted, train_of}
-use Rattle.rbc_sweep.specs.declared.outcome.Outcome.{Outcome}
-use Rattle.rbc_sweep.specs.Records.{HistoryOnTrack}
-use Rattle.rbc_sweep.specs.Seats.{Seated}
-use Rattle.rbc_sweep.specs.CloseFault.{CloseFault}
+use Rattle.rbc_sessions.specs.Closing.{all_receipts, IsUnmatched}
+use Rattle.rbc_sessions.specs.Outcomes.{AreFirst, AreTrainsOfFirst, IsToldToOne, granted, train_of}
+use Rattle.rbc_sessions.specs.Outcome.{Outcome}
+use Rattle.rbc_sessions.specs.Records.{HistoryOnTrack}
+use Rattle.rbc_sessions.specs.Seats.{Seated}
+use Rattle.rbc_sessions.specs.CloseFault.{CloseFault}
 use Rattle.rbc_server.specs.Connections.{AreParted}
 use Rattle.rbc_server.specs.Serving.{closed_line, AreKept, IsAttended, IsBrought, IsClosed, IsCloseFault, IsCutOff, IsServed, IsServeFault, IsSwept}
-use Rattle.rbc_server.specs.Sittings.{StaysKept}
+use Rattle.rbc_sessions.specs.Sittings.{StaysKept}
 use Rattle.rbc_server.specs.declared.serving.ServeFault.{ServeFault}
 use Rattle.rbc_server.specs.declared.serving.ServeFault.TheVariants.{Port, Write, Memory, Journal, Close}
 use Rattle.rbc_server.specs.declared.staff.Staff.{Staff}

@@ -3,11 +3,11 @@ use Rattle.std.specs.Prelude.{◌≡◌, ◌↔◌, ◌||◌, ℕ, List, [], fal
 use Rattle.std.specs.Io.KnownBytes.{Consumes, IsAtEnd}
 use Rattle.rbc_model.specs.declared.sessions.SessionFault.TheVariants.{Read, Write, Memory}
 use Rattle.rbc_port.specs.Clients.{Came, Coming, Parting}
-use Rattle.rbc_sweep.specs.Seats.{Seated}
-use Rattle.rbc_server.specs.SeatAnswers.{AreLineAnswers}
-use Rattle.rbc_server.specs.SeatSessions.{IsSeatSession}
-use Rattle.rbc_server.specs.Sittings.{AreToldKept, StaysKept}
-use Rattle.rbc_server.specs.declared.sitting.Sitting.{Sitting}
+use Rattle.rbc_sessions.specs.Seats.{Seated}
+use Rattle.rbc_sessions.specs.SeatAnswers.{AreLineAnswers}
+use Rattle.rbc_sessions.specs.SeatSessions.{IsSeatSession}
+use Rattle.rbc_sessions.specs.Sittings.{AreToldKept, StaysKept}
+use Rattle.rbc_sessions.specs.declared.sitting.Sitting.{Sitting}
 
 -- a client that came, the seat that it was served from with its pen, before that and after it, and how the client went
 pub record Connection (L P : Type 0) : Type 0 where

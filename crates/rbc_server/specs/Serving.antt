@@ -11,23 +11,23 @@ use Rattle.rbc_model.specs.Sessions.{WritesPart}
 use Rattle.rbc_model.specs.SessionReply.{grant_reply, blocked_reply, refused_reply, Full as HistoryIsFull, Memory as NoMemory}
 use Rattle.rbc_model.specs.Tracks.{Track}
 use Rattle.rbc_model.specs.Words.{line_of}
-use Rattle.rbc_sweep.specs.Later.{IsLater}
-use Rattle.rbc_sweep.specs.Records.{HistoryOnTrack}
-use Rattle.rbc_sweep.specs.Seats.{Seated}
+use Rattle.rbc_sessions.specs.Later.{IsLater}
+use Rattle.rbc_sessions.specs.Records.{HistoryOnTrack}
+use Rattle.rbc_sessions.specs.Seats.{Seated}
 use Rattle.rbc_model.specs.declared.limits.TheConstants.{MOST_ENTRIES}
-use Rattle.rbc_sweep.specs.Closing.{all_receipts, IsUnmatched}
-use Rattle.rbc_sweep.specs.Granted.{Granted as Grant}
-use Rattle.rbc_replies.specs.Replies.{ObstacleIsOfTrack}
-use Rattle.rbc_sweep.specs.Outcomes.{AreFirst, AreTrainsOfFirst, Begins, IsToldToOne, granted, train_of}
-use Rattle.rbc_sweep.specs.declared.outcome.Answer.{Answer}
-use Rattle.rbc_sweep.specs.declared.outcome.Answer.TheVariants.{Granted, Blocked, Gone, Full, Memory}
-use Rattle.rbc_sweep.specs.declared.outcome.Outcome.{Outcome}
+use Rattle.rbc_sessions.specs.Closing.{all_receipts, IsUnmatched}
+use Rattle.rbc_sessions.specs.Granted.{Granted as Grant}
+use Rattle.rbc_sessions.specs.Replies.{ObstacleIsOfTrack}
+use Rattle.rbc_sessions.specs.Outcomes.{AreFirst, AreTrainsOfFirst, Begins, IsToldToOne, granted, train_of}
+use Rattle.rbc_sessions.specs.Answer.{Answer}
+use Rattle.rbc_sessions.specs.Answer.TheVariants.{Granted, Blocked, Gone, Full, Memory}
+use Rattle.rbc_sessions.specs.Outcome.{Outcome}
 use Rattle.rbc_server.specs.declared.connections.ConnectFault.{ConnectFault}
 use Rattle.rbc_server.specs.declared.connections.ConnectFault.TheVariants.{Port as NoConnection, Memory as NoThread, Journal as NotKeptInSession}
 use Rattle.rbc_server.specs.Connections.{AreParted}
-use Rattle.rbc_server.specs.declared.keeping.KeepFault.{KeepFault}
-use Rattle.rbc_server.specs.declared.keeping.KeepFault.TheVariants.{Journal as KeeperFailed, Memory as NoTextMemory}
-use Rattle.rbc_server.specs.Sittings.{StaysKept}
+use Rattle.rbc_sessions.specs.declared.keeping.KeepFault.{KeepFault}
+use Rattle.rbc_sessions.specs.declared.keeping.KeepFault.TheVariants.{Journal as KeeperFailed, Memory as NoTextMemory}
+use Rattle.rbc_sessions.specs.Sittings.{StaysKept}
 use Rattle.rbc_server.specs.declared.serving.ServeFault.{ServeFault}
 use Rattle.rbc_server.specs.declared.staff.Staff.{Staff}
 use Rattle.rbc_server.specs.declared.serving.ServeFault.TheVariants.{Port, Write, Memory as NoServeMemory, Journal, Close}

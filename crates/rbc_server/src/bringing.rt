@@ -2,10 +2,10 @@
 
 ghost use Rattle.std.specs.Prelude.{◌≡◌, ◌<◌, ℕ, length, slice_index_or, vec_len};
 ghost use Rattle.std.specs.List.{AllZip};
-ghost use Rattle.rbc_sweep.specs.Seats.{Seated};
+ghost use Rattle.rbc_sessions.specs.Seats.{Seated};
 ghost use Rattle.rbc_server.specs.Serving.{IsBrought};
 
-use rbc_sweep::{DeskName, Seat};
+use rbc_sessions::{DeskName, Seat};
 
 /// Tells a seat all that these others were told.
 #[tactic(auto, using(crate::proofs::BringingLemmas::none_brought))]

@@ -9,8 +9,8 @@ ghost use Rattle.rbc_server.specs.declared.connections.ConnectFault.TheVariants.
 
 use crate::{Counter, Keeper, SessionEnd, Sitting, session};
 use rbc_port::{Client, Clients, Ends, PortFailed};
+use rbc_sessions::{DeskName, OpenGate, Seat};
 use rbc_streams::{Sink, Source};
-use rbc_sweep::{DeskName, OpenGate, Seat};
 use std::alloc::{AllocError, Global};
 use std::io::Eprint;
 use std::marker::PhantomData;

@@ -1,39 +1,18 @@
-//! Sessions of the centre: each line is answered after all that was told and granted before it.
+//! A centre that serves connections: each is a session with a thread and a seat of its own, and behind them all trains are
+//! served once more.
 #![tactic(auto)]
 
-mod asking;
 mod bringing;
-mod centre;
 mod connections;
-mod counter;
-mod demand;
-mod grants;
-mod hearing;
-mod histories;
-mod keeping;
-mod nowhere;
 mod outcomes;
-mod resting;
 mod serving;
-mod sessions;
-mod sitting;
 mod staff;
-mod telling;
 
-pub use asking::{commit, stopped};
-pub use counter::Counter;
-pub use demand::{demand_in, looked_up};
-pub use histories::print_history;
-pub use keeping::{KeepFault, Keeper, NoJournal, NotKept};
 pub use rbc_port::{Client, Clients, Ends, Port, PortFailed, Terms};
-pub use rbc_replies as replies;
-pub use rbc_replies::words;
-pub use rbc_streams::SessionFault;
-pub use rbc_sweep::{
-    Blank, Candidate, Desk, DeskName, Receipt, Record, Seat, Sight, View, candidate,
+pub use rbc_sessions::{
+    Blank, Candidate, Counter, Desk, DeskName, KeepFault, Keeper, NoJournal, NotKept, Receipt,
+    Record, Seat, SessionEnd, SessionFault, Sight, Sitting, View, candidate, commit, demand_in,
+    in_vain, looked_up, print_history, replies, run, session, stopped, tell, words,
 };
 pub use serving::{ServeFault, Served, serve};
-pub use sessions::{SessionEnd, run, session};
-pub use sitting::Sitting;
 pub use staff::{Staff, no_pens};
-pub use telling::{in_vain, tell};

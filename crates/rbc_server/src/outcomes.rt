@@ -4,15 +4,14 @@ ghost use Rattle.std.specs.Prelude.{◌≡◌, ◌<◌, ◌∷◌, ◌++◌, [],
 ghost use Rattle.std.specs.Io.KnownBytes.{Appends};
 ghost use Rattle.rbc_model.specs.Sessions.{Prints, WritesPart};
 ghost use Rattle.rbc_model.specs.declared.limits.TheConstants.{MOST_ENTRIES};
-ghost use Rattle.rbc_replies.specs.Replies.{ObstacleIsOfTrack};
+ghost use Rattle.rbc_sessions.specs.Replies.{ObstacleIsOfTrack};
 ghost use Rattle.rbc_server.specs.Serving.{TellsAll, TellsAnswer, TellsGrant, AnswerIsTellable, IsTellable, closed_line};
 
-use crate::asking::told_of;
 use rbc_model::TrainId;
-use rbc_replies::words::print_number;
-use rbc_replies::{SessionRefusal, SessionReply, print};
+use rbc_sessions::replies::{SessionRefusal, SessionReply, print};
+use rbc_sessions::words::print_number;
+use rbc_sessions::{Answer, Granted, Outcome, Track, told_of};
 use rbc_streams::{Sink, WriteFailed, put};
-use rbc_sweep::{Answer, Granted, Outcome, Track};
 
 /// Prints what the trains of a sweep were answered, in order, and hands it on.
 ///

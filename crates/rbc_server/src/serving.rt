@@ -4,10 +4,10 @@ ghost use Rattle.std.specs.Prelude.{◌≡◌, ◌↔◌, ◌+◌, ◌<◌, ◌�
 ghost use Rattle.std.specs.Io.KnownBytes.{Appends};
 ghost use Rattle.rbc_model.specs.Histories.{IsLegal};
 ghost use Rattle.rbc_port.specs.Clients.{FewerCome};
-ghost use Rattle.rbc_sweep.specs.Later.{IsLater};
-ghost use Rattle.rbc_sweep.specs.Outcomes.{IsToldToOne};
-ghost use Rattle.rbc_sweep.specs.Records.{HistoryOnTrack};
-ghost use Rattle.rbc_sweep.specs.Seats.{Seated};
+ghost use Rattle.rbc_sessions.specs.Later.{IsLater};
+ghost use Rattle.rbc_sessions.specs.Outcomes.{IsToldToOne};
+ghost use Rattle.rbc_sessions.specs.Records.{HistoryOnTrack};
+ghost use Rattle.rbc_sessions.specs.Seats.{Seated};
 ghost use Rattle.rbc_server.specs.Serving.{closed_line, AreKept, IsAttended, IsClosed, IsCloseFault, IsServed, IsServeFault};
 ghost use Rattle.rbc_server.specs.declared.serving.ServeFault.TheVariants.{Port as PortFault, Write as WriteFault, Memory as NoMemory, Journal as JournalFault};
 
@@ -17,8 +17,8 @@ use crate::outcomes::{print_closed, print_outcomes};
 use crate::{Counter, KeepFault, Keeper, Staff};
 use rbc_model::Memory;
 use rbc_port::{Client, Clients};
+use rbc_sessions::{CloseFault, Desk, DeskName, OpenGate, Outcome, Record, Seat, Sight, sweep};
 use rbc_streams::{Sink, Source, WriteFailed};
-use rbc_sweep::{CloseFault, Desk, DeskName, OpenGate, Outcome, Record, Seat, Sight, sweep};
 use std::alloc::{AllocError, Global};
 use std::io::Eprint;
 use std::sync::Wait;

@@ -3,7 +3,7 @@
 ghost use Rattle.std.specs.Prelude.{◌≡◌, ◌+◌, ◌≤◌, map, take, drop, IfOk, vec_len};
 
 use crate::Sitting;
-use rbc_sweep::{DeskName, Seat};
+use rbc_sessions::{DeskName, Seat};
 use std::alloc::{AllocError, Global};
 
 /// Those who serve clients at a desk: each connection has a seat with its pen, and each worker of the sweep behind them a

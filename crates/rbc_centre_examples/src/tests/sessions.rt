@@ -179,7 +179,7 @@ where
         sitting,
     );
     assert_eq!(rt; left.ended, Ok(()));
-    let (seat, ()) = left.sitting.into_parts();
+    let Sitting { seat, .. } = left.sitting;
     seats.push(seat).expect(rt, "room");
     assert_eq!(rt; closed(rt, desk, seats).version(), case.entries);
     let alone = written_alone(rt, case);

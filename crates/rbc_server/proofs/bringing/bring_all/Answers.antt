@@ -1,6 +1,6 @@
 use Rattle.std.proofs.Common.{◌<◌, List, length, slice_index_or, subst, arith}
-use Rattle.rbc_sweep.specs.Seats.{Seated}
-use Rattle.rbc_sweep.proofs.CrewLemmas.{zip_written}
+use Rattle.rbc_sessions.specs.Seats.{Seated}
+use Rattle.rbc_sessions.proofs.CrewLemmas.{zip_written}
 use Rattle.rbc_server.specs.Serving.{IsBrought}
 use Rattle.rbc_server.proofs.bringing.bring_all.Goals as goal
 

@@ -1,5 +1,5 @@
 use Rattle.std.proofs.Common.{◌≡◌, ℕ, ◌<◌, ◌≤◌, get_or}
-use Rattle.rbc_sweep.specs.Seats.{Seated}
+use Rattle.rbc_sessions.specs.Seats.{Seated}
 use Rattle.rbc_server.specs.Serving.{IsBrought}
 use Rattle.rbc_server.proofs.bringing.bring_each.Given as goal
 

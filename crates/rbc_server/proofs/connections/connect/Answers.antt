@@ -1,4 +1,4 @@
-use Rattle.std.proofs.Common.{sym, subst, ◌∙◌, ap}
+use Rattle.std.proofs.Common.{sym, ◌∙◌, ap}
 use Rattle.std.specs.List.{list_any}
 use Rattle.rbc_server.proofs.ConnectionLemmas.{parted}
 use Rattle.rbc_server.proofs.connections.connect.Goals as goal

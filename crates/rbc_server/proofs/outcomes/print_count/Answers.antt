@@ -1,5 +1,5 @@
 use Rattle.std.proofs.Common.{refl}
-use Rattle.rbc_replies.proofs.PrintingLemmas.{prints_then, prints_stopped}
+use Rattle.rbc_sessions.proofs.PrintingLemmas.{prints_then, prints_stopped}
 use Rattle.rbc_server.proofs.outcomes.print_count.Goals as goal
 
 pub returns-in_err-put : goal.returns-in_err-put

@@ -1,8 +1,8 @@
 use Rattle.std.proofs.Common.{◌+◌, ◌∙◌, ap}
-use Rattle.rbc_replies.specs.PriceText.{prices_of}
+use Rattle.rbc_sessions.specs.PriceText.{prices_of}
 use Rattle.rbc_model.specs.SessionReply.{grant_reply}
-use Rattle.rbc_replies.specs.Replies.{grant_text}
-use Rattle.rbc_server.proofs.AskingLemmas.{told_text, told_whole}
+use Rattle.rbc_sessions.specs.Replies.{grant_text}
+use Rattle.rbc_sessions.proofs.AskingLemmas.{told_text, told_whole}
 use Rattle.rbc_server.proofs.outcomes.print_grant.Goals as goal
 
 pub print-requires-clause-of_track : goal.print-requires-clause-of_track

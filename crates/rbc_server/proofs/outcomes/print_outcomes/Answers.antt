@@ -1,6 +1,7 @@
 use Rattle.std.proofs.Common.{◌++◌, ◌+◌}
 use Rattle.std.proofs.KnownBytes.{Appends-trans, Appends-kept}
-use Rattle.rbc_server.proofs.OutcomeLemmas.{tells_next, tells_all, part_behind, whole_part, on_ok}
+use Rattle.rbc_sessions.proofs.SittingLemmas.{whole_part}
+use Rattle.rbc_server.proofs.OutcomeLemmas.{tells_next, tells_all, part_behind, on_ok}
 use Rattle.rbc_server.proofs.outcomes.print_outcomes.Goals as goal
 use Rattle.rbc_model.proofs.ResultLemmas.{on_err}
 

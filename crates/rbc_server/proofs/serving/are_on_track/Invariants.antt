@@ -1,5 +1,5 @@
 use Rattle.std.proofs.Common.{◌≡◌, All, take}
-use Rattle.rbc_sweep.specs.Seats.{Seated}
+use Rattle.rbc_sessions.specs.Seats.{Seated}
 use Rattle.rbc_server.proofs.serving.are_on_track.Given as goal
 
 abbrev pub invariant-loop-seat : goal.invariant-loop-seat

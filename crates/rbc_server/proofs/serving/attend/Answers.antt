@@ -2,9 +2,9 @@ use Rattle.std.proofs.Common.{◌≡◌, ◌++◌, ap, map, rules, refl, sym, su
 use Rattle.std.specs.Prelude.{All, IsPermutation}
 use Rattle.std.proofs.lemmas.Result.{err_from_is_err_and}
 use Rattle.rbc_model.specs.SoundTracks.{IsSound}
-use Rattle.rbc_sweep.specs.Closing.{all_receipts}
-use Rattle.rbc_sweep.specs.Outcomes.{AreTrainsOfFirst, IsToldToOne, granted, train_of}
-use Rattle.rbc_sweep.specs.Seats.{Seated}
+use Rattle.rbc_sessions.specs.Closing.{all_receipts}
+use Rattle.rbc_sessions.specs.Outcomes.{AreTrainsOfFirst, IsToldToOne, granted, train_of}
+use Rattle.rbc_sessions.specs.Seats.{Seated}
 use Rattle.rbc_server.specs.Serving.{TellsAll, IsCutOff, IsSwept, IsTellable}
 use Rattle.rbc_server.proofs.OutcomeLemmas.{all_tellable}
 use Rattle.rbc_server.proofs.ServingLemmas.{cut_off_is_told, swept_with}

@@ -1,7 +1,7 @@
 use Rattle.std.proofs.Common.{◌<◌, length, arith}
 use Rattle.std.proofs.lemmas.List.{get_or_read}
 use Rattle.std.proofs.lemmas.Result.{on_ok_weaker}
-use Rattle.rbc_server.proofs.GrantLemmas.{all_told}
+use Rattle.rbc_server.proofs.BringingLemmas.{all_told}
 use Rattle.rbc_server.proofs.ServingLemmas.{swept_kept}
 use Rattle.rbc_server.proofs.serving.keep_swept.Goals as goal
 

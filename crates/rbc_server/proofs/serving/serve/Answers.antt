@@ -1,7 +1,7 @@
 use Rattle.std.proofs.Common.{Err, subst, sym}
 use Rattle.std.specs.Prelude.{All}
-use Rattle.rbc_sweep.specs.Later.{IsLater}
-use Rattle.rbc_sweep.specs.Seats.{Seated}
+use Rattle.rbc_sessions.specs.Later.{IsLater}
+use Rattle.rbc_sessions.specs.Seats.{Seated}
 use Rattle.rbc_server.proofs.ServingLemmas.{fault_told}
 use Rattle.rbc_server.proofs.serving.serve.Goals as goal
 

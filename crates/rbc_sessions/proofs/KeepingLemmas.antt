@@ -1,0 +1,127 @@
+-- What is asked for is treated, and its reply is written once what led to the entry is kept.
+use Rattle.std.proofs.Common.{◌≡◌, ℕ, Bool, true, false, cond, List, [], ◌∷◌, ◌++◌, length, Option, Some, None, Result, Ok, Err, refl, sym, ap, ◌∙◌, subst, append-nil}
+use Rattle.std.proofs.Math.Seq.{take-append_seam}
+use Rattle.std.proofs.KnownBytes.{Appends-nil}
+use Rattle.std.proofs.lemmas.Bool.{both_ways}
+use Rattle.std.proofs.lemmas.Option.{none-some}
+use Rattle.std.specs.Prelude.{◌||◌, is_err, slice_get}
+use Rattle.std.specs.Io.KnownBytes.{Appends}
+use Rattle.std.specs.Result.{result_map_both}
+use Rattle.rbc_model.proofs.SaidLineLemmas.{said_line_read}
+use Rattle.rbc_model.specs.declared.refusals.LineFault.{LineFault}
+use Rattle.rbc_model.specs.Results.{◌>>=◌}
+use Rattle.rbc_model.specs.Tracks.{Track}
+use Rattle.rbc_model.specs.SoundTracks.{IsInForm}
+use Rattle.rbc_model.specs.Histories.{Entry, Receipt}
+use Rattle.rbc_model.specs.Sessions.{Prints}
+use Rattle.rbc_model.specs.SessionReply.{SessionRefusal, BadLine, Memory, refused_reply}
+use Rattle.rbc_model.specs.SessionText.{SessionLine, IsSayable, parse_session, said_line}
+use Rattle.rbc_sweep.specs.Records.{HistoryOnTrack}
+use Rattle.rbc_sweep.specs.Seats.{Seated}
+use Rattle.rbc_session_laws.specs.declared.demand.Demand.{Demand}
+use Rattle.rbc_session_laws.specs.Answers.{demand_answer, line_answer}
+use Rattle.rbc_session_laws.specs.Demands.{demand_in, looked_up}
+use Rattle.rbc_session_laws.specs.Turns.{AnswersDemand}
+use Rattle.rbc_session_laws.proofs.LineLemmas.{lines_are_answered, given_up_adds_none}
+use Rattle.rbc_sessions.specs.Changes.{with_added}
+use Rattle.rbc_sessions.specs.Keeping.{AddsEntry}
+use Rattle.rbc_sessions.specs.SeatTurns.{AnswersDemandAtDesk, IsAnsweredSince}
+use Rattle.rbc_sessions.specs.Sittings.{StaysKept, Treats}
+use Rattle.rbc_sessions.specs.declared.sitting.Sitting.{Sitting}
+
+-- ---- what a request adds
+
+-- what a line asks for is what it says, looked up
+pub line_asks : (track : Track) (line : List ℕ) (said : SessionLine) → parse_session line ≡ Ok said → demand_in track line ≡ looked_up track said
+line_asks track line said read = ap (λ r. result_map_both (λ x. x) BadLine r >>= looked_up track) read
+
+pub line_is_bad : (track : Track) (line : List ℕ) (fault : LineFault) → parse_session line ≡ Err fault → Err (BadLine fault) ≡ demand_in track line
+line_is_bad track line fault read = sym (ap (λ r. result_map_both (λ x. x) BadLine r >>= looked_up track) read)
+
+pub demand_adds : (track : Track) (before : List Entry) (said : SessionLine) (demand : Result Demand SessionRefusal) (reply : List ℕ) (entry : Entry) → IsInForm track → IsSayable said
+    → looked_up track said ≡ demand → AnswersDemand track before reply (Some entry) demand → (demand_answer track before (looked_up track said)).added ≡ Some entry
+unfolding line_answer
+demand_adds track before said demand reply entry form sayable is answers =
+    let line = said_line said in
+    let asks = line_asks track line said (said_line_read said sayable) in
+    let right = subst (λ d. AnswersDemand track before reply (Some entry) d) (sym (asks ∙ is)) answers in
+    let heard = λ (lost : reply ≡ refused_reply track Memory). none-some entry (sym (given_up_adds_none track before line reply (Some entry) right lost)) in
+    let same = lines_are_answered track before line reply (Some entry) form right heard in
+    subst (λ d. (demand_answer track before d).added ≡ Some entry) asks (sym same.1)
+
+pub last_stands : (entries : List Entry) (entry : Entry) → slice_get (entries ++ entry ∷ []) (length entries) ≡ Some entry
+last_stands [] entry = refl
+last_stands (e ∷ entries) entry = last_stands entries entry
+
+-- what led to the entry that was answered for adds it
+pub since_adds : (Answers : Track → List Entry → Option Entry → Type 0) (begun after : HistoryOnTrack) (receipt : Receipt) (said : SessionLine) (demand : Result Demand SessionRefusal) (reply : List ℕ)
+    → (since : IsAnsweredSince Answers begun after (Some receipt)) → IsInForm begun.track → IsSayable said → looked_up begun.track said ≡ demand
+    → ((track : Track) (entries : List Entry) → Answers track entries (Some receipt.entry) → AnswersDemand track entries reply (Some receipt.entry) demand)
+    → AddsEntry after receipt.place said
+since_adds Answers begun after receipt said demand reply since form sayable is as_demanded =
+    let before = since.before in
+    let later = since.later in
+    let entry = receipt.entry in
+    let adds : (demand_answer before.track before.entries (looked_up before.track said)).added ≡ Some entry =
+    demand_adds before.track before.entries said demand reply entry (subst IsInForm (sym later.track) form) sayable
+    (ap (λ t. looked_up t said) later.track ∙ is) (as_demanded before.track before.entries since.answered) in
+    let here : AddsEntry (with_added before (Some entry)) (length before.entries) said = record {
+      entry = entry;
+      stands = last_stands before.entries entry;
+      adds = subst (λ b. (demand_answer before.track b (looked_up before.track said)).added ≡ Some entry) (sym (take-append_seam before.entries (entry ∷ []))) adds;
+    } in
+    subst (λ n. AddsEntry after n said) (sym since.next) (subst (λ (h : HistoryOnTrack). AddsEntry h (length before.entries) said) (sym since.told) here)
+
+-- ---- what is printed
+
+module _ {E : Type 0} (old new : Option (List ℕ)) (writer_failed : Bool) (reply : List ℕ) (result : Result (Unit {0}) E) where
+  pub prints_whole : (failed : Bool) → failed ≡ false → Prints old new writer_failed reply result → Prints old new (failed || writer_failed) reply result
+  prints_whole true whole printed = absurd (let c : ⊥ = cc in c)
+  prints_whole false whole printed = printed
+
+prints_none : {E : Type 0} (old new : Option (List ℕ)) (result : Result (Unit {0}) E) → new ≡ old → is_err result ≡ true → Prints old new true [] result
+prints_none old new (Ok done) same fails = absurd (let c : ⊥ = cc in c)
+prints_none old new (Err fault) same fails =
+    record { text = ([], [], refl, subst (λ w. Appends old w []) (sym same) (Appends-nil old)); failed = refl }
+
+pub prints_said : {E : Type 0} (old new : Option (List ℕ)) (failed writer_failed : Bool) (reply : List ℕ) (result : Result (Unit {0}) E) → (failed ≡ false → Prints old new writer_failed reply result)
+    → (failed ≡ true → (new ≡ old) × (is_err result ≡ true)) → Prints old new (failed || writer_failed) (cond failed [] reply) result
+prints_said old new true writer_failed reply result said unsaid = let none = unsaid refl in prints_none old new result none.0 none.1
+prints_said old new false writer_failed reply result said unsaid = said refl
+
+-- ---- what is treated
+
+module _ {L P : Type 0} (kept : P → ℕ → Type 0) (demand : Result Demand SessionRefusal) where
+  -- nothing was entered
+  pub treats_idle : (before after : Sitting L P) (reply : List ℕ) → before.has_failed ≡ false → after.pen ≡ before.pen → after.has_failed ≡ before.has_failed
+      → AnswersDemandAtDesk before.seat.told after.seat.told reply None demand → after.seat.receipts ≡ before.seat.receipts → Treats kept demand before reply after
+  treats_idle before after reply whole pen same answers receipts = record {
+    whole = whole;
+    reply = reply;
+    comes = (None, answers, receipts ∙ sym (append-nil before.seat.receipts));
+    stays = subst (λ p. StaysKept kept before.pen p) (sym pen) (λ place k. k);
+    said = λ _. (refl, tt);
+    unsaid = λ failed. absurd (both_ways after.has_failed (same ∙ whole) failed);
+  }
+
+  -- an entry was, and it is kept, unless keeping has failed
+  pub treats_entered : (before after : Sitting L P) (seat : Seated) (receipt : Receipt) (reply : List ℕ) → before.has_failed ≡ false → after.seat ≡ seat
+      → AnswersDemandAtDesk before.seat.told seat.told reply (Some receipt) demand → seat.receipts ≡ before.seat.receipts ++ receipt ∷ []
+      → StaysKept kept before.pen after.pen → (after.has_failed ≡ false → kept after.pen receipt.place)
+      → Treats kept demand before (cond after.has_failed [] reply) after
+  treats_entered before after seat receipt reply whole same answers receipts stays is_kept = record {
+    whole = whole;
+    reply = reply;
+    comes = (
+      Some receipt,
+      subst (λ (s : Seated). AnswersDemandAtDesk before.seat.told s.told reply (Some receipt) demand) (sym same) answers,
+      ap (λ (s : Seated). s.receipts) same ∙ receipts,
+    );
+    stays = stays;
+    said = λ fine. (ap (λ b. cond b [] reply) fine, is_kept fine);
+    unsaid = λ failed. ap (λ b. cond b [] reply) failed;
+  }
+
+pub treats_as : {L P : Type 0} (kept : P → ℕ → Type 0) (before after : Sitting L P) (text : List ℕ) (one other : Result Demand SessionRefusal) → one ≡ other → Treats kept one before text after
+    → Treats kept other before text after
+treats_as kept before after text one other is treats = subst (λ d. Treats kept d before text after) is treats

@@ -1,0 +1,19 @@
+pub mod AskingLemmas
+pub mod CentreLemmas
+pub mod NamingLemmas
+pub mod SeatLemmas
+pub mod SeatSessionLemmas
+pub mod SeatAnswerLemmas
+pub mod SessionLemmas
+pub mod TellingLemmas
+pub mod AnsweredLemmas
+pub mod HistoryLemmas
+pub mod HearingLemmas
+pub mod SittingLemmas
+pub mod KeepingLemmas
+pub mod GrantLemmas
+pub mod TreatingLemmas
+pub use Rattle.rbc_sweep.proofs.AskingLemmas as DeskAskingLemmas
+pub use Rattle.rbc_sweep.proofs.CrewLemmas
+pub use Rattle.rbc_sweep.proofs.WorkLemmas
+pub use Rattle.rbc_replies.proofs.PrintingLemmas

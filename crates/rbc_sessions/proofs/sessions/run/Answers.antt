@@ -1,0 +1,17 @@
+use Rattle.rbc_sessions.proofs.AnsweredLemmas.{session_answers, session_retells}
+use Rattle.rbc_sessions.proofs.SessionLemmas.{session_track, session_turns}
+use Rattle.rbc_sessions.proofs.sessions.run.Goals as goal
+
+pub returns-clause-track : goal.returns-clause-track
+returns-clause-track g c = session_track _ _ _ _ _ _ c.converse.ensures.talk.2
+
+pub returns-clause-session : goal.returns-clause-session
+returns-clause-session g c = (c.converse.ensures.talk.0, c.converse.ensures.talk.1, session_turns _ _ _ _ _ _ c.converse.ensures.talk.2)
+
+pub returns-clause-answers : goal.returns-clause-answers
+returns-clause-answers g c =
+    session_answers _ c.converse.new.answerer _ _ _ _ _ c.converse.ensures.talk.0 c.known.ensures.form c.converse.ensures.end c.converse.ensures.talk.1 (session_turns _ _ _ _ _ _ c.converse.ensures.talk.2)
+
+pub returns-clause-retold : goal.returns-clause-retold
+returns-clause-retold g c =
+    session_retells _ c.converse.new.answerer _ _ _ c.converse.ensures.talk.0 (session_track _ _ _ _ _ _ c.converse.ensures.talk.2) c.known.ensures.form (session_turns _ _ _ _ _ _ c.converse.ensures.talk.2)

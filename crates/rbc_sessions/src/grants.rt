@@ -1,0 +1,202 @@
+//! What a sweep granted is kept before it is told.
+
+ghost use Rattle.std.specs.Prelude.{◌<◌, ℕ, All, IsPermutation, IfOk, OnOk, length};
+ghost use Rattle.std.specs.List.Sorted.{IsNonDecreasingBy};
+ghost use Rattle.rbc_model.specs.SessionText.{Ask, IsSayable};
+ghost use Rattle.rbc_sweep.specs.Outcomes.{granted};
+ghost use Rattle.rbc_sessions.specs.Keeping.{HasGrant, HasOutcome};
+ghost use Rattle.rbc_sessions.specs.Sittings.{AreKeptOf, HasRank, IsKeptAt, StaysKept, rank_place};
+
+use crate::{Counter, KeepFault, Keeper};
+use rbc_model::TrainId;
+use rbc_model::limits::LAST_TRAIN;
+use rbc_replies::words::Request;
+use rbc_sweep::{Answer, DeskName, Gate, Granted, Outcome, Seat};
+use std::alloc::{AllocError, Global};
+use std::sync::Wait;
+
+/// An outcome, by its number in a list, with the place of the entry that it tells of: the last number where it tells of none.
+#[derive(Clone, Copy)]
+struct Rank {
+    place: u64,
+    number: usize,
+}
+
+/// The place of the entry that an outcome tells of, or the last number.
+fn place_of(outcome: &Outcome) -> u64 {
+    match &outcome.answer {
+        Answer::Granted(granted) => granted.receipt.place(),
+        _ => u64::MAX,
+    }
+}
+
+/// The ranks in the order of the places.
+fn sorted(mut ranks: Vec<Rank>) -> Vec<Rank>
+    ensures permutation { IsPermutation ranks.items result.items }
+    ensures sorted { IsNonDecreasingBy rank_place result.items }
+{
+    ranks.sort_unstable_by_key(|rank| rank.place);
+    ranks
+}
+
+/// A rank for each of these outcomes, in the order of the entries that they tell of.
+///
+/// # Errors
+///
+/// The allocator refuses memory.
+fn ranked(alloc: Global, outcomes: &[Outcome]) -> Result<Vec<Rank>, AllocError>
+    ensures each { IfOk result (λ ranks. (number : ℕ) → number < length outcomes.now → HasRank ranks.items number) }
+    ensures sorted { IfOk result (λ ranks. IsNonDecreasingBy rank_place ranks.items) }
+{
+    let mut ranks = Vec::with_capacity(alloc, outcomes.len())?;
+    for number in 0..outcomes.len() {
+        let place = place_of(&outcomes[number]);
+        ranks.push_reserved(Rank { place, number });
+    }
+    Ok(sorted(ranks))
+}
+
+impl<'a, L: DeskName, K: Keeper<L>, G: Gate, R: Wait> Counter<'a, L, K, G, R> {
+    /// The request of a train, ready to be kept.
+    ///
+    /// # Errors
+    ///
+    /// `Memory`: there is none for it. `Journal`: no line says it.
+    fn text_of(&self, alloc: Global, train: TrainId) -> Result<K::Text, KeepFault>
+        ensures sayable { OnOk result (IsSayable (Ask train)) }
+        ensures says { IfOk result (λ text. K.says text (Ask train)) }
+    {
+        // Every train has a number from 1 to the last. No line says another.
+        if train.number() < 1 {
+            return Err(KeepFault::Journal);
+        }
+        if train.number() > LAST_TRAIN {
+            return Err(KeepFault::Journal);
+        }
+        match self.keeper.prepare(alloc, &Request::Ask(train)) {
+            Ok(text) => Ok(text),
+            Err(_) => Err(KeepFault::Memory),
+        }
+    }
+
+    /// Keeps the request of a train that led to what it was granted.
+    ///
+    /// # Errors
+    ///
+    /// `Journal`: it could not be kept. `Memory`: there is none for it.
+    fn keep_grant(
+        &self,
+        alloc: Global,
+        pen: &mut K::Pen,
+        seat: &Seat<L>,
+        train: TrainId,
+        granted: &Granted,
+    ) -> Result<(), KeepFault>
+        requires told { HasGrant seat.now.told train granted.now }
+        ensures kept { OnOk result (K.kept pen.new granted.now.receipt.place) }
+        ensures stays { StaysKept K.kept pen.old pen.new }
+    {
+        // What the seat was told is on the desk's track, in form.
+        self.track.known();
+        seat.known();
+        let text = self.text_of(alloc, train)?;
+        match self
+            .keeper
+            .keep(self.waiting, pen, seat, &granted.receipt, text)
+        {
+            Ok(()) => Ok(()),
+            Err(_) => Err(KeepFault::Journal),
+        }
+    }
+
+    /// Keeps the request of a train that led to what an outcome tells that it was granted, if it was.
+    ///
+    /// # Errors
+    ///
+    /// As above.
+    fn keep_outcome(
+        &self,
+        alloc: Global,
+        pen: &mut K::Pen,
+        seat: &Seat<L>,
+        outcome: &Outcome,
+    ) -> Result<(), KeepFault>
+        requires told { HasOutcome seat.now.told outcome.now }
+        ensures kept { OnOk result (AreKeptOf (K.kept pen.new) outcome.now) }
+        ensures stays { StaysKept K.kept pen.old pen.new }
+    {
+        match &outcome.answer {
+            Answer::Granted(granted) => self.keep_grant(alloc, pen, seat, outcome.train, granted),
+            _ => Ok(()),
+        }
+    }
+
+    /// The same of the outcome with this number.
+    ///
+    /// # Errors
+    ///
+    /// As above.
+    fn keep_numbered(
+        &self,
+        alloc: Global,
+        pen: &mut K::Pen,
+        seat: &Seat<L>,
+        number: usize,
+        outcomes: &[Outcome],
+    ) -> Result<(), KeepFault>
+        requires told { All (HasOutcome seat.now.told) outcomes.now }
+        ensures kept { OnOk result (IsKeptAt (K.kept pen.new) outcomes.now number) }
+        ensures stays { StaysKept K.kept pen.old pen.new }
+    {
+        match outcomes.get(number) {
+            Some(outcome) => self.keep_outcome(alloc, pen, seat, outcome),
+            None => Ok(()),
+        }
+    }
+
+    /// The same of all outcomes, in the order of these ranks.
+    ///
+    /// # Errors
+    ///
+    /// As above.
+    fn keep_ranked(
+        &self,
+        alloc: Global,
+        pen: &mut K::Pen,
+        seat: &Seat<L>,
+        ranks: &[Rank],
+        outcomes: &[Outcome],
+    ) -> Result<(), KeepFault>
+        requires told { All (HasOutcome seat.now.told) outcomes.now }
+        requires each { (number : ℕ) → number < length outcomes.now → HasRank ranks.now number }
+        ensures kept { OnOk result (All (λ receipt. K.kept pen.new receipt.place) (granted outcomes.now)) }
+        ensures stays { StaysKept K.kept pen.old pen.new }
+    {
+        for rank in ranks {
+            self.keep_numbered(alloc, pen, seat, rank.number, outcomes)?;
+        }
+        Ok(())
+    }
+
+    /// Keeps the requests of all trains that were granted something, in the order of its entries. The seat was told all.
+    ///
+    /// # Errors
+    ///
+    /// As above.
+    pub fn keep_grants(
+        &self,
+        alloc: Global,
+        pen: &mut K::Pen,
+        seat: &Seat<L>,
+        outcomes: &[Outcome],
+    ) -> Result<(), KeepFault>
+        requires told { All (HasOutcome seat.now.told) outcomes.now }
+        ensures kept { OnOk result (All (λ receipt. K.kept pen.new receipt.place) (granted outcomes.now)) }
+        ensures stays { StaysKept K.kept pen.old pen.new }
+    {
+        match ranked(alloc, outcomes) {
+            Ok(ranks) => self.keep_ranked(alloc, pen, seat, ranks.as_slice(), outcomes),
+            Err(_) => Err(KeepFault::Memory),
+        }
+    }
+}

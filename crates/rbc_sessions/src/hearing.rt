@@ -1,0 +1,194 @@
+//! A sitting in a session answers lines. What is told rests, so that it is entered in one hold of the desk's lock.
+
+ghost use Rattle.std.specs.Prelude.{◌≡◌, ◌||◌, [], ℕ, List, false, MatchBool};
+ghost use Rattle.rbc_model.specs.Sessions.{Prints};
+ghost use Rattle.rbc_sessions.specs.Hearings.{CatchesUp, CatchesUpAndTreats, IsGoing, Rests};
+
+use crate::nowhere::Nowhere;
+use crate::resting::Resting;
+use crate::{Counter, Keeper, Sitting, demand_in};
+use rbc_model::LineFault;
+use rbc_model::limits::LONGEST_LINE;
+use rbc_replies::{SessionRefusal, SessionReply, print};
+use rbc_session_laws::Demand;
+use rbc_streams::{Answers, Sink, WriteFailed};
+use rbc_sweep::{DeskName, Gate};
+use std::alloc::Global;
+use std::sync::Wait;
+use std::thread::Threads;
+
+/// How many lines may rest: all others wait for the desk while these are entered.
+const MOST_RESTING: usize = 64;
+
+/// A sitting in a session, and what was told at it and rests.
+#[derive(Drop)]
+pub(crate) struct Hearing<L: DeskName, P> {
+    pub(crate) sitting: Sitting<L, P>,
+    resting: Resting,
+}
+
+impl<L: DeskName, P: Drop> Hearing<L, P> {
+    /// The sitting, at which nothing was told yet.
+    pub(crate) fn new(alloc: Global, sitting: Sitting<L, P>) -> Hearing<L, P>
+        ensures sitting { result.sitting ≡ sitting }
+        ensures none_rests { result.resting ≡ [] }
+    {
+        Hearing {
+            sitting,
+            resting: Resting::new(alloc),
+        }
+    }
+
+    /// Lets a line rest, if it is told and nothing has to be kept of it, and tells whether it does.
+    fn rest<'a, K: Keeper<L, Pen = P>, G: Gate, R: Wait>(
+        &mut self,
+        counter: &Counter<'a, L, K, G, R>,
+        line: &[u8],
+    ) -> bool
+        requires { IsGoing L.opened.track K.kept self.old }
+        ensures { MatchBool result (Rests L.opened.track K.kept self.old line.now self.new) (self.new ≡ self.old) }
+    {
+        // What the seat was told is on the desk's track.
+        self.sitting.seat.known();
+        if !counter.keeper.keeps_nothing() {
+            return false;
+        }
+        match demand_in(counter.track, line) {
+            Ok(Demand::Event(told)) => self.resting.push(told),
+            _ => false,
+        }
+    }
+
+    /// Enters what rests, in one hold of the desk's lock, publishes it unless more comes, and prints the replies to it.
+    ///
+    /// # Errors
+    ///
+    /// The writer failed. All is entered.
+    fn catch_up<'a, K: Keeper<L, Pen = P>, G: Gate, R: Wait, W: Sink>(
+        &mut self,
+        alloc: Global,
+        counter: &Counter<'a, L, K, G, R>,
+        more: bool,
+        writer: &mut W,
+    ) -> Result<(), WriteFailed>
+        requires going { W.failed writer.old ≡ false }
+        requires ready { IsGoing L.opened.track K.kept self.old }
+        ensures { (text : List ℕ) × CatchesUp K.kept self.old text self.new
+            × Prints (W.written writer.old) (W.written writer.new) (W.failed writer.new) text result }
+    {
+        if self.resting.len() == 0 {
+            return Ok(());
+        }
+        let Hearing { sitting, resting } = self;
+        resting.enter(alloc, counter, &mut sitting.seat, more, writer)
+    }
+
+    /// Publishes what was told or granted before the connection is read again, or ends.
+    fn publish<'a, K: Keeper<L, Pen = P>, G: Gate, R: Wait>(
+        &mut self,
+        alloc: Global,
+        counter: &Counter<'a, L, K, G, R>,
+        more: bool,
+        said: &Result<(), WriteFailed>,
+    )
+        ensures { self.new ≡ self.old }
+    {
+        if !more || said.is_err() {
+            counter.publish(alloc, &mut self.sitting.seat);
+        }
+    }
+
+    /// Enters what rests, and then treats a line. Where the replies to what rested could not be printed, the reply to the line
+    /// is not either.
+    ///
+    /// # Errors
+    ///
+    /// The writer failed, or what led to the entry could not be kept.
+    fn treat<'a, K: Keeper<L, Pen = P>, G: Gate, R: Wait, T: Threads + Sync, W: Sink>(
+        &mut self,
+        rt: &T,
+        alloc: Global,
+        counter: &Counter<'a, L, K, G, R>,
+        line: &[u8],
+        writer: &mut W,
+    ) -> Result<(), WriteFailed>
+        requires going { W.failed writer.old ≡ false }
+        requires ready { IsGoing L.opened.track K.kept self.old }
+        ensures { (reply : List ℕ) × CatchesUpAndTreats K.kept self.old line.now reply self.new
+            × Prints (W.written writer.old) (W.written writer.new) (self.new.sitting.has_failed || W.failed writer.new) reply result }
+    {
+        match self.catch_up(alloc, counter, true, writer) {
+            Ok(()) => counter.treat_line(rt, alloc, &mut self.sitting, line, writer),
+            Err(failed) => {
+                let _ = counter.treat_line(rt, alloc, &mut self.sitting, line, &mut Nowhere);
+                Err(failed)
+            }
+        }
+    }
+}
+
+impl<'a, L: DeskName, P: Drop, K: Keeper<L, Pen = P>, G: Gate, R: Wait> Answers<
+    Counter<'a, L, K, G, R>,
+> for Hearing<L, P> {
+    type State = Hearing<L, P>;
+
+    ghost use Rattle.std.specs.Prelude.{◌≡◌, ◌≤◌, false, length};
+    ghost use Rattle.rbc_model.specs.declared.limits.TheConstants.{LONGEST_CHECK_LINE, LONGEST_LINE};
+    ghost use Rattle.rbc_sessions.specs.Hearings.{Advances, IsGoing};
+
+    ghost longest = { LONGEST_LINE };
+
+    ghost state = { λ hearing. hearing };
+
+    ghost answers = { Advances L.opened.track K.kept };
+
+    ghost rests = { λ hearing. length hearing.resting };
+
+    ghost ready = { IsGoing L.opened.track K.kept };
+
+    ghost broken = { λ hearing. hearing.sitting.has_failed };
+
+    ghost works = { λ now ready. ready.whole };
+
+    ghost goes_on = { λ now next line reply advances whole. advances.goes_on whole };
+
+    fn longest_line() -> usize
+        ensures value { result ≡ LONGEST_LINE }
+        ensures bound { result ≤ LONGEST_CHECK_LINE }
+    {
+        LONGEST_LINE
+    }
+
+    fn answer<T: Threads + Sync, W: Sink>(
+        &mut self,
+        rt: &T,
+        alloc: Global,
+        counter: &Counter<'a, L, K, G, R>,
+        line: &[u8],
+        more: bool,
+        writer: &mut W,
+    ) -> Result<(), WriteFailed> {
+        if self.rest(counter, line) {
+            if more && self.resting.len() < MOST_RESTING {
+                return Ok(());
+            }
+            let said = self.catch_up(alloc, counter, more, writer);
+            self.publish(alloc, counter, more, &said);
+            return said;
+        }
+        let said = self.treat(rt, alloc, counter, line, writer);
+        self.publish(alloc, counter, more, &said);
+        said
+    }
+
+    fn refuse<W: Sink>(
+        &mut self,
+        counter: &Counter<'a, L, K, G, R>,
+        writer: &mut W,
+    ) -> Result<(), WriteFailed> {
+        // What the seat was told is on the desk's track.
+        self.sitting.seat.known();
+        let overlong = SessionReply::Refused(SessionRefusal::BadLine(LineFault::Overlong));
+        print(counter.track, &overlong, writer)
+    }
+}

@@ -1,0 +1,33 @@
+//! Sessions of the centre, over a record or from a seat of a desk: each line is answered after all that was told and granted
+//! before it.
+#![tactic(auto)]
+
+mod asking;
+mod centre;
+mod counter;
+mod demand;
+mod grants;
+mod hearing;
+mod histories;
+mod keeping;
+mod nowhere;
+mod resting;
+mod sessions;
+mod sitting;
+mod telling;
+
+pub use asking::{commit, stopped, told_of};
+pub use counter::Counter;
+pub use demand::{demand_in, looked_up};
+pub use histories::print_history;
+pub use keeping::{KeepFault, Keeper, NoJournal, NotKept};
+pub use rbc_replies as replies;
+pub use rbc_replies::words;
+pub use rbc_streams::SessionFault;
+pub use rbc_sweep::{
+    Answer, Blank, Candidate, CloseFault, Desk, DeskName, Granted, OpenGate, Outcome, Receipt,
+    Record, Seat, Sight, Track, View, candidate, sweep,
+};
+pub use sessions::{SessionEnd, run, session};
+pub use sitting::Sitting;
+pub use telling::{in_vain, tell};
