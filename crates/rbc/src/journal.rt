@@ -1,6 +1,8 @@
 //! Centres whose history is kept in a journal.
 
-ghost use Rattle.std.specs.Prelude.{◌≡◌, []};
+ghost use Rattle.std.specs.Prelude.{◌≡◌, [], IfOk};
+ghost use Rattle.rbc_journal_file.specs.Device.{Only};
+ghost use Rattle.rbc_pages.specs.Kept.{IsReady};
 
 use crate::failure::Failure;
 use crate::history::write_history;
@@ -9,8 +11,9 @@ use crate::serve_kept::serve_kept;
 use rbc_command_line::Service;
 use rbc_pages::Stream;
 use rbc_pages::kept::server::Record;
-use rbc_pages::kept::{self, Kept};
+use rbc_pages::kept::{self, Device, Kept};
 use rbc_trackfile::Track;
+use std::alloc::Global;
 use std::fs::{File, Files};
 use std::io::{self, Eprint};
 use std::net::{Net, TcpListener, TcpStream};
@@ -49,13 +52,7 @@ pub(crate) fn run_kept(
 {
     let alloc = rt.alloc();
     let (bytes, device) = rbc_journal_file::open(rt, journal)?;
-    if !is_journal(bytes.as_slice()) {
-        return Err(Failure::Journal(JournalFault::Foreign(1)));
-    }
-    let mut kept = match Kept::open(rt, alloc, empty, bytes.as_slice(), device) {
-        Ok(kept) => kept,
-        Err((fault, _)) => return Err(fault.into()),
-    };
+    let mut kept = recovered(rt, alloc, empty, bytes.as_slice(), device)?;
     let ended = kept::run(
         rt,
         alloc,
@@ -93,16 +90,36 @@ pub(crate) fn serve_with(
     let alloc = rt.alloc();
     let empty = Record::new(alloc, track)?;
     let (bytes, device) = rbc_journal_file::open(rt, journal)?;
-    if !is_journal(bytes.as_slice()) {
-        return Err(Failure::Journal(JournalFault::Foreign(1)));
-    }
-    let kept = match Kept::open(rt, alloc, empty, bytes.as_slice(), device) {
-        Ok(kept) => kept,
-        Err((fault, _)) => return Err(fault.into()),
-    };
+    let kept = recovered(rt, alloc, empty, bytes.as_slice(), device)?;
     let mut writer = Stream::writer(alloc, io::writer(rt))?;
     let port = open_port(rt, service, &mut writer)?;
     serve_kept(rt, alloc, port, kept, service, &mut writer)
+}
+
+/// The record that a journal's bytes tell, with its journal: an empty record gains what they tell.
+///
+/// # Errors
+///
+/// `Journal`, where a centre did not leave these bytes, they are of another track, or the file fails; `Memory`.
+fn recovered<D: Device + Drop>(
+    rt: &(impl Threads + Sync),
+    alloc: Global,
+    empty: Record,
+    bytes: &[u8],
+    device: D,
+) -> Result<Kept<D>, Failure>
+    requires empty { empty.entries ≡ [] }
+    requires read { D.seen device ≡ bytes.now }
+    requires durable { Only (D.seen device) (D.may_leave device) }
+    ensures { IfOk result (λ kept. IsReady D.seen D.may_leave kept) }
+{
+    if !is_journal(bytes) {
+        return Err(Failure::Journal(JournalFault::Foreign(1)));
+    }
+    match Kept::open(rt, alloc, empty, bytes, device) {
+        Ok(kept) => Ok(kept),
+        Err((fault, _)) => Err(fault.into()),
+    }
 }
 
 /// How many bytes a file has at most whose first gate is still closed: a line was being put behind it.
