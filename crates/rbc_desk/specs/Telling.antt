@@ -10,8 +10,9 @@ use Rattle.rbc_snap.specs.Records.{HistoryOnTrack}
 use Rattle.rbc_snap.specs.Later.{IsLater}
 use Rattle.rbc_desk.specs.Seats.{Seated}
 
--- It is entered behind some legal history that goes on from all that had been told, or refused after that history as the definitions say; or
--- memory was refused, where nothing refuses it at once there. What is told then is that history, with what was entered.
+-- The answer is right for a state that the desk may have been in: after a legal history that goes on from all that had been told it is entered, or
+-- refused as the definitions say; or memory was refused, where nothing refuses it at once there. What is told then is that history, with what was
+-- entered.
 pub record IsToldThen (begun after : HistoryOnTrack) (told : Told) (answer : Result Receipt (OrMemory ApplyFault)) : Type 0 where
   pub before : HistoryOnTrack
   pub later : IsLater begun before
