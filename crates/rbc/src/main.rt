@@ -58,46 +58,58 @@ fn run(
     let alloc = rt.alloc();
     let words: Vec<String> = env::args(rt)?.collect(alloc)?;
     match rbc_command_line::read(alloc, words.as_slice())? {
-        Task::Steps => {
-            steps(
-                rt,
-                alloc,
-                &mut Stream::reader(rt.reader()),
-                &mut Stream::writer(alloc, io::writer(rt))?,
-            )?;
-            Ok(())
-        }
-        Task::Check => {
-            let all_certified = check(
-                rt,
-                alloc,
-                &mut Stream::reader(rt.reader()),
-                &mut Stream::writer(alloc, io::writer(rt))?,
-            )?;
-            if all_certified {
-                Ok(())
-            } else {
-                Err(Failure::NotCertified)
-            }
-        }
+        Task::Steps => answer_input(rt),
+        Task::Check => check_input(rt),
         Task::Decode(Printing::Plain) => decode_input(rt, &Plain),
         Task::Decode(Printing::Json) => decode_input(rt, &Json),
-        Task::Draw => {
-            let all_certified = draw(
-                rt,
-                alloc,
-                &mut Stream::reader(rt.reader()),
-                &mut Stream::writer(alloc, io::writer(rt))?,
-            )?;
-            if all_certified {
-                Ok(())
-            } else {
-                Err(Failure::NotCertified)
-            }
-        }
+        Task::Draw => draw_input(rt),
         Task::Run(centre) => run_centre(rt, &centre),
         Task::Show(shown) => show_session(rt, &shown),
         Task::Serve(service) => serve_centre(rt, &service),
+    }
+}
+
+/// Answers the requests for steps of the standard input.
+fn answer_input(rt: &(impl Input + Print + AllocGlobal + Threads + Sync)) -> Result<(), Failure> {
+    let alloc = rt.alloc();
+    steps(
+        rt,
+        alloc,
+        &mut Stream::reader(rt.reader()),
+        &mut Stream::writer(alloc, io::writer(rt))?,
+    )?;
+    Ok(())
+}
+
+/// Judges the certificates of the standard input.
+fn check_input(rt: &(impl Input + Print + AllocGlobal + Threads + Sync)) -> Result<(), Failure> {
+    let alloc = rt.alloc();
+    let all_certified = check(
+        rt,
+        alloc,
+        &mut Stream::reader(rt.reader()),
+        &mut Stream::writer(alloc, io::writer(rt))?,
+    )?;
+    if all_certified {
+        Ok(())
+    } else {
+        Err(Failure::NotCertified)
+    }
+}
+
+/// Draws the certificates of the standard input.
+fn draw_input(rt: &(impl Input + Print + AllocGlobal + Threads + Sync)) -> Result<(), Failure> {
+    let alloc = rt.alloc();
+    let all_certified = draw(
+        rt,
+        alloc,
+        &mut Stream::reader(rt.reader()),
+        &mut Stream::writer(alloc, io::writer(rt))?,
+    )?;
+    if all_certified {
+        Ok(())
+    } else {
+        Err(Failure::NotCertified)
     }
 }
 
