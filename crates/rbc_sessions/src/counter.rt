@@ -33,16 +33,17 @@ use std::alloc::Global;
 use std::sync::Wait;
 use std::thread::Threads;
 
-/// What the seats of a desk have at hand: the desk, with its track, which gives the names; what keeps the requests that led
-/// to entries; the gate; and a runtime that waits for locks.
+/// What the seats of a desk have at hand.
 #[derive(Drop)]
 pub struct Counter<'a, L: DeskName, K, G, R> {
     pub desk: &'a Desk<L>,
-    /// Its track.
+    /// Its track, which gives the names.
     pub track: &'a Track,
-    pub(crate) keeper: &'a K,
-    pub(crate) gate: &'a G,
-    pub(crate) waiting: &'a R,
+    /// What keeps the requests that led to entries.
+    pub keeper: &'a K,
+    pub gate: &'a G,
+    /// What waits for locks.
+    pub waiting: &'a R,
     pub ghost of_desk: { track.now ≡ L.opened.track },
 }
 
@@ -53,7 +54,12 @@ impl<'a, L: DeskName, K, G, R> Counter<'a, L, K, G, R> {
         keeper: &'a K,
         gate: &'a G,
         waiting: &'a R,
-    ) -> Counter<'a, L, K, G, R> {
+    ) -> Counter<'a, L, K, G, R>
+        ensures desk { result.desk.now ≡ desk.now }
+        ensures keeper { result.keeper.now ≡ keeper.now }
+        ensures gate { result.gate.now ≡ gate.now }
+        ensures waiting { result.waiting.now ≡ waiting.now }
+    {
         Counter {
             desk,
             track: desk.track(),

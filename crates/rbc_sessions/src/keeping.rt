@@ -1,6 +1,6 @@
 //! What keeps the requests that led to entries, before these are answered.
 
-ghost use Rattle.std.specs.Prelude.{ℕ, IfOk, OnOk, IsTrue};
+ghost use Rattle.std.specs.Prelude.{◌≡◌, ℕ, true, Ok, IfOk, OnOk, IsTrue};
 ghost use Rattle.rbc_model.specs.SessionText.{SessionLine, IsSayable};
 ghost use Rattle.rbc_sessions.specs.Keeping.{AddsEntry};
 ghost use Rattle.rbc_replies.specs.SessionLines.{request_view};
@@ -87,14 +87,20 @@ impl<L: DeskName> Keeper<L> for NoJournal {
 
     ghost says = { λ _ _. Unit {0} };
 
-    fn keeps_nothing(&self) -> bool {
+    fn keeps_nothing(&self) -> bool
+        ensures { result ≡ true }
+    {
         true
     }
 
-    fn prepare(&self, _alloc: Global, _request: &Request) -> Result<(), Memory> {
+    /// It takes no memory, so it never fails.
+    fn prepare(&self, _alloc: Global, _request: &Request) -> Result<(), Memory>
+        ensures { result ≡ Ok tt }
+    {
         Ok(())
     }
 
+    /// It never fails.
     fn keep<R: Wait>(
         &self,
         _rt: &R,
@@ -102,7 +108,9 @@ impl<L: DeskName> Keeper<L> for NoJournal {
         _seat: &Seat<L>,
         _receipt: &Receipt,
         _text: (),
-    ) -> Result<(), NotKept> {
+    ) -> Result<(), NotKept>
+        ensures { result ≡ Ok tt }
+    {
         Ok(())
     }
 }
