@@ -20,21 +20,27 @@ use rbc_words::{
     Basis, Spelled, StepsLine, StepsRequest, parse_steps, print_certified, print_refusal,
 };
 use std::alloc::Global;
+use std::thread::Threads;
 
 /// Writes the answer to a line.
 ///
 /// # Errors
 ///
 /// `WriteFailed`, where the writer fails. Then a part of the answer stands, from its start.
-pub fn answer_line<W: Sink>(alloc: Global, line: &[u8], writer: &mut W) -> Result<(), WriteFailed>
+pub fn answer_line<W: Sink>(
+    rt: &(impl Threads + Sync),
+    alloc: Global,
+    line: &[u8],
+    writer: &mut W,
+) -> Result<(), WriteFailed>
     requires { W.failed writer.old ≡ false }
     ensures { (reply : List ℕ) × AnswersLine Far line.now reply
         × Prints (W.written writer.old) (W.written writer.new) (W.failed writer.new) reply result }
 {
     match parse_steps(alloc, line) {
         Ok(StepsLine::Blank) => Ok(()),
-        Ok(StepsLine::Speed(request)) => answer_speeds(alloc, request, writer),
-        Ok(StepsLine::Grade(request)) => answer_grades(alloc, request, writer),
+        Ok(StepsLine::Speed(request)) => answer_speeds(rt, alloc, request, writer),
+        Ok(StepsLine::Grade(request)) => answer_grades(rt, alloc, request, writer),
         Err(OrMemory::Refused(fault)) => print_refusal(StepsRefusal::BadLine(fault), writer),
         Err(OrMemory::Memory) => print_refusal(StepsRefusal::Memory, writer),
     }
@@ -46,6 +52,7 @@ pub fn answer_line<W: Sink>(alloc: Global, line: &[u8], writer: &mut W) -> Resul
 ///
 /// As of [`answer_line`].
 fn answer_speeds<W: Sink>(
+    rt: &(impl Threads + Sync),
     alloc: Global,
     request: StepsRequest<Speed>,
     writer: &mut W,
@@ -57,7 +64,10 @@ fn answer_speeds<W: Sink>(
 {
     let StepsRequest { limit, runs, end } = request;
     match Runs::new(runs, end) {
-        Ok(track) => print_chosen(alloc, limit, &track, &reduce(alloc, &track, limit), writer),
+        Ok(track) => {
+            let chosen = reduce(rt, alloc, &track, limit);
+            print_chosen(alloc, limit, &track, &chosen, writer)
+        }
         Err(fault) => print_refusal(StepsRefusal::from(fault), writer),
     }
 }
@@ -68,6 +78,7 @@ fn answer_speeds<W: Sink>(
 ///
 /// As of [`answer_line`].
 fn answer_grades<W: Sink>(
+    rt: &(impl Threads + Sync),
     alloc: Global,
     request: StepsRequest<Grade>,
     writer: &mut W,
@@ -79,7 +90,10 @@ fn answer_grades<W: Sink>(
 {
     let StepsRequest { limit, runs, end } = request;
     match Runs::new(runs, end) {
-        Ok(track) => print_chosen(alloc, limit, &track, &reduce(alloc, &track, limit), writer),
+        Ok(track) => {
+            let chosen = reduce(rt, alloc, &track, limit);
+            print_chosen(alloc, limit, &track, &chosen, writer)
+        }
         Err(fault) => print_refusal(StepsRefusal::from(fault), writer),
     }
 }

@@ -51,14 +51,14 @@ impl Answers<()> for Certifier {
 
     fn answer<T: Threads + Sync, W: Sink>(
         &mut self,
-        _rt: &T,
+        rt: &T,
         alloc: Global,
         _help: &(),
         line: &[u8],
         _more: bool,
         writer: &mut W,
     ) -> Result<(), WriteFailed> {
-        answer_line(alloc, line, writer)
+        answer_line(rt, alloc, line, writer)
     }
 
     fn refuse<W: Sink>(&mut self, _help: &(), writer: &mut W) -> Result<(), WriteFailed> {
@@ -89,8 +89,9 @@ pub fn steps<R: Source, W: Sink>(
     // Without memory nothing begins.
     ensures memory { result ≡ Err SessionFault.Memory → (reader.new ≡ reader.old) × (writer.new ≡ writer.old) }
 
-    // Ok is answered at the end of the input.
+    // Ok is answered at the end of the input, which the last read found.
     ensures end { OnOk result (IsAtEnd (R.left reader.new)) }
+    ensures ended { OnOk result (R.ended reader.new ≡ true) }
 
     // What was written answers the lines of what was read.
     ensures talk { (input : List ℕ) × Consumes (R.left reader.old) (R.left reader.new) input

@@ -2,3 +2,4 @@ pub mod PriceLemmas
 pub mod NextBreakLemmas
 pub mod CostLemmas
 pub mod TotalLemmas
+pub mod LowFromLemmas

@@ -6,6 +6,7 @@
 #![tactic(auto)]
 
 mod costs;
+mod next;
 mod priced;
 mod stretches;
 mod sums;
@@ -13,10 +14,11 @@ mod table;
 mod total;
 
 pub use costs::{costs_to, further, least_of, totals_on};
+pub use next::{low_from, next_costs};
 pub use priced::Priced;
 pub use rbc_model::Memory;
 pub use rbc_stretches::{Stretch, is_at_most};
 pub use stretches::stretches_of;
-pub use sums::cheapest;
+pub use sums::{Four, cheapest, cheapest_four, cheapest_from};
 pub use table::price_at;
 pub use total::Total;

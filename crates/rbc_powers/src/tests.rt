@@ -176,7 +176,7 @@ fn reduced<V: Kind>(
     assert!(rt; 1 <= limit && limit <= MOST_STEPS);
     let track = track_of(rt, runs, end);
     assert!(rt; is_whole(&track));
-    let reduced = reduce(rt.alloc(), &track, limit).expect(rt, "memory");
+    let reduced = reduce(rt, rt.alloc(), &track, limit).expect(rt, "memory");
     assert!(rt; check(rt.alloc(), &track, limit, &reduced.profile, &reduced.prices) == Ok(()));
     reduced
 }
@@ -256,7 +256,7 @@ fn memory_or_the_answer(rt: HostRuntime) {
     }
     if let Ok(track) = Runs::new(rows, 300) {
         assert!(rt; is_whole(&track));
-        if let Ok(reduced) = reduce(rt.alloc(), &track, 2) {
+        if let Ok(reduced) = reduce(&rt, rt.alloc(), &track, 2) {
             assert!(rt; check(rt.alloc(), &track, 2, &reduced.profile, &reduced.prices) == Ok(()));
         }
     }

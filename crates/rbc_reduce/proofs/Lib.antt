@@ -2,3 +2,4 @@ pub mod RowLemmas
 pub mod GreatestTableLemmas
 pub mod ReadBackLemmas
 pub mod ProfileLemmas
+mod TileLemmas

@@ -11,12 +11,12 @@ use Rattle.rbc_model.proofs.BasicLemmas.{next_or_at_most}
 
 -- ---- one price more in a row
 
-at_before : (row : List ℕ) (price i : ℕ) → i < length row → get_or (row ++ price ∷ []) i 0 ≡ get_or row i 0
+pub at_before : (row : List ℕ) (price i : ℕ) → i < length row → get_or (row ++ price ∷ []) i 0 ≡ get_or row i 0
 at_before [] price i h = absurd (omega arith)
 at_before (x ∷ row) price zero h = refl
 at_before (x ∷ row) price (suc i) h = at_before row price i (omega arith)
 
-at_last : (row : List ℕ) (price : ℕ) → get_or (row ++ price ∷ []) (length row) 0 ≡ price
+pub at_last : (row : List ℕ) (price : ℕ) → get_or (row ++ price ∷ []) (length row) 0 ≡ price
 at_last [] price = refl
 at_last (x ∷ row) price = at_last row price
 
@@ -27,7 +27,7 @@ up_before row new price (suc i) e h = ap (λ r. get_or r i 0) e ∙ at_before ro
 up_last : (row new : List ℕ) (price to : ℕ) → new ≡ row ++ price ∷ [] → to ≡ suc (length row) → price_up_to new to ≡ price
 up_last row new price to e is = ap (price_up_to new) is ∙ ap (λ r. get_or r (length row) 0) e ∙ at_last row price
 
-same_cheapest : (before before' costs costs' : ℕ → ℕ) (to price price' : ℕ) → IsCheapest before costs to price → ((i : ℕ) → i < to → before' i ≡ before i)
+pub same_cheapest : (before before' costs costs' : ℕ → ℕ) (to price price' : ℕ) → IsCheapest before costs to price → ((i : ℕ) → i < to → before' i ≡ before i)
     → ((i : ℕ) → i < to → costs' i ≡ costs i) → price' ≡ price → IsCheapest before' costs' to price'
 same_cheapest before before' costs costs' to price price' c same_before same_costs e =
     let inside = c.inside in
@@ -49,7 +49,7 @@ module _ (cost : ℕ → ℕ → ℕ) (count : ℕ) (old new : ℕ → List ℕ)
   price_of zero h = (get_or costs 0 0, more.first)
   price_of (suc j) h = let there = more.later j h in (there.0, there.1)
 
-  same_up : (j i : ℕ) → j < count → i ≤ columns → price_up_to (new j) i ≡ price_up_to (old j) i
+  pub same_up : (j i : ℕ) → j < count → i ≤ columns → price_up_to (new j) i ≡ price_up_to (old j) i
   same_up j i h inside = let there = price_of j h in let wide = f.wide j h in up_before (old j) (new j) there.0 i there.1 (omega arith)
 
   column_kept : (to : ℕ) → 1 ≤ to → to ≤ columns → IsColumn cost count new to

@@ -9,10 +9,12 @@ ghost use Rattle.rbc_reduce.specs.Rows.{AreFilled, AreSmall, price_in, row_at, r
 ghost use Rattle.rbc_costs.specs.Stretches.{AreStretches};
 
 use crate::table::{add_column, empty_rows};
+use crate::tiles::fill_in_tiles;
 use rbc_costs::{Priced, Stretch, Total, totals_on};
 use rbc_model::Memory;
 use rbc_steps::{Level, Runs};
 use std::alloc::Global;
+use std::thread::Threads;
 
 /// With at most this number of stretches a table is filled in totals of 64 bits: narrower ones would save less than it
 /// takes to widen them. And what one step costs from each of their breaks is kept in place.
@@ -66,6 +68,7 @@ fn fill_rows<V: Level, N: Total>(
 
 /// `count` rows of prices up to each break but the first.
 fn filled<V: Level, N: Total>(
+    rt: &(impl Threads + Sync),
     alloc: Global,
     track: &Runs<V>,
     stretches: &[(Stretch, V)],
@@ -79,21 +82,12 @@ fn filled<V: Level, N: Total>(
     ensures filled { IfOk result (λ rows. AreFilled (cost_of_step V.levels (unit_of track.now.end) track.now) count
         (row_in N.number rows.items) (length stretches.now)) }
 {
-    let breaks = stretches.len();
-    let mut costs = vec![in alloc; 0; breaks]?;
-    let mut totals = vec![in alloc; N::of(0); breaks]?;
-    let mut rows = empty_rows(alloc, count, breaks)?;
-    fill_rows(
-        track,
-        stretches,
-        &mut rows,
-        costs.as_mut_slice(),
-        totals.as_mut_slice(),
-    )?;
+    let mut rows = empty_rows(alloc, count, stretches.len())?;
+    fill_in_tiles(rt, alloc, track, stretches, &mut rows)?;
     Ok(rows)
 }
 
-/// The same of few stretches: what one step costs takes no memory.
+/// The same of few stretches, break by break: what one step costs takes no memory.
 fn filled_of_few<V: Level>(
     alloc: Global,
     track: &Runs<V>,
@@ -119,6 +113,7 @@ fn filled_of_few<V: Level>(
 /// A row of prices for each number of steps from 1 to `limit`, but no more rows than there are stretches, and in it a
 /// price for each break but the first. The rows are filled in totals of the kind `N`.
 fn fill_in<V: Level, N: Total>(
+    rt: &(impl Threads + Sync),
     alloc: Global,
     track: &Runs<V>,
     stretches: &[(Stretch, V)],
@@ -133,13 +128,14 @@ fn fill_in<V: Level, N: Total>(
         (length rows.items) (row_at rows.items) (length stretches.now)) }
 {
     let count = limit.min(stretches.len());
-    let rows: Vec<Vec<N>> = filled(alloc, track, stretches, count)?;
+    let rows: Vec<Vec<N>> = filled(rt, alloc, track, stretches, count)?;
     Ok(widened(alloc, &rows)?)
 }
 
 /// The table of prices: a row for each number of steps from 1 to `limit`, but no more rows than there are stretches,
 /// and in it a price for each break but the first.
 pub(crate) fn fill<V: Priced>(
+    rt: &(impl Threads + Sync),
     alloc: Global,
     track: &Runs<V>,
     stretches: &[(Stretch, V)],
@@ -158,7 +154,7 @@ pub(crate) fn fill<V: Priced>(
         return filled_of_few(alloc, track, stretches, count);
     }
     if V::is_low() {
-        return fill_in::<V, u32>(alloc, track, stretches, limit);
+        return fill_in::<V, u32>(rt, alloc, track, stretches, limit);
     }
-    filled::<V, u64>(alloc, track, stretches, count)
+    filled::<V, u64>(rt, alloc, track, stretches, count)
 }

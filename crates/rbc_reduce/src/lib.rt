@@ -10,6 +10,7 @@
 mod fill;
 mod reduction;
 mod table;
+mod tiles;
 mod traceback;
 
 pub use rbc_costs::Priced;

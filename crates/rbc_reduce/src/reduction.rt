@@ -12,6 +12,7 @@ use rbc_costs::{Priced, stretches_of};
 use rbc_model::Memory;
 use rbc_steps::{Level, Profile, Runs};
 use std::alloc::Global;
+use std::thread::Threads;
 
 /// The profile that was chosen for a track, and what it loses.
 #[derive(Drop)]
@@ -30,13 +31,19 @@ pub struct Reduced<V: Level> {
 /// little it has the fewest steps, and of those that have as few, its starts, read from the last one backwards, come
 /// first. A message counts the metres of a track that ends behind 32,000 m in tens, so such a track has to end at a ten.
 ///
-/// The table is filled break by break, and what one step costs is held up to one break at a time. So it holds 12 bytes for
+/// The table is filled four breaks at a time, and what one step costs is held up to those alone. So it holds 12 bytes for
 /// each price of the table while it works, and some 50 bytes for each run: 1.4 MB for 3,100 runs and 31 steps, and up to
-/// twice as much where it cuts at tens. No thread is started, since a price takes less time than that would.
+/// twice as much where it cuts at tens. A wide table is filled in threads, tile by tile: then what one step costs is held up to
+/// as many breaks as a tile has, which takes 1 kB more for each stretch.
 ///
 /// # Errors
 /// `Memory` is the only one.
-pub fn reduce<V: Priced>(alloc: Global, track: &Runs<V>, limit: usize) -> Result<Reduced<V>, Memory>
+pub fn reduce<V: Priced>(
+    rt: &(impl Threads + Sync),
+    alloc: Global,
+    track: &Runs<V>,
+    limit: usize,
+) -> Result<Reduced<V>, Memory>
     requires some { 1 ≤ limit }
     requires few { limit ≤ MOST_STEPS }
     requires whole { track.now.end % unit_of track.now.end ≡ 0 }
@@ -56,7 +63,7 @@ pub fn reduce<V: Priced>(alloc: Global, track: &Runs<V>, limit: usize) -> Result
     track.known();
     let end = track.end();
     let stretches = stretches_of(alloc, track)?;
-    let prices = fill(alloc, track, &stretches, limit)?;
+    let prices = fill(rt, alloc, track, &stretches, limit)?;
     let steps = steps_of(alloc, track, &stretches, &prices, limit)?;
     match Profile::new(&steps, end) {
         Ok(profile) => {

@@ -7,7 +7,11 @@ use rbc_model::Memory;
 use std::alloc::Global;
 
 /// Puts a price behind those of a row.
-fn add_price<N: Total>(rows: &mut Vec<Vec<N>>, row: usize, price: N) -> Result<(), Memory>
+pub(crate) fn add_price<N: Total>(
+    rows: &mut Vec<Vec<N>>,
+    row: usize,
+    price: N,
+) -> Result<(), Memory>
     requires { row < length rows.old.items }
     ensures size { length rows.new.items ≡ length rows.old.items }
     ensures added { OnOk result

@@ -9,6 +9,9 @@ reduce-requires-send-V g c κs within = c.type_bounds.send-V
 pub reduce-requires-sync-V : goal.reduce-requires-sync-V
 reduce-requires-sync-V g c κs within = c.type_bounds.sync-V
 
+pub reduce-requires-sync-typeof-rt : goal.reduce-requires-sync-typeof-rt
+reduce-requires-sync-typeof-rt g c κs within = c.type_bounds.sync-typeof-rt
+
 pub reduce-requires-after_bounds : goal.reduce-requires-after_bounds
 reduce-requires-after_bounds g c κs within = (omega (arith, align_few (lone g.row.V.mir)), (omega arith, (omega arith, eqb-true _ _ (sym c.is_whole.ensures ∙ c.if-assert-2.false))))
 

@@ -7,7 +7,7 @@ use Rattle.rbc_grant.proofs.ReductionLemmas.{reduction_of}
 use Rattle.rbc_grant.proofs.candidates.reductions.reduced_grades.Goals as goal
 
 pub returns : goal.returns
-returns c =
+returns g c =
     let view = c.args.view.now in
     let reduced = c.in_ok-reduced.reduced in
     reduction_of grade_levels (unit_of c.grades.result.now.end) c.grade_steps.result (unit_of (metres_shown view)) view.grade_steps c.grades.result.now (grades_shown view) reduced.profile reduced.loss reduced.prices.items

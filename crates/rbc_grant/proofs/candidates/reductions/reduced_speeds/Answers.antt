@@ -7,7 +7,7 @@ use Rattle.rbc_grant.proofs.ReductionLemmas.{reduction_of}
 use Rattle.rbc_grant.proofs.candidates.reductions.reduced_speeds.Goals as goal
 
 pub returns : goal.returns
-returns c =
+returns g c =
     let view = c.args.view.now in
     let reduced = c.in_ok-reduced.reduced in
     reduction_of speed_levels (unit_of c.speeds.result.now.end) c.speed_steps.result (unit_of (metres_shown view)) view.speed_steps c.speeds.result.now (speeds_shown view) reduced.profile reduced.loss reduced.prices.items

@@ -1,6 +1,6 @@
 use Rattle.std.proofs.Common.{get_or, map}
 use Rattle.rbc_costs.specs.Sums.{IsCheapest, price_up_to}
-use Rattle.rbc_costs.proofs.sums.cheapest.Given as goal
+use Rattle.rbc_costs.proofs.sums.cheapest_from.Given as goal
 
 abbrev pub invariant-loop-i : goal.invariant-loop-i
 invariant-loop-i g l =
