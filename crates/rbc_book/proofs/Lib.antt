@@ -1,4 +1,5 @@
-mod KeptLemmas
+mod CopyLemmas
+mod EntryLemmas
 mod GoodBookLemmas
 mod LegPlaceLemmas
 mod PresenceLemmas

@@ -1,7 +1,8 @@
 -- What is counted on the sections of a track, as trains are put in and taken out, and who is found by it.
-use Rattle.std.proofs.Common.{◌≡◌, ℕ, zero, suc, ◌+◌, ◌-◌, ◌*◌, ◌≤◌, ◌<◌, Bool, true, false, cond, List, [], ◌∷◌, ◌++◌, get_or, length, map, slice_get, take, Option, Some, None, refl, sym, ◌∙◌, ap, subst, ◌⊎◌, inl, inr, arith}
+use Rattle.std.proofs.Common.{◌≡◌, ℕ, zero, suc, ◌+◌, ◌-◌, ◌*◌, ◌≤◌, ◌<◌, Bool, true, false, cond, List, [], ◌∷◌, ◌++◌, get_or, length, map, slice_get, take, nat_eq, Option, Some, None, refl, sym, ◌∙◌, ap, subst, ◌⊎◌, inl, inr, arith}
 use Rattle.std.specs.Prelude.{is_some, ◌==◌, ◌||◌, find, filter, not, option_map}
 use Rattle.std.specs.List.{AllByRecursion}
+use Rattle.std.specs.Map.{lookup}
 use Rattle.std.proofs.lemmas.Bool.{eqb-true, not-true, or_from, or_parts}
 use Rattle.std.proofs.lemmas.List.Folds.{list_any_more}
 use Rattle.std.proofs.lemmas.Option.{slice_get-get_or}
@@ -21,10 +22,10 @@ use Rattle.rbc_scene_laws.proofs.OnLineLemmas.{OnLine-IsLine}
 use Rattle.rbc_scene_laws.proofs.TrainListLemmas.{Differ, each_with_train, find-holds, swap}
 use Rattle.rbc_extent.specs.TrainsOnTracks.{TrainOnTrack}
 use Rattle.rbc_book.specs.Books.{Book, book_with, book_without, number_in, scene_of, train_in}
-use Rattle.rbc_book.specs.Entries.{AreKept, book_of, on_track, trains_of}
+use Rattle.rbc_book.specs.Entries.{AreEntries, book_of, on_track, trains_of}
 use Rattle.rbc_book.specs.Presence.{ArePresent, HasRoom, nobody, others_along, tally_at, tally_less, tally_of, tally_with, tally_without, with_one, without_one}
 use Rattle.rbc_book.specs.declared.presence.Tally.{Tally}
-use Rattle.rbc_book.proofs.KeptLemmas.{AreThoseOf, differ, found, got, is_numbered, is_on, no_swap, none_out, with_in, without_in}
+use Rattle.rbc_book.proofs.EntryLemmas.{AreThoseOf, differ, found, got, is_numbered, no_swap, none_out, with_in, without_in}
 
 -- ---- trains are counted in any order, and what was counted is taken back
 
@@ -420,26 +421,26 @@ pub none_stands : (track : Track) (s : ℕ) (xs : List Train) → (tally_of s xs
 none_stands track s [] h = refl
 none_stands track s (x ∷ xs) h = stands-by (has s x) track s x xs (tally_of s xs) refl (none_stands track s xs) h
 
--- ---- of the trains that a book keeps
+-- ---- of the entries of a book
 
 length-on : (track : Track) (xs : List Train) → length (map (on_track track) xs) ≡ length xs
 length-on track xs = length-map xs (on_track track)
 
-module _ (track : Track) (book : Book) (kept : List TrainOnTrack) (numbers : List ℕ) (is : book_of track kept ≡ book) (are : AreKept track kept numbers) (tallies : List Tally) (present : ArePresent track (trains_of kept) tallies) where
-  trains_are : trains_of kept ≡ book.trains
+module _ (track : Track) (book : Book) (es : List (ℕ × TrainOnTrack)) (is : book_of track es ≡ book) (are : AreEntries track es) (tallies : List Tally) (present : ArePresent track (trains_of es) tallies) where
+  trains_are : trains_of es ≡ book.trains
   trains_are = ap (λ (b : Book). b.trains) is
 
   all_differ : EachPair Differ book.trains
-  all_differ = subst (EachPair Differ) trains_are (differ track kept numbers are)
+  all_differ = subst (EachPair Differ) trains_are (differ track es are)
 
   here : ArePresent track book.trains tallies
   here = subst (λ l. ArePresent track l tallies) trains_are present
 
   -- what is left of a tally without a train is the tally of the others
-  pub but : (n s : ℕ) (o : Option TrainOnTrack) → o ≡ find (is_on n) kept → tally_less o s (tally_at tallies s) ≡ tally_of s (without_in book.trains n)
+  pub but : (n s : ℕ) (o : Option TrainOnTrack) → o ≡ lookup (nat_eq n) es → tally_less o s (tally_at tallies s) ≡ tally_of s (without_in book.trains n)
   but n s o h =
       let p = here in
-      ap (λ x. tally_less x s (tally_at tallies s)) (h ∙ got track book kept numbers is are n)
+      ap (λ x. tally_less x s (tally_at tallies s)) (h ∙ got track book es is are n)
       ∙ ap (tally_less (option_map (on_track book.track) (train_in book n)) s) (p.each s)
       ∙ tally_less-without book.track n s book.trains all_differ
 
@@ -453,56 +454,56 @@ module _ (track : Track) (book : Book) (kept : List TrainOnTrack) (numbers : Lis
 
   -- ---- a train put in
 
-  pub room : (train : Train) (n : ℕ) (o : Option TrainOnTrack) → n ≡ train.report.train → o ≡ find (is_on n) kept → (train_in book train.report.train ≡ None → length book.trains < MOST_TRAINS)
+  pub room : (train : Train) (n : ℕ) (o : Option TrainOnTrack) → n ≡ train.report.train → o ≡ lookup (nat_eq n) es → (train_in book train.report.train ≡ None → length book.trains < MOST_TRAINS)
       → (s : ℕ) → HasRoom (tally_less o s (tally_at tallies s))
   room train n o same h free s =
       let p = here in
       subst HasRoom (sym (but n s o h ∙ ap (λ k. tally_of s (without_in book.trains k)) same)) (room_for book.track book.trains train all_differ p.few p.numbers free s)
 
-  pub with_present : (train : Train) (n : ℕ) (o : Option TrainOnTrack) (fs : List TrainOnTrack) (ns : List ℕ) (new : List Tally) → n ≡ train.report.train → o ≡ find (is_on n) kept → train.report.train ≤ LAST_TRAIN
-      → (train_in book train.report.train ≡ None → length book.trains < MOST_TRAINS) → AreThoseOf track (book_with book train) fs ns → length new ≡ length tallies
+  pub with_present : (train : Train) (n : ℕ) (o : Option TrainOnTrack) (fs : List (ℕ × TrainOnTrack)) (new : List Tally) → n ≡ train.report.train → o ≡ lookup (nat_eq n) es → train.report.train ≤ LAST_TRAIN
+      → (train_in book train.report.train ≡ None → length book.trains < MOST_TRAINS) → AreThoseOf track (book_with book train) fs → length new ≡ length tallies
       → ((s : ℕ) → tally_at new s ≡ tally_with train s (tally_less o s (tally_at tallies s))) → ArePresent track (trains_of fs) new
-  with_present train n o fs ns new same h small free those size now =
+  with_present train n o fs new same h small free those size now =
       let p = here in
       subst (λ l. ArePresent track l new) (sym (ap (λ (b : Book). b.trains) those.of_book))
       (present-with track book.trains train all_differ p.few p.numbers tallies new free small (size ∙ p.as_many) p.each
-      (λ s. now s ∙ ap (λ x. tally_with train s (tally_less x s (tally_at tallies s))) (h ∙ got track book kept numbers is are n ∙ ap (λ k. option_map (on_track book.track) (train_in book k)) same ∙ moved (train_in book train.report.train))))
+      (λ s. now s ∙ ap (λ x. tally_with train s (tally_less x s (tally_at tallies s))) (h ∙ got track book es is are n ∙ ap (λ k. option_map (on_track book.track) (train_in book k)) same ∙ moved (train_in book train.report.train))))
     where
       moved : (o : Option Train) → option_map (on_track book.track) o ≡ option_map (on_track track) o
       moved o = ap (λ (b : Book). option_map (on_track b.track) o) (sym is)
 
   -- a train that is there is not new, and its number not too great
-  not_new : (n : ℕ) (x : TrainOnTrack) (after : Train) → Some x ≡ find (is_on n) kept → after.report.train ≡ n → train_in book after.report.train ≡ None → length book.trains < MOST_TRAINS
-  not_new n x after h same none = let f = found track book kept numbers is are n x h in absurd (both x.train (sym f.there ∙ ap (train_in book) (sym same) ∙ none))
+  not_new : (n : ℕ) (x : TrainOnTrack) (after : Train) → Some x ≡ lookup (nat_eq n) es → after.report.train ≡ n → train_in book after.report.train ≡ None → length book.trains < MOST_TRAINS
+  not_new n x after h same none = let f = found track book es is are n x h in absurd (both x.train (sym f.there ∙ ap (train_in book) (sym same) ∙ none))
     where
       both : (train : Train) → Some train ≡ None → ⊥
       both train e = cc
 
-  small : (n : ℕ) (x : TrainOnTrack) → Some x ≡ find (is_on n) kept → n ≤ LAST_TRAIN
+  small : (n : ℕ) (x : TrainOnTrack) → Some x ≡ lookup (nat_eq n) es → n ≤ LAST_TRAIN
   small n x h =
       let p = here in
-      let f = found track book kept numbers is are n x h in
+      let f = found track book es is are n x h in
       subst (λ k. k ≤ LAST_TRAIN) (sym f.numbered) (find-holds (λ train. number_in train ≤ LAST_TRAIN) (is_numbered n) book.trains x.train f.there p.numbers)
 
   -- a train that is counted no more as it was, and then as it is after it
-  module _ (n : ℕ) (x : TrainOnTrack) (after : Train) (mid : List Tally) (there : Some x ≡ find (is_on n) kept) (same : after.report.train ≡ n)
+  module _ (n : ℕ) (x : TrainOnTrack) (after : Train) (mid : List Tally) (there : Some x ≡ lookup (nat_eq n) es) (same : after.report.train ≡ n)
       (out : (s : ℕ) → tally_at mid s ≡ tally_without x.train s (tally_at tallies s)) where
     pub recounted-room : (s : ℕ) → HasRoom (tally_at mid s)
     recounted-room s = subst HasRoom (sym (out s)) (room after n (Some x) (sym same) there (not_new n x after there same) s)
 
-    pub recounted_present : (fs : List TrainOnTrack) (ns : List ℕ) (new : List Tally) → AreThoseOf track (book_with book after) fs ns → length mid ≡ length tallies → length new ≡ length mid
+    pub recounted_present : (fs : List (ℕ × TrainOnTrack)) (new : List Tally) → AreThoseOf track (book_with book after) fs → length mid ≡ length tallies → length new ≡ length mid
         → ((s : ℕ) → tally_at new s ≡ tally_with after s (tally_at mid s)) → ArePresent track (trains_of fs) new
-    recounted_present fs ns new those size size_after now =
-        with_present after n (Some x) fs ns new (sym same) there (subst (λ k. k ≤ LAST_TRAIN) (sym same) (small n x there)) (not_new n x after there same) those (size_after ∙ size)
+    recounted_present fs new those size size_after now =
+        with_present after n (Some x) fs new (sym same) there (subst (λ k. k ≤ LAST_TRAIN) (sym same) (small n x there)) (not_new n x after there same) those (size_after ∙ size)
         (λ s. now s ∙ ap (tally_with after s) (out s))
 
   -- ---- a train taken out
 
-  pub without_present : (n : ℕ) (x : TrainOnTrack) (fs : List TrainOnTrack) (ns : List ℕ) (new : List Tally) → Some x ≡ find (is_on n) kept → AreThoseOf track (book_without book n) fs ns → length new ≡ length tallies
+  pub without_present : (n : ℕ) (x : TrainOnTrack) (fs : List (ℕ × TrainOnTrack)) (new : List Tally) → Some x ≡ lookup (nat_eq n) es → AreThoseOf track (book_without book n) fs → length new ≡ length tallies
       → ((s : ℕ) → tally_at new s ≡ tally_without x.train s (tally_at tallies s)) → ArePresent track (trains_of fs) new
-  without_present n x fs ns new h those size now =
+  without_present n x fs new h those size now =
       let p = here in
-      let f = found track book kept numbers is are n x h in
+      let f = found track book es is are n x h in
       subst (λ l. ArePresent track l new) (sym (ap (λ (b : Book). b.trains) those.of_book))
       (present-without track book.trains n (Some x.train) tallies new all_differ here f.there size now)
 
@@ -545,17 +546,17 @@ module _ (track : Track) (book : Book) (kept : List TrainOnTrack) (numbers : Lis
         alone s (without_in book.trains n) (pairs_filter Differ (λ other. not (other.report.train == n)) book.trains all_differ)
         (each_filter (λ train. number_in train ≤ LAST_TRAIN) (λ other. not (other.report.train == n)) book.trains p.numbers) (ap (λ (x : Tally). x.trains) (sym of) ∙ h)
 
-    pub one_there : t.trains ≡ 1 → (a : IsAlone s (without_in book.trains n)) × (find (is_on t.numbers) kept ≡ Some (on_track book.track a.train))
+    pub one_there : t.trains ≡ 1 → (a : IsAlone s (without_in book.trains n)) × (lookup (nat_eq t.numbers) es ≡ Some (on_track book.track a.train))
     one_there h =
         let p = here in
         let a = the_one h in (
           a,
-          got track book kept numbers is are t.numbers
+          got track book es is are t.numbers
               ∙ ap (λ k. option_map (on_track book.track) (train_in book k)) (ap (λ (x : Tally). x.numbers) of ∙ a.number)
               ∙ ap (option_map (on_track book.track)) (alone-found s n book.trains all_differ p.numbers a),
         )
 
-    pub one_else : t.trains ≡ 1 → (x : TrainOnTrack) → Some x ≡ find (is_on t.numbers) kept → map (on_track book.track) (others_along book n s) ≡ x ∷ []
+    pub one_else : t.trains ≡ 1 → (x : TrainOnTrack) → Some x ≡ lookup (nat_eq t.numbers) es → map (on_track book.track) (others_along book n s) ≡ x ∷ []
     one_else h x found =
         let r = one_there h in
         let a = r.0 in

@@ -1,4 +1,4 @@
--- How a book keeps its trains: in order of arrival, and their numbers in the same order.
+-- How a book keeps its trains: each under its number.
 use Rattle.std.specs.Prelude.{◌≡◌, ℕ, List, map}
 use Rattle.rbc_model.specs.Tracks.{Track}
 use Rattle.rbc_model.specs.Trains.{Train}
@@ -9,20 +9,23 @@ use Rattle.rbc_book.specs.Books.{Book, IsGoodBook}
 abbrev pub on_track : Track → Train → TrainOnTrack
 on_track track train = record { track = track; train = train }
 
+-- its entry
+abbrev pub entry_of : Track → Train → ℕ × TrainOnTrack
+entry_of track train = (train.report.train, on_track track train)
+
 -- the number of a train on its track
 abbrev pub number_on : TrainOnTrack → ℕ
 number_on train = train.train.report.train
 
--- the trains that are kept
-abbrev pub trains_of : List TrainOnTrack → List Train
-trains_of kept = map (λ (t : TrainOnTrack). t.train) kept
+-- the trains of the entries
+abbrev pub trains_of : List (ℕ × TrainOnTrack) → List Train
+trains_of entries = map (λ e. e.1.train) entries
 
--- the book of them
-abbrev pub book_of : Track → List TrainOnTrack → Book
-book_of track kept = record { track = track; trains = trains_of kept }
+-- the book of these entries
+abbrev pub book_of : Track → List (ℕ × TrainOnTrack) → Book
+book_of track entries = record { track = track; trains = trains_of entries }
 
--- each train is on this track, the numbers are theirs, and the book is a good one
-pub record AreKept (track : Track) (kept : List TrainOnTrack) (numbers : List ℕ) : Type 0 where
-  pub of_track : kept ≡ map (on_track track) (trains_of kept)
-  pub numbered : numbers ≡ map number_on kept
-  pub good : IsGoodBook (book_of track kept)
+-- each train is on this track, under its number, and the book is a good one
+pub record AreEntries (track : Track) (entries : List (ℕ × TrainOnTrack)) : Type 0 where
+  pub keyed : entries ≡ map (entry_of track) (trains_of entries)
+  pub good : IsGoodBook (book_of track entries)

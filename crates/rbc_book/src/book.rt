@@ -2,12 +2,14 @@
 
 ghost use Rattle.std.specs.Prelude.{◌≡◌, ◌<◌, ◌≤◌, [], length, map, None, Some, IfOk, IsTrue, OnErr, OnOk, find, is_some, option_map};
 ghost use Rattle.std.specs.Arc.{arc_value};
+ghost use Rattle.std.specs.Map.Iter.{ShowsInOrder, deref};
 ghost use Rattle.std.specs.Option.{option_copied};
 ghost use Rattle.rbc_model.specs.Events.{cut_at, stands_on, with_authority, with_train};
 ghost use Rattle.rbc_model.specs.Histories.{AuthoritiesAreApart};
 ghost use Rattle.rbc_model.specs.Scenes.{authority_has, extent_has};
 ghost use Rattle.rbc_scene_laws.specs.Good.{IsGoodTrain};
 ghost use Rattle.rbc_book.specs.Books.{HoldsOfTrain, IsGoodBook, book_with, book_without, number_in, scene_of, train_in};
+ghost use Rattle.indexmap.specs.IndexMap.{values};
 ghost use Rattle.rbc_extent.specs.TrainsOnTracks.{TrainOnTrack};
 ghost use Rattle.rbc_book.specs.Entries.{number_on, on_track};
 ghost use Rattle.rbc_book.specs.Presence.{IsAlong, others_along, tally_of};
@@ -15,21 +17,24 @@ ghost use Rattle.rbc_model.specs.declared.limits.TheConstants.{MOST_TRAINS};
 
 use crate::places::{authority_has, extent_has, stands_on};
 use crate::presence::{Presence, Tally, count_in, count_out, nobody_on, recount, tally_at};
+use indexmap::IndexMap;
+use indexmap::map::Values;
 use rbc_extent::{Line, Train};
 use rbc_model::{Memory, Metre, SectionId, TrainId};
-use rbc_track::{Keys, Track};
+use rbc_track::Track;
 use std::alloc::Global;
 use std::marker::Model;
-use std::mem;
 use std::sync::Arc;
+
+/// Trains by their numbers, in order of arrival.
+type Trains = IndexMap<u32, Train>;
 
 /// The trains of a track in order of arrival, at most 1,024. No two have one number, and no metre stands in the authorities
 /// of two. It knows how many have a leg of each section on their lines, so that it need not look at those that don't.
 #[derive(Drop)]
 pub struct Book {
     track: Arc<Track>,
-    trains: Vec<Train>,
-    numbers: Keys<u32>,
+    trains: Trains,
     presence: Presence,
 }
 
@@ -47,51 +52,51 @@ pub enum Along<'a> {
 impl Model for Book {
     ghost use Rattle.std.specs.Arc.{arc_value};
     ghost use Rattle.rbc_book.specs.Books.{Book};
-    ghost use Rattle.rbc_book.specs.Entries.{AreKept, book_of, trains_of};
+    ghost use Rattle.rbc_book.specs.Entries.{AreEntries, book_of, trains_of};
     ghost use Rattle.rbc_book.specs.Presence.{ArePresent};
 
     ghost Value = { Book };
 
-    ghost view = { λ b. book_of (arc_value b.track) b.trains.items };
+    ghost view = { λ b. book_of (arc_value b.track) b.trains.entries };
 
-    ghost invariant = { λ b. AreKept (arc_value b.track) b.trains.items b.numbers
-        × ArePresent (arc_value b.track) (trains_of b.trains.items) b.presence.items };
+    ghost invariant = { λ b. AreEntries (arc_value b.track) b.trains.entries
+        × ArePresent (arc_value b.track) (trains_of b.trains.entries) b.presence.items };
 }
 
 /// The first of the trains whose authority has the metre.
-fn first_holder(trains: &[Train], metre: Metre) -> Option<TrainId>
+fn first_holder(trains: &Trains, metre: Metre) -> Option<TrainId>
     ensures { result ≡ option_map number_on
-        (find (λ (t : TrainOnTrack). authority_has t.track metre t.train) trains.now) }
+        (find (λ (t : TrainOnTrack). authority_has t.track metre t.train) (values trains.now)) }
 {
-    let holder = trains.iter().find(|train| authority_has(train, metre))?;
+    let holder = trains.values().find(|train| authority_has(train, metre))?;
     Some(holder.id())
 }
 
 /// The first of the trains whose extent has the metre.
-fn first_occupant(trains: &[Train], metre: Metre) -> Option<TrainId>
+fn first_occupant(trains: &Trains, metre: Metre) -> Option<TrainId>
     ensures { result ≡ option_map number_on
-        (find (λ (t : TrainOnTrack). extent_has t.track metre t.train) trains.now) }
+        (find (λ (t : TrainOnTrack). extent_has t.track metre t.train) (values trains.now)) }
 {
-    let occupant = trains.iter().find(|train| extent_has(train, metre))?;
+    let occupant = trains.values().find(|train| extent_has(train, metre))?;
     Some(occupant.id())
 }
 
 /// The first of the trains whose extent or authority has a metre of the section.
-fn first_standing_on(trains: &[Train], section: SectionId) -> Option<TrainId>
+fn first_standing_on(trains: &Trains, section: SectionId) -> Option<TrainId>
     ensures { result ≡ option_map number_on
-        (find (λ (t : TrainOnTrack). stands_on t.track section t.train) trains.now) }
+        (find (λ (t : TrainOnTrack). stands_on t.track section t.train) (values trains.now)) }
 {
-    let standing = trains.iter().find(|train| stands_on(train, section))?;
+    let standing = trains.values().find(|train| stands_on(train, section))?;
     Some(standing.id())
 }
 
 /// The same trains, in the same order.
-fn copy_of(alloc: Global, trains: &[Train]) -> Result<Vec<Train>, Memory>
-    ensures { IfOk result (λ copy. copy.items ≡ trains.now) }
+fn copy_of(alloc: Global, trains: &Trains) -> Result<Trains, Memory>
+    ensures { IfOk result (λ copy. copy.entries ≡ trains.now.entries) }
 {
-    let mut copy = Vec::with_capacity(alloc, trains.len())?;
-    for train in trains {
-        copy.push(train.copy(alloc)?)?;
+    let mut copy = IndexMap::with_capacity(alloc, trains.len())?;
+    for (number, train) in trains {
+        copy.insert(*number, train.copy(alloc)?)?;
     }
     Ok(copy)
 }
@@ -108,8 +113,7 @@ impl Book {
         let presence = nobody_on(alloc, track.section_count())?;
         Ok(Book {
             track,
-            trains: Vec::new(alloc),
-            numbers: Keys::new(alloc),
+            trains: IndexMap::new(alloc),
             presence,
         })
     }
@@ -137,25 +141,18 @@ impl Book {
     }
 
     /// The trains in order of arrival.
-    pub fn trains(&self) -> &[Train]
-        ensures { result.now ≡ map (on_track self.now.track) self.now.trains }
+    pub fn trains(&self) -> Values<'_, u32, Train>
+        ensures trains { result ≡ map (on_track self.now.track) self.now.trains }
+        ensures runs { ShowsInOrder (deref {X = TrainOnTrack}) }
     {
-        &self.trains
+        self.trains.values()
     }
 
     /// The train of this number, if it is there.
     pub fn get(&self, id: TrainId) -> Option<&Train>
         ensures { option_copied result ≡ option_map (on_track self.now.track) (train_in self.now id) }
     {
-        self.numbered(id.number())
-    }
-
-    /// The train with this number, if it is there.
-    fn numbered(&self, number: u32) -> Option<&Train>
-        ensures { option_copied result ≡ option_map (on_track self.now.track) (train_in self.now number) }
-    {
-        let place = self.numbers.place(number)?;
-        Some(&self.trains[place])
+        self.trains.get(&id.number())
     }
 
     /// The tally of the trains but the one of this number that have a leg of the section on their lines. Where one is there
@@ -165,7 +162,7 @@ impl Book {
     {
         let tally = tally_at(&self.presence, section);
         if tally.trains > 1 {
-            let own = self.numbered(id.number());
+            let own = self.trains.get(&id.number());
             return tally.less(own, section);
         }
         if tally.numbers == u64::from(id.number()) {
@@ -188,8 +185,8 @@ impl Book {
         if tally.trains > 1 {
             return Along::Several;
         }
-        let place = self.numbers.place(tally.numbers as u32).unwrap();
-        Along::One(&trains[place])
+        let alone = tally.numbers as u32;
+        Along::One(trains.get(&alone).unwrap())
     }
 
     /// Puts in the train as it is now, in the place of the one of its number; a new train is last, and there may be as many
@@ -209,18 +206,9 @@ impl Book {
         train.known();
         train.report().known();
         let number = train.id().number();
-        match self.numbers.place(number) {
-            Some(place) => {
-                let before = mem::replace(&mut self.trains[place], train);
-                recount(&mut self.presence, Some(&before), &self.trains[place]);
-            }
-            None => {
-                self.trains.reserve(1)?;
-                self.numbers.insert(number)?;
-                recount(&mut self.presence, None, &train);
-                self.trains.push_reserved(train);
-            }
-        }
+        let before = self.trains.insert(number, train)?;
+        let after = self.trains.get(&number).unwrap();
+        recount(&mut self.presence, before.as_ref(), after);
         Ok(())
     }
 
@@ -236,7 +224,7 @@ impl Book {
         ensures { HoldsOfTrain self.old id
             (λ train. self.new ≡ book_with self.old (with_authority train line.legs from to)) }
     {
-        let train = self.numbered(id.number()).unwrap();
+        let train = self.get(id).unwrap();
         let held = train.with_authority(line, from, to);
         match self.set_place(held) {
             Ok(()) => {}
@@ -254,8 +242,7 @@ impl Book {
         ensures { HoldsOfTrain self.old id
             (λ train. self.new ≡ book_with self.old (cut_at self.old.track train to)) }
     {
-        let place = self.numbers.place(id.number()).unwrap();
-        let train = &mut self.trains[place];
+        let train = self.trains.get_mut(&id.number()).unwrap();
         count_out(&mut self.presence, train);
         train.cut_at(to);
         train.known();
@@ -267,9 +254,8 @@ impl Book {
         ensures left { self.new ≡ book_without self.old id }
         ensures known { result ≡ is_some (train_in self.old id) }
     {
-        match self.numbers.remove(id.number()) {
-            Some(place) => {
-                let train = self.trains.remove(place);
+        match self.trains.shift_remove(&id.number()) {
+            Some(train) => {
                 count_out(&mut self.presence, &train);
                 true
             }
@@ -311,12 +297,10 @@ impl Book {
     {
         let track = self.track.clone()?;
         let trains = copy_of(alloc, &self.trains)?;
-        let numbers = self.numbers.copy(alloc)?;
         let presence = Vec::from_slice(alloc, self.presence.as_slice())?;
         Ok(Book {
             track,
             trains,
-            numbers,
             presence,
         })
     }

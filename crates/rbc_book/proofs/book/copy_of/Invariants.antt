@@ -1,5 +1,5 @@
-use Rattle.std.proofs.Common.{◌≡◌, take}
+use Rattle.std.proofs.Common.{◌≡◌, ◌++◌}
 use Rattle.rbc_book.proofs.book.copy_of.Given as goal
 
-abbrev pub invariant-loop-train : goal.invariant-loop-train
-invariant-loop-train l = l.copy.items ≡ take l.train-index l.trains
+abbrev pub invariant-loop-number : goal.invariant-loop-number
+invariant-loop-number l = l.copy.entries ++ l.number-iterator ≡ l.trains.entries

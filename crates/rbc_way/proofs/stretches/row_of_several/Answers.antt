@@ -10,10 +10,12 @@ use Rattle.rbc_way.proofs.stretches.row_of_several.Goals as goal
 pub loop-train-init : goal.loop-train-init
 loop-train-init c =
     let track = c.args.book.now.track in
-    let it = c.trains-train-items.result.now in
-    let e : it ≡ map (on_track track) c.args.book.now.trains = c.trains-train-items.ensures in
+    let it = c.into_iter-train-iterator.result in
+    let e : it ≡ map (on_track track) c.args.book.now.trains = c.into_iter-train-iterator.ensures.into_iter_gives ∙ c.trains-train-items.ensures.trains in
     let same : map (λ (t : TrainOnTrack). t.train) it ≡ c.args.book.now.trains = ap (map (λ (t : TrainOnTrack). t.train)) e ∙ off_track track c.args.book.now.trains in
     record {
+      can = tt;
+      finite = tt;
       tracks = e ∙ ap (map (on_track track)) (sym same);
       told = ap (λ (l : List Train). stretches_of track (but c.args.id l) c.args.section) same;
     }

@@ -8,7 +8,7 @@ use Rattle.rbc_model.specs.Trains.{Train}
 use Rattle.rbc_scene_laws.specs.Good.{IsGoodTrain}
 use Rattle.rbc_scene_laws.proofs.BasicLemmas.{the_some}
 use Rattle.rbc_book.specs.Books.{Book, book_with, scene_of, train_in}
-use Rattle.rbc_book.proofs.KeptLemmas.{IsFound, found_as, some_on}
+use Rattle.rbc_book.proofs.EntryLemmas.{IsFound, found_as, some_on}
 use Rattle.rbc_book.proofs.book.Book.set_held.Goals as goal
 use Rattle.rbc_book.proofs.book.Book.set_held.Goals.{After-unwrap-train}
 
@@ -17,13 +17,10 @@ copied_some None = refl
 copied_some (Some x) = refl
 
 pub unwrap-train-requires : goal.unwrap-train-requires
-unwrap-train-requires c =
-    copied_some c.numbered.result ∙ ap is_some (rw c.number.ensures at c.numbered.ensures) ∙ some_on c.args.self.now.track (train_in c.args.self.now c.args.id) ∙ c.requires.known
+unwrap-train-requires c = copied_some c.get.result ∙ ap is_some c.get.ensures ∙ some_on c.args.self.now.track (train_in c.args.self.now c.args.id) ∙ c.requires.known
 
 was : (c : After-unwrap-train) → IsFound c.args.self.now c.args.id c.unwrap-train.result.now
-was c =
-    found_as c.args.self.now c.args.id c.unwrap-train.result.now (train_in c.args.self.now c.args.id) refl
-    (sym (ap option_copied c.unwrap-train.ensures) ∙ (rw c.number.ensures at c.numbered.ensures))
+was c = found_as c.args.self.now c.args.id c.unwrap-train.result.now (train_in c.args.self.now c.args.id) refl (sym (ap option_copied c.unwrap-train.ensures) ∙ c.get.ensures)
 
 pub with_authority-held-requires-clause-track : goal.with_authority-held-requires-clause-track
 with_authority-held-requires-clause-track c = let f = was c in c.requires.track ∙ sym f.of_track
