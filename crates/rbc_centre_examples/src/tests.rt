@@ -5,6 +5,7 @@ mod desks;
 mod faults;
 mod gates;
 mod memory;
+mod publishing;
 mod records;
 mod replays;
 mod sessions;

@@ -119,6 +119,14 @@ module _ (entries : List Entry) (start : ℕ) where
 pub receipts_behind : (seats : List Seated) (seat : Seated) → all_receipts (seats ++ seat ∷ []) ≡ all_receipts seats ++ seat.receipts
 receipts_behind seats seat = flat_map-append (λ (s : Seated). s.receipts) seats (seat ∷ []) ∙ ap (λ x. all_receipts seats ++ x) (append-nil seat.receipts)
 
+off : (b : Bool) → (b ≡ true → ⊥) → b ≡ false
+off true h = absurd (h refl)
+off false h = refl
+
+-- where no mark is set, none of the places has a receipt
+pub unmarked : (start : ℕ) (marks : List Bool) → list_any (λ b. b) marks ≡ false → AreMarked start [] marks
+unmarked start marks none i inside = off (get_or marks i false) (λ on. let some = list_any_at (λ b. b) marks i false inside on in cc)
+
 -- ---- all receipts
 
 -- receipts at their places, as many as there are entries from the start on, are the history

@@ -6,6 +6,7 @@ pub mod Trains
 pub use Rattle.rbc_snap.specs.ApplyFault
 pub use Rattle.rbc_snap.specs.Candidates
 pub use Rattle.rbc_snap.specs.CommitFault
+pub use Rattle.rbc_snap.specs.Ends
 pub use Rattle.rbc_snap.specs.Entering
 pub use Rattle.rbc_snap.specs.Entries
 pub use Rattle.rbc_snap.specs.Forms

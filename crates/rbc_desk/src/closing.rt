@@ -79,7 +79,7 @@ fn take_in<L: DeskName, R: Wait>(
 ) -> Vec<Receipt>
     ensures parts { all.new.parts ≡ all.old.parts + 1 }
     ensures amount { all.new.amount ≡ all.old.amount + length seat.receipts }
-    ensures told { IsLater seat.told press.now }
+    ensures told { IsLater seat.told press.now.told }
     ensures receipts { result.items ≡ seat.receipts }
 {
     let Seat {
@@ -112,7 +112,7 @@ pub(crate) fn take_all<L: DeskName, R: Wait>(
     ensures parts { all.new.parts ≡ length seats.items }
     ensures amount { all.new.amount ≡ length (all_receipts seats.items) }
     ensures most { all.new.parts ≤ L.parts }
-    ensures told { All (λ seat. IsLater seat.told press.now) seats.items }
+    ensures told { All (λ seat. IsLater seat.told press.now.told) seats.items }
 {
     let start = log.version() - marks.len() as u64;
     let mut misplaced = None;

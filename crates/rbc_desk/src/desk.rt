@@ -58,8 +58,8 @@ fn seats_with<L: DeskName>(
 ) -> Result<Vec<Seat<L>>, Memory>
     requires parts { vec_len eyes ≡ all.old.parts }
     requires amount { all.old.amount ≡ 0 }
-    requires told { All (λ eye. IsLater L.opened eye) eyes.items }
-    ensures seats { IfOk result (λ seats. seats.items ≡ map (λ eye. seated [] eye) eyes.items) }
+    requires told { All (λ eye. IsLater L.opened eye.told) eyes.items }
+    ensures seats { IfOk result (λ seats. seats.items ≡ map (λ eye. seated [] eye.told) eyes.items) }
     ensures parts { IfOk result (λ seats. all.new.parts ≡ 0) }
     ensures amount { all.new.amount ≡ 0 }
 {

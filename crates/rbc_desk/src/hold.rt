@@ -43,7 +43,7 @@ impl<'desk, L: DeskName> Hold<'desk, L> {
     pub fn publish<R: Wait>(&mut self, rt: &R, alloc: Global, seat: &mut Seat<L>)
         ensures { seat.new ≡ seat.old }
     {
-        (*self.shared).publish(rt, alloc, seat);
+        let _ = (*self.shared).publish(rt, alloc, seat);
     }
 
     /// Ends the hold.

@@ -29,9 +29,9 @@ impl<L: DeskName> Model for Seat<L> {
 
     ghost Value = { Seated };
 
-    ghost view = { λ s. seated s.receipts.items s.eye };
+    ghost view = { λ s. seated s.receipts.items s.eye.told };
 
-    ghost invariant = { λ s. (s.share.parts ≡ 1) × (s.share.amount ≡ length s.receipts.items) × IsLater L.opened s.eye };
+    ghost invariant = { λ s. (s.share.parts ≡ 1) × (s.share.amount ≡ length s.receipts.items) × IsLater L.opened s.eye.told };
 }
 
 impl<L: DeskName> Seat<L> {
@@ -39,8 +39,8 @@ impl<L: DeskName> Seat<L> {
     pub(crate) fn new(alloc: Global, share: Share<L>, eye: Eye<L>) -> Seat<L>
         requires part { share.parts ≡ 1 }
         requires amount { share.amount ≡ 0 }
-        requires told { IsLater L.opened eye }
-        ensures { result ≡ seated [] eye }
+        requires told { IsLater L.opened eye.told }
+        ensures { result ≡ seated [] eye.told }
     {
         Seat {
             receipts: Vec::new(alloc),

@@ -1,13 +1,14 @@
 //! What lies under the desk's lock.
 
 ghost use Rattle.std.specs.Prelude.{◌≡◌, ◌≢◌, ◌+◌, ◌≤◌, ◌<◌, ◌++◌, ◌∷◌, [], length, take, vec_len, true, false};
-ghost use Rattle.std.specs.Prelude.{All, None, Ok, Err, IfOk, IfErr, IfSome, IfNone, OnErr};
+ghost use Rattle.std.specs.Prelude.{All, None, Ok, Err, IfOk, IfErr, IfSome, IfNone, MatchResult, OnErr};
 ghost use Rattle.std.specs.List.{list_any};
 ghost use Rattle.rbc_model.specs.Histories.{IsLegal, Matches};
 ghost use Rattle.rbc_model.specs.declared.memory.OrMemory.TheVariants.{Memory as NoMemory};
 ghost use Rattle.rbc_grant_laws.specs.Candidates.{IsCandidateOf};
 ghost use Rattle.rbc_snap.specs.Candidates.{HasChosenProfiles};
 ghost use Rattle.rbc_snap.specs.Entering.{EntersOrMemory, entry_told, refused_at_once};
+ghost use Rattle.rbc_snap.specs.Ends.{pressed};
 ghost use Rattle.rbc_snap.specs.Present.{has_train};
 ghost use Rattle.rbc_snap.specs.Steps.{IsOfTrack};
 ghost use Rattle.rbc_desk.specs.Closing.{all_receipts, IsUnmatchedIn};
@@ -42,7 +43,7 @@ pub(crate) struct Shared<L: DeskName> {
     pub(crate) entries: Book<L>,
     /// A share with no part, into which the seats' shares are put when the desk is closed.
     pub(crate) rest: Share<L>,
-    pub(crate) ghost published: { press ≡ log },
+    pub(crate) ghost published: { press.told ≡ log },
     pub(crate) ghost track: { log.track ≡ L.opened.track },
     pub(crate) ghost base: { take start log.entries ≡ L.opened.entries },
     pub(crate) ghost starts: { start ≡ length L.opened.entries },
@@ -126,11 +127,11 @@ fn trains_of(alloc: Global, log: &Record) -> Result<Vec<TrainId>, Memory>
 
 /// The press follows the record, which goes on from what it told, and tells the eye all of it.
 fn follow<L: DeskName, R: Wait>(rt: &R, log: &Record, press: &mut Press<L>, eye: &mut Eye<L>)
-    requires track { log.now.track ≡ press.old.track }
-    requires opening { take (length press.old.entries) log.now.entries ≡ press.old.entries }
-    ensures press { press.new ≡ log.now }
-    ensures told { eye.new ≡ log.now }
-    ensures later { IsLater eye.old log.now }
+    requires track { log.now.track ≡ press.old.told.track }
+    requires opening { take (length press.old.told.entries) log.now.entries ≡ press.old.told.entries }
+    ensures press { press.new ≡ pressed log.now press.old.published }
+    ensures told { eye.new.told ≡ log.now }
+    ensures later { IsLater eye.old.told log.now }
 {
     press.follow(rt, log);
     press.bring(rt, eye);
@@ -199,11 +200,23 @@ impl<L: DeskName> Shared<L> {
     }
 
     /// Publishes what is not published yet.
-    pub(crate) fn publish<R: Wait>(&mut self, rt: &R, alloc: Global, seat: &mut Seat<L>)
-        ensures { seat.new ≡ seat.old }
+    ///
+    /// # Errors
+    ///
+    /// [`Memory`], where there is none for it. What was published stays.
+    pub(crate) fn publish<R: Wait>(
+        &mut self,
+        rt: &R,
+        alloc: Global,
+        seat: &mut Seat<L>,
+    ) -> Result<(), Memory>
+        ensures seat { seat.new ≡ seat.old }
+        ensures log { self.new.log ≡ self.old.log }
+        ensures published { MatchResult result (λ _. self.new.press.published ≡ self.new.log)
+            (λ _. self.new.press.published ≡ self.old.press.published) }
     {
-        self.press.show(rt, alloc, &self.log);
         seat.is_ahead = false;
+        self.press.show(rt, alloc, &self.log)
     }
 
     /// Why what is told is not entered, where there is no memory for it: what refuses it at once, or else the want of memory.

@@ -1,6 +1,7 @@
 pub mod Later
 pub mod Sights
 pub mod Knowing
+pub mod Ends
 pub mod Looks
 pub use Rattle.rbc_record.specs.BookEntries
 pub use Rattle.rbc_record.specs.Candidates

@@ -1,5 +1,5 @@
 -- What a look at the published scene answers.
-use Rattle.std.specs.Prelude.{◌≡◌, ℕ, true, length, Result, Ok, Err}
+use Rattle.std.specs.Prelude.{◌≡◌, ◌<◌, ℕ, true, length, Result, Ok, Err}
 use Rattle.rbc_model.specs.declared.memory.OrMemory.{OrMemory}
 use Rattle.rbc_model.specs.declared.memory.OrMemory.TheVariants.{Refused, Memory}
 use Rattle.rbc_model.specs.Views.{View, view}
@@ -9,9 +9,16 @@ use Rattle.rbc_snap.specs.declared.faults.EyeFault.{EyeFault}
 use Rattle.rbc_snap.specs.declared.faults.EyeFault.TheVariants.{Behind, Unshown}
 
 -- What is then told shows the train this view, or this reason why it shows none, and has as many entries as the version says; or there was no
--- memory to see which, and what is then told has the train; or the published scene is behind what had been told, and nothing more is told.
+-- memory to see which, and what is then told has the train; or the version is below what had been told, and nothing more is told.
 abbrev pub IsSeenIn : HistoryOnTrack → HistoryOnTrack → ℕ → Result (View × ℕ) (OrMemory EyeFault) → Type 0
 IsSeenIn old new train (Ok seen) = (view new.track (scene_now new) train ≡ Ok seen.0) × (seen.1 ≡ length new.entries)
 IsSeenIn old new train (Err (Refused (Unshown fault version))) = (view new.track (scene_now new) train ≡ Err fault) × (version ≡ length new.entries)
-IsSeenIn old new train (Err (Refused (Behind version))) = new ≡ old
+IsSeenIn old new train (Err (Refused (Behind version))) = (new ≡ old) × (version < length old.entries)
 IsSeenIn old new train (Err Memory) = has_train new train ≡ true
+
+-- so many entries are published: this is the version that is answered, and where memory was refused what is then told has as many
+abbrev pub IsOfVersion : ℕ → HistoryOnTrack → Result (View × ℕ) (OrMemory EyeFault) → Type 0
+IsOfVersion published new (Ok seen) = seen.1 ≡ published
+IsOfVersion published new (Err (Refused (Unshown fault version))) = version ≡ published
+IsOfVersion published new (Err (Refused (Behind version))) = version ≡ published
+IsOfVersion published new (Err Memory) = length new.entries ≡ published

@@ -3,9 +3,10 @@
 ghost use Rattle.std.specs.Prelude.{◌≡◌, ◌≤◌, length, Ok};
 ghost use Rattle.left_right.specs.Sides.{view as known_to};
 ghost use Rattle.rbc_model.specs.Histories.{IsLegal};
-ghost use Rattle.rbc_snap.specs.Knowing.{knower};
+ghost use Rattle.rbc_snap.specs.Ends.{watching};
+ghost use Rattle.rbc_snap.specs.Knowing.{knower, knower_of};
 ghost use Rattle.rbc_snap.specs.Later.{IsLater};
-ghost use Rattle.rbc_snap.specs.Looks.{IsSeenIn};
+ghost use Rattle.rbc_snap.specs.Looks.{IsOfVersion, IsSeenIn};
 ghost use Rattle.rbc_snap.specs.Sights.{seen_of};
 
 use crate::rule::{Known, OneHistory, Sees};
@@ -22,7 +23,8 @@ pub(crate) type End = Reader<Published, Known, OneHistory>;
 
 type Seeing = Reading<Published, Known, OneHistory>;
 
-/// An eye, through which a seat views the published scene. Contracts see it as what its seat was told.
+/// An eye, through which a seat views the published scene. Contracts see it as what its seat was told, and as how many
+/// entries it knows to be published.
 #[derive(Drop)]
 pub struct Eye<J: HistoryName> {
     reader: End,
@@ -32,14 +34,14 @@ pub struct Eye<J: HistoryName> {
 
 impl<J: HistoryName> Model for Eye<J> {
     ghost use Rattle.std.specs.Prelude.{◌≡◌};
-    ghost use Rattle.rbc_record.specs.Records.{HistoryOnTrack};
+    ghost use Rattle.rbc_snap.specs.Ends.{Watching, watching};
     ghost use Rattle.rbc_snap.specs.Knowing.{knower};
 
-    ghost Value = { HistoryOnTrack };
+    ghost Value = { Watching };
 
-    ghost view = { λ e. e.told.history };
+    ghost view = { λ e. watching e.told.history e.reader.place.me.0.client.entries };
 
-    ghost invariant = { λ e. (e.reader.place.me.0.client ≡ knower J.book) × (e.told.book ≡ J.book) };
+    ghost invariant = { λ e. (e.reader.place.me.0.client ≡ knower J.book e.reader.place.me.0.client.entries) × (e.told.book ≡ J.book) };
 }
 
 /// What a look answers, and what is told by it.
@@ -48,28 +50,24 @@ struct Answered {
     told: Sight,
 }
 
-/// The view of a train in what is published, if that is not behind what was told.
+/// The view of a train in what is published, where that is not behind what was told.
 fn look(shown: &Published, told: &Sight, alloc: Global, train: TrainId) -> Answered
     requires { shown.now.sight.book ≡ told.now.book }
     ensures book { result.told.book ≡ told.now.book }
     ensures later { IsLater told.now.history result.told.history }
     ensures seen { IsSeenIn told.now.history result.told.history train result.answer }
+    ensures version { IsOfVersion (length shown.now.sight.history.entries) result.told.history result.answer }
+    ensures newest { length told.now.history.entries ≤ length shown.now.sight.history.entries → result.told ≡ shown.now.sight }
 {
     told.known();
     let version = shown.sight.version();
-    let Some(scene) = &shown.scene else {
-        return Answered {
-            answer: Err(OrMemory::Refused(EyeFault::Behind(version))),
-            told: told.again(),
-        };
-    };
     if shown.sight.is_behind(told) {
         return Answered {
             answer: Err(OrMemory::Refused(EyeFault::Behind(version))),
             told: told.again(),
         };
     }
-    match view(alloc, scene, train) {
+    match view(alloc, &shown.scene, train) {
         Ok(view) => Answered {
             answer: Ok((view, version)),
             told: shown.sight.again(),
@@ -87,9 +85,10 @@ fn look(shown: &Published, told: &Sight, alloc: Global, train: TrainId) -> Answe
 
 /// A reader finds nothing published only where the press is gone.
 fn enter<J: HistoryName, R: Wait>(rt: &R, mut reader: End) -> Seeing
-    requires { known_to reader.place ≡ knower J.book }
-    ensures place { known_to result.place ≡ knower J.book }
+    requires { known_to reader.place ≡ knower J.book (known_to reader.place).entries }
     ensures book { result.part.value.sight.book ≡ J.book }
+    ensures knows { known_to result.place ≡ knower_of result.part.value.sight }
+    ensures known { (known_to reader.place).entries ≤ length result.part.value.sight.history.entries }
 {
     for _ in rt.forever() {
         match reader.enter_as::<Sees>() {
@@ -107,12 +106,14 @@ fn enter_and_look<J: HistoryName, R: Wait>(
     alloc: Global,
     number: u32,
 ) -> (End, Answered)
-    requires place { known_to reader.place ≡ knower J.book }
+    requires knows { known_to reader.place ≡ knower J.book (known_to reader.place).entries }
     requires told { told.now.book ≡ J.book }
-    ensures place { known_to result.0.place ≡ knower J.book }
+    ensures knows { known_to result.0.place ≡ knower J.book (known_to result.0.place).entries }
+    ensures known { (known_to reader.place).entries ≤ (known_to result.0.place).entries }
     ensures book { result.1.told.book ≡ J.book }
     ensures later { IsLater told.now.history result.1.told.history }
     ensures seen { IsSeenIn told.now.history result.1.told.history number result.1.answer }
+    ensures version { IsOfVersion (known_to result.0.place).entries result.1.told.history result.1.answer }
 {
     let reading = enter::<J, R>(rt, reader);
     let seen = look(reading.get(), told, alloc, TrainId::new(number));
@@ -122,9 +123,9 @@ fn enter_and_look<J: HistoryName, R: Wait>(
 impl<J: HistoryName> Eye<J> {
     /// An eye over a reader, whose seat was told this.
     pub(crate) fn over(reader: End, told: Sight) -> Eye<J>
-        requires knows { known_to reader.place ≡ knower J.book }
+        requires knows { known_to reader.place ≡ knower J.book (known_to reader.place).entries }
         requires told { told.book ≡ J.book }
-        ensures { result ≡ told.history }
+        ensures { result ≡ watching told.history (known_to reader.place).entries }
     {
         Eye {
             reader,
@@ -133,13 +134,13 @@ impl<J: HistoryName> Eye<J> {
         }
     }
 
-    /// The view of a train in the published scene, with its version. The seat is told all that the scene stands for.
+    /// The view of a train in the published scene, with its version, which is never below one that this eye has seen. The
+    /// seat is told all that the scene stands for.
     ///
     /// # Errors
     ///
     /// `Refused` with the first of these:
-    /// - `Behind` with the published version, where it is below what the seat was told, or the published copy has no
-    ///   scene,
+    /// - `Behind` with the published version, where it is below what the seat was told,
     /// - `Unshown` with why the train is shown no end, and the version.
     ///
     /// `Memory`, where there is a train of this number in the published scene, and no room for its view.
@@ -149,8 +150,10 @@ impl<J: HistoryName> Eye<J> {
         alloc: Global,
         train: TrainId,
     ) -> Result<(View, u64), OrMemory<EyeFault>>
-        ensures later { IsLater self.old self.new }
-        ensures seen { IsSeenIn self.old self.new train result }
+        ensures later { IsLater self.old.told self.new.told }
+        ensures seen { IsSeenIn self.old.told self.new.told train result }
+        ensures version { IsOfVersion self.new.published self.new.told result }
+        ensures known { self.old.published ≤ self.new.published }
     {
         let Eye { reader, told, .. } = self;
         let now: &Sight = told;
@@ -165,8 +168,9 @@ impl<J: HistoryName> Eye<J> {
     /// Takes in what the press told.
     pub fn learn(&mut self, token: Sight)
         requires { token.book ≡ J.book }
-        ensures later { IsLater self.old self.new }
-        ensures told { length self.old.entries ≤ length token.history.entries → self.new ≡ token.history }
+        ensures later { IsLater self.old.told self.new.told }
+        ensures told { length self.old.told.entries ≤ length token.history.entries → self.new.told ≡ token.history }
+        ensures known { self.new.published ≡ self.old.published }
     {
         self.told.known();
         if !token.is_behind(&self.told) {
@@ -176,8 +180,9 @@ impl<J: HistoryName> Eye<J> {
 
     /// Takes in what the seat of another eye was told.
     pub fn hear(&mut self, other: &Eye<J>)
-        ensures later { IsLater self.old self.new }
-        ensures heard { IsLater other.now self.new }
+        ensures later { IsLater self.old.told self.new.told }
+        ensures heard { IsLater other.now.told self.new.told }
+        ensures known { self.new.published ≡ self.old.published }
     {
         self.told.known();
         if self.told.is_behind(&other.told) {
@@ -188,21 +193,21 @@ impl<J: HistoryName> Eye<J> {
 
     /// What its seat was told.
     pub fn sight(&self) -> Sight
-        ensures { result ≡ seen_of J.book self.now }
+        ensures { result ≡ seen_of J.book self.now.told }
     {
         self.told.again()
     }
 
     /// What its seat was told is a legal history. This does nothing.
     pub fn known(&self)
-        ensures { IsLegal self.now.track self.now.entries }
+        ensures { IsLegal self.now.told.track self.now.told.entries }
     {
         self.told.known();
     }
 
     /// How many entries its seat was told.
     pub fn version(&self) -> u64
-        ensures { result ≡ length self.now.entries }
+        ensures { result ≡ length self.now.told.entries }
     {
         self.told.version()
     }

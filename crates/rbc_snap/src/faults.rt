@@ -6,7 +6,7 @@ use thiserror::Error;
 /// Why an eye shows no view.
 #[derive(Clone, Copy, Debug, PartialEq, Eq, Error)]
 pub enum EyeFault {
-    /// The published scene is of this version, below what the eye's seat was told; or the published copy has no scene.
+    /// The published scene is of this version, below what the eye's seat was told.
     #[error("the published scene is behind")]
     Behind(u64),
     /// The train is shown no end, for this reason, in the scene of this version.

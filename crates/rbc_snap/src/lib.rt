@@ -24,5 +24,5 @@ pub use rbc_record::{
     ApplyFault, Candidate, CommitFault, Entry, Grant, Receipt, Record, Scene, Train, View,
     candidate,
 };
-pub use rule::{Known, Names, OneHistory, Plants, Sees};
+pub use rule::{Known, Names, OneHistory, Sees};
 pub use sight::Sight;

@@ -1,15 +1,16 @@
 //! The writer's end, which stands under the lock.
 
-ghost use Rattle.std.specs.Prelude.{◌≡◌, ◌<◌, ◌^◌, [], length, take, replicate, IfOk, IfSome, drop, fold};
+ghost use Rattle.std.specs.Prelude.{◌≡◌, ◌≤◌, ◌<◌, ◌^◌, drop, length, take, replicate, IfOk, MatchBool, MatchResult};
 ghost use Rattle.left_right.specs.Sides.{view as known_to};
 ghost use Rattle.rbc_logbook_laws.specs.Counts.{head_of};
-ghost use Rattle.rbc_snap.specs.Knowing.{knower};
+ghost use Rattle.rbc_snap.specs.Ends.{pressed, put, watching};
+ghost use Rattle.rbc_snap.specs.Knowing.{knower_of};
 ghost use Rattle.rbc_snap.specs.Later.{IsLater};
 ghost use Rattle.rbc_snap.specs.Sights.{seen_of};
 
 use crate::eye::End;
 use crate::journal::Head;
-use crate::rule::{Known, Names, OneHistory, Plants};
+use crate::rule::{Known, Names, OneHistory, Sees};
 use crate::{Eye, HistoryName, Issue, Journal, Published, Sight};
 use core::mem::replace_with;
 use left_right::writer::Writer;
@@ -21,66 +22,77 @@ use std::sync::{Arc, Wait};
 
 type Ends = Writer<Published, Issue, Known, OneHistory>;
 
-/// A press, which publishes scenes of a record. Contracts see it as all that it was handed to publish. It is no `Drop`:
-/// end it by [`Press::end`].
+/// A press, which publishes scenes of a record. Contracts see it as all that it was handed to publish, and as the moment
+/// of it that is published. It is no `Drop`: end it by [`Press::end`].
 pub struct Press<J: HistoryName> {
     writer: Ends,
     head: Head,
     sight: Sight,
-    /// Whether readers see no scene of what it was handed last.
-    is_behind: bool,
     of: PhantomData<J>,
 }
 
 impl<J: HistoryName> Model for Press<J> {
-    ghost use Rattle.std.specs.Prelude.{◌≡◌, [], drop};
-    ghost use Rattle.rbc_record.specs.Records.{HistoryOnTrack};
+    ghost use Rattle.std.specs.Prelude.{◌≡◌};
     ghost use Rattle.rbc_logbook_laws.specs.Counts.{head_of};
+    ghost use Rattle.rbc_snap.specs.Ends.{Pressed, pressed};
+    ghost use Rattle.rbc_snap.specs.Later.{IsLater};
 
-    ghost Value = { HistoryOnTrack };
+    ghost Value = { Pressed };
 
-    ghost view = { λ p. p.sight.history };
+    ghost view = { λ p. pressed p.sight.history p.writer.desk.shown.value.sight.history };
 
-    ghost invariant = { λ p. (drop p.writer.behind p.writer.log.items ≡ []) × (p.writer.desk.shown.value.sight.book ≡ J.book) × (p.head ≡ head_of J.book) × (p.sight.book ≡ J.book) };
+    ghost invariant = { λ p. (p.writer.desk.shown.value.sight.book ≡ J.book) × (p.head ≡ head_of J.book) × (p.sight.book ≡ J.book) × IsLater p.writer.desk.shown.value.sight.history p.sight.history };
 }
 
-/// Shows readers the issue, if there is one, and tells whether it could.
-fn show<J: HistoryName, R: Wait>(rt: &R, writer: Ends, issue: Option<Issue>) -> (Ends, bool)
-    requires idle { drop writer.behind writer.log.items ≡ [] }
-    requires book { writer.desk.shown.value.sight.book ≡ J.book }
-    requires issue { IfSome issue (λ i. i.sight.book ≡ J.book) }
-    ensures idle { drop result.0.behind result.0.log.items ≡ [] }
-    ensures book { result.0.desk.shown.value.sight.book ≡ J.book }
-    ensures knows { known_to result.0.desk.place ≡ knower J.book }
+/// Shows readers all that was put, and tells whether it could.
+fn turn<R: Wait>(rt: &R, writer: Ends) -> (Ends, bool)
+    requires book { writer.desk.shown.value.sight.book ≡ (put writer.desk.shown.value.sight (drop writer.behind writer.log.items)).book }
+    requires later { length writer.desk.shown.value.sight.history.entries ≤ length (put writer.desk.shown.value.sight (drop writer.behind writer.log.items)).history.entries }
+    ensures { MatchBool result.1
+        ((result.0.desk.shown.value.sight ≡ put writer.desk.shown.value.sight (drop writer.behind writer.log.items)) × (known_to result.0.desk.place ≡ knower_of (put writer.desk.shown.value.sight (drop writer.behind writer.log.items))))
+        (result.0.desk.shown.value.sight ≡ writer.desk.shown.value.sight) }
+{
+    let (writer, answer) = writer.publish_as::<Sees, R>(rt);
+    (writer, answer.is_ok())
+}
+
+/// Puts the issue and shows it to readers, and tells whether it could.
+fn put_and_turn<R: Wait>(rt: &R, writer: Ends, issue: Issue) -> (Ends, bool)
+    requires book { writer.desk.shown.value.sight.book ≡ issue.sight.book }
+    requires later { IsLater writer.desk.shown.value.sight.history issue.sight.history }
+    ensures { MatchBool result.1 (result.0.desk.shown.value.sight ≡ issue.sight)
+        (result.0.desk.shown.value.sight ≡ writer.desk.shown.value.sight) }
 {
     let mut writer = writer;
-    let is_put = put::<J>(&mut writer, issue);
-    let (writer, _) = writer.publish_as::<Plants, R>(rt);
-    (writer, is_put)
-}
-
-/// Appends the issue, if there is one and there is memory, and tells whether it did.
-fn put<J: HistoryName>(writer: &mut Ends, issue: Option<Issue>) -> bool
-    requires idle { drop writer.old.behind writer.old.log.items ≡ [] }
-    requires book { writer.old.desk.shown.value.sight.book ≡ J.book }
-    requires issue { IfSome issue (λ i. i.sight.book ≡ J.book) }
-    ensures same { writer.new.desk ≡ writer.old.desk }
-    ensures book { (fold (λ sight i. i.sight) writer.new.desk.shown.value.sight
-        (drop writer.new.behind writer.new.log.items)).book ≡ J.book }
-{
-    match issue {
-        Some(issue) => writer.append(issue).is_ok(),
-        None => false,
+    if writer.append(issue).is_err() {
+        return (writer, false);
     }
+    turn(rt, writer)
 }
 
-/// A reader that knows which history it is.
-fn reader<J: HistoryName>(writer: &mut Ends) -> Result<End, Memory>
-    requires knows { known_to writer.old.desk.place ≡ knower J.book }
+/// Shows readers the issue.
+fn show<R: Wait>(rt: &R, writer: &mut Ends, issue: Issue) -> Result<(), Memory>
+    requires book { writer.old.desk.shown.value.sight.book ≡ issue.sight.book }
+    requires later { IsLater writer.old.desk.shown.value.sight.history issue.sight.history }
+    ensures { MatchResult result (λ _. writer.new.desk.shown.value.sight ≡ issue.sight)
+        (λ _. writer.new.desk.shown.value.sight ≡ writer.old.desk.shown.value.sight) }
+{
+    let is_shown = replace_with(
+        writer,
+        (rt, issue),
+        |writer, x| put_and_turn(x.0, writer, x.1),
+    );
+    if !is_shown {
+        return Err(Memory);
+    }
+    Ok(())
+}
+
+/// A reader that knows what the writer knows.
+fn reader(writer: &mut Ends) -> Result<End, Memory>
     ensures knows { known_to writer.new.desk.place ≡ known_to writer.old.desk.place }
     ensures shown { writer.new.desk.shown.value ≡ writer.old.desk.shown.value }
-    ensures pending { drop writer.new.behind writer.new.log.items ≡ drop writer.old.behind writer.old.log.items }
-    ensures reader { IfOk result (λ r. known_to r.place ≡ knower J.book) }
+    ensures reader { IfOk result (λ r. known_to r.place ≡ known_to writer.old.desk.place) }
 {
     let mut reader = writer.factory().reader()?;
     reader.learn::<Names>(writer.tell::<Names>());
@@ -101,14 +113,13 @@ fn advance<R: Wait>(rt: &R, head: &Head, sight: &mut Sight, log: &Record)
     unreachable!()
 }
 
-/// The finished scene of the record, where there is memory for it.
-fn issue(alloc: Global, sight: &Sight, log: &Record) -> Option<Issue>
+/// The finished scene of the record.
+fn issue(alloc: Global, sight: &Sight, log: &Record) -> Result<Issue, Memory>
     requires { sight.now.history ≡ log.now }
-    ensures { IfSome result (λ i. i.sight ≡ sight.now) }
+    ensures { IfOk result (λ i. i.sight ≡ sight.now) }
 {
-    let scene = log.snapshot(alloc).ok()?;
-    let scene = Arc::new(alloc, scene).ok()?;
-    Some(Issue {
+    let scene = Arc::new(alloc, log.snapshot(alloc)?)?;
+    Ok(Issue {
         sight: sight.again(),
         scene,
     })
@@ -122,11 +133,11 @@ fn copies(alloc: Global, sight: &Sight, log: &Record) -> Result<(Published, Publ
     let scene = Arc::new(alloc, log.snapshot(alloc)?)?;
     let first = Published {
         sight: sight.again(),
-        scene: Some(Arc::try_clone(&scene)?),
+        scene: Arc::try_clone(&scene)?,
     };
     let second = Published {
         sight: sight.again(),
-        scene: Some(scene),
+        scene,
     };
     Ok((first, second))
 }
@@ -146,15 +157,20 @@ impl<J: HistoryName> Press<J> {
     ) -> Result<(Press<J>, Vec<Eye<J>>), Memory>
         requires journal { journal ≡ J.book }
         requires readers { (0 < readers) × (readers < 2 ^ 32) }
-        ensures press { IfOk result (λ made. made.0 ≡ log.now) }
-        ensures eyes { IfOk result (λ made. made.1.items ≡ replicate readers log.now) }
+        ensures press { IfOk result (λ made. made.0 ≡ pressed log.now log.now) }
+        ensures eyes { IfOk result (λ made. made.1.items ≡ replicate readers (watching log.now (length log.now.entries))) }
     {
         let (head, sight) = journal.begin(rt, log);
+        log.known();
         let mut eyes = Vec::with_capacity(alloc, readers)?;
         let (first, second) = copies(alloc, &sight, log)?;
-        let (mut writer, _) = show::<J, R>(rt, Writer::new(alloc, first, second, readers)?, None);
+        let (mut writer, is_shown) = turn(rt, Writer::new(alloc, first, second, readers)?);
+        if !is_shown {
+            let _ = writer.take(rt);
+            return Err(Memory);
+        }
         for _reader in 0..readers {
-            match reader::<J>(&mut writer) {
+            match reader(&mut writer) {
                 Ok(reader) => eyes.push_reserved(Eye::over(reader, sight.again())),
                 Err(fault) => {
                     let _ = writer.take(rt);
@@ -166,7 +182,6 @@ impl<J: HistoryName> Press<J> {
             writer,
             head,
             sight,
-            is_behind: false,
             of: PhantomData,
         };
         Ok((press, eyes))
@@ -174,55 +189,52 @@ impl<J: HistoryName> Press<J> {
 
     /// All that the press was handed, for an eye to learn.
     pub fn tell(&self) -> Sight
-        ensures { result ≡ seen_of J.book self.now }
+        ensures { result ≡ seen_of J.book self.now.told }
     {
         self.sight.again()
     }
 
     /// Goes on to the record, and tells its history from now on. Readers see what they saw, until its scene is shown.
     pub fn follow<R: Wait>(&mut self, rt: &R, log: &Record)
-        requires track { log.now.track ≡ self.old.track }
-        requires opening { take (length self.old.entries) log.now.entries ≡ self.old.entries }
-        ensures { self.new ≡ log.now }
+        requires track { log.now.track ≡ self.old.told.track }
+        requires opening { take (length self.old.told.entries) log.now.entries ≡ self.old.told.entries }
+        ensures { self.new ≡ pressed log.now self.old.published }
     {
         log.known();
         advance(rt, &self.head, &mut self.sight, log);
-        self.is_behind = true;
     }
 
-    /// Publishes the scene of the record whose history the press tells, unless readers see it. Where there is no memory for
-    /// it, they see what they saw, up to the next call.
-    pub fn show<R: Wait>(&mut self, rt: &R, alloc: Global, log: &Record)
-        requires { self.old ≡ log.now }
-        ensures { self.new ≡ self.old }
+    /// Publishes the scene of the record whose history the press tells, unless readers see it.
+    ///
+    /// # Errors
+    ///
+    /// [`Memory`], where the allocator refuses room for the scene, or for what is published. Readers see what they saw, up to
+    /// the next call.
+    pub fn show<R: Wait>(&mut self, rt: &R, alloc: Global, log: &Record) -> Result<(), Memory>
+        requires { self.old.told ≡ log.now }
+        ensures told { self.new.told ≡ self.old.told }
+        ensures published { MatchResult result (λ _. self.new.published ≡ log.now) (λ _. self.new.published ≡ self.old.published) }
     {
-        if !self.is_behind {
-            return;
+        if !self.is_behind() {
+            return Ok(());
         }
-        let Press {
-            writer,
-            sight,
-            is_behind,
-            ..
-        } = self;
-        let issue = issue(alloc, sight, log);
-        let is_shown = replace_with(
-            writer,
-            (rt, issue),
-            |writer, x| show::<J, R>(x.0, writer, x.1),
-        );
-        *is_behind = !is_shown;
+        let Press { writer, sight, .. } = self;
+        let issue = issue(alloc, sight, log)?;
+        show(rt, writer, issue)
     }
 
-    /// Whether readers see no scene of all that the press was handed.
-    pub fn is_behind(&self) -> bool {
-        self.is_behind
+    /// Whether less is published than the press was handed.
+    pub fn is_behind(&self) -> bool
+        ensures { MatchBool result (length self.now.published.entries < length self.now.told.entries) (self.now.published ≡ self.now.told) }
+    {
+        self.writer.published().sight.is_behind(&self.sight)
     }
 
     /// Tells an eye all that the press was handed. It goes on from all that the eye's seat was told.
     pub fn bring<R: Wait>(&self, rt: &R, eye: &mut Eye<J>)
-        ensures told { eye.new ≡ self.now }
-        ensures later { IsLater eye.old self.now }
+        ensures told { eye.new.told ≡ self.now.told }
+        ensures later { IsLater eye.old.told self.now.told }
+        ensures known { eye.new.published ≡ eye.old.published }
     {
         // No seat was told more than the press has, so the first try succeeds.
         for _ in rt.forever() {
@@ -241,7 +253,6 @@ impl<J: HistoryName> Press<J> {
             writer,
             head: _,
             sight: _,
-            is_behind: _,
             of: _,
         } = self;
         let _ = writer.take(rt);

@@ -1,7 +1,6 @@
 //! What readers see, and the operation that replaces it.
 
 ghost use Rattle.std.specs.Prelude.{◌≡◌};
-ghost use Rattle.std.specs.Option.{ForSome};
 ghost use Rattle.std.specs.Arc.{arc_value};
 ghost use Rattle.rbc_snap.specs.Later.{scene_of};
 
@@ -11,12 +10,12 @@ use rbc_record::Scene;
 use std::alloc::AllocError;
 use std::sync::Arc;
 
-/// What is published: a moment of the history, and the scene that it leads to, where the copy has one.
+/// What is published: a moment of the history, and the scene that it leads to.
 #[derive(Drop)]
 pub struct Published {
     pub(crate) sight: Sight,
-    pub(crate) scene: Option<Arc<Scene>>,
-    pub ghost is: { ForSome scene (λ s. arc_value s ≡ scene_of sight.history) },
+    pub(crate) scene: Arc<Scene>,
+    pub ghost is: { arc_value scene ≡ scene_of sight.history },
 }
 
 /// A later moment, and its finished scene.
@@ -34,13 +33,11 @@ impl Absorb<Issue> for Published {
 
     ghost applied = { λ sight op. op.sight };
 
-    ghost never_fails = { Unit {0} };
-
     fn absorb_first(&mut self, operation: &Issue, _other: &Published) -> Result<(), AllocError> {
+        let scene = Arc::try_clone(&operation.scene)?;
         *self = Published {
             sight: operation.sight.again(),
-            // Where a share is refused, this copy keeps the moment without its scene.
-            scene: Arc::try_clone(&operation.scene).ok(),
+            scene,
         };
         Ok(())
     }

@@ -1,49 +1,41 @@
-//! The rule: whoever knows which history it is knows that of the published value.
+//! The rule: whoever knows which history it is knows that of the published value, which never goes back.
 
 use crate::Published;
 use atomic_table::{Join, Split};
 use crossbeam_utils::rule::{Outcome, Protocol};
 
-/// What an end knows: which history it is, once it knows. No value of it is made.
+/// What an end knows, once it knows: which history it is, and how many of its entries are published at least. No value of
+/// it is made.
 pub struct Known {
     pub knows: bool,
     pub number: u64,
     pub log_name: u64,
     pub cells_name: u64,
+    pub entries: u64,
 }
 
-/// Whoever knows which history it is knows that of the published value.
+/// Whoever knows which history it is knows that of the published value, and no more entries than that has.
 pub struct OneHistory;
 
 impl Protocol<Published, Known> for OneHistory {
     ghost use Rattle.rbc_snap.specs.Knowing.{Agree, stranger};
 
-    ghost holds = { λ x views. Agree x.sight.book views };
+    ghost holds = { λ x views. Agree x.sight views };
 
     ghost first = { stranger };
 }
 
-/// An end that knows the history finds it.
+/// An end finds what it knew, and knows what is published.
 pub struct Sees;
 
 impl Outcome<Published, Known> for Sees {
     ghost use Rattle.std.specs.Prelude.{◌≡◌};
-    ghost use Rattle.rbc_snap.specs.Knowing.{Knows};
+    ghost use Rattle.rbc_snap.specs.Knowing.{Knows, knower_of};
 
-    ghost then = { λ v x y w. (w ≡ v) × Knows y.sight.book v };
+    ghost then = { λ v x y w. Knows y.sight v × (w ≡ knower_of y.sight) };
 }
 
-/// The writer learns which history it is from what it publishes.
-pub struct Plants;
-
-impl Outcome<Published, Known> for Plants {
-    ghost use Rattle.std.specs.Prelude.{◌≡◌};
-    ghost use Rattle.rbc_snap.specs.Knowing.{knower};
-
-    ghost then = { λ v x y w. w ≡ knower y.sight.book };
-}
-
-/// The history's name goes from the writer to a reader.
+/// What the writer knows goes to a reader.
 pub struct Names;
 
 impl Split<Known> for Names {

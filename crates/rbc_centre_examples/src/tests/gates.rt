@@ -115,6 +115,27 @@ impl<'a, A: Abort> Gate for Meets<'a, A> {
     }
 }
 
+/// A gate that keeps how often it was passed, and with which version last.
+#[derive(Drop)]
+pub(super) struct Passes {
+    pub(super) count: AtomicU64,
+    pub(super) version: AtomicU64,
+}
+
+impl Gate for Passes {
+    fn pass<R: Threads + Sync>(
+        &self,
+        rt: &R,
+        alloc: Global,
+        view: View,
+        version: u64,
+    ) -> Result<Candidate, Memory> {
+        self.version.store(version, Ordering::SeqCst);
+        self.count.fetch_add(1, Ordering::SeqCst);
+        candidate(rt, alloc, view, version)
+    }
+}
+
 /// A gate that finds no memory.
 #[derive(Clone, Copy, Drop)]
 pub(super) struct Refuses;

@@ -15,9 +15,6 @@ use std::process::Abort;
 use std::sync::Wait;
 use std::thread::Threads;
 
-/// What is granted: the train, and the end of its authority.
-const GRANTED: [(u32, u32); 2] = [(1, 495), (2, 1_500)];
-
 /// Tells the desk, and once more where memory is refused.
 fn is_told<L: DeskName, R>(rt: &R, desk: &Desk<L>, track: &Track, seat: &mut Seat<L>, line: &str)
 where
@@ -44,7 +41,8 @@ where
     assert_eq!(rt; granted.candidate.authority().end(), end);
 }
 
-/// Two trains are granted theirs from two seats. False where there was no memory for the seats.
+/// Two trains are granted theirs from two seats. The second asks from the one that told: where the last scene could not be
+/// published, its eye is behind. False where there was no memory for the seats.
 fn are_granted<L: DeskName, R>(rt: &R, history: Record, blank: Blank) -> bool
 where
     R: Threads + Wait + Abort + AllocGlobal + Sync,
@@ -63,9 +61,8 @@ where
     for line in TWO_TRAINS {
         is_told(rt, &desk, &track, &mut tells, line);
     }
-    for (train, end) in GRANTED {
-        is_granted(rt, &desk, &mut asks, train, end);
-    }
+    is_granted(rt, &desk, &mut asks, 1, 495);
+    is_granted(rt, &desk, &mut tells, 2, 1_500);
     seats.push(tells).expect(rt, "the room is there");
     seats.push(asks).expect(rt, "the room is there");
     assert_eq!(rt; closed(rt, desk, seats).version(), 6);

@@ -9,7 +9,7 @@ use Rattle.rbc_desk.proofs.closing.take_all.Goals as goal
 
 pub loop-seat-preserved : goal.loop-seat-preserved
 loop-seat-preserved g c =
-    let P : Seated → Type 0 = λ seat. IsLater seat.told c.args.press.now in
+    let P : Seated → Type 0 = λ seat. IsLater seat.told c.args.press.now.told in
     let seats = c.loop-seat.yielded in
     let seat = c.in-Some.seat in
     let start = c.version.result - c.len.result in
@@ -26,6 +26,6 @@ loop-seat-preserved g c =
 
 pub returns-clause-told : goal.returns-clause-told
 returns-clause-told g c =
-    let P : Seated → Type 0 = λ seat. IsLater seat.told c.args.press.now in
+    let P : Seated → Type 0 = λ seat. IsLater seat.told c.args.press.now.told in
     let none : length (into_iter_items c.loop-seat.seat-iterator) ≡ 0 = search rules in
     subst (All P) c.into_iter-seat-iterator.ensures.into_iter_gives.0 (c.loop-seat.invariant.told (λ k d lt. absurd (omega (arith, none, lt))))

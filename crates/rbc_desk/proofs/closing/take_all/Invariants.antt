@@ -9,6 +9,6 @@ invariant-loop-seat g l = record {
   size : vec_len l.marks ≡ vec_len l.fn.marks;
   parts : l.all.parts ≡ length l.yielded;
   amount : l.all.amount ≡ length (all_receipts l.yielded);
-  told : All (λ seat. IsLater seat.told l.press) (into_iter_items l.seat-iterator) → All (λ seat. IsLater seat.told l.press) (into_iter_items l.initial.seat-iterator);
+  told : All (λ seat. IsLater seat.told l.press.told) (into_iter_items l.seat-iterator) → All (λ seat. IsLater seat.told l.press.told) (into_iter_items l.initial.seat-iterator);
   found : FindsAll l.log.entries l.start [] (all_receipts l.yielded) l.marks.items l.misplaced;
 }

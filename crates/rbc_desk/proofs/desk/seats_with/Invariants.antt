@@ -6,5 +6,5 @@ use Rattle.rbc_desk.proofs.desk.seats_with.Given as goal
 
 abbrev pub invariant-loop-eye : goal.invariant-loop-eye
 invariant-loop-eye g l =
-    (l.all.parts ≡ length (into_iter_items l.eye-iterator)) × (l.all.amount ≡ 0) × (l.seats.items ≡ map (λ eye. seated [] eye) l.yielded)
-    × All (λ eye. IsLater g.L.DeskName.opened eye) (into_iter_items l.eye-iterator)
+    (l.all.parts ≡ length (into_iter_items l.eye-iterator)) × (l.all.amount ≡ 0) × (l.seats.items ≡ map (λ eye. seated [] eye.told) l.yielded)
+    × All (λ eye. IsLater g.L.DeskName.opened eye.told) (into_iter_items l.eye-iterator)

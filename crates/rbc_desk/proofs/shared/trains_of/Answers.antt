@@ -9,8 +9,8 @@ use Rattle.rbc_desk.proofs.shared.trains_of.Goals as goal
 pub loop-train-init : goal.loop-train-init
 loop-train-init c =
     let track = c.book.result.now.track in
-    let items : c.trains-train-items.result.now ≡ map (on_track track) c.book.result.now.trains = c.trains-train-items.ensures in
+    let items : c.into_iter-train-iterator.result ≡ map (on_track track) c.book.result.now.trains = cc in
     let trains = c.book.ensures.trains ∙ ap (λ (s : SceneOnTrack). s.scene.trains) c.scene.ensures in
-    ap (λ (none : List ℕ). none ++ map number_on c.trains-train-items.result.now) c.new-numbers.ensures.items
+    ap (λ (none : List ℕ). none ++ map number_on c.into_iter-train-iterator.result) c.new-numbers.ensures.items
     ∙ ap (λ (shown : List TrainOnTrack). map number_on shown) items ∙ numbers_on track c.book.result.now.trains
     ∙ ap (λ (all : List Train). map (λ (train : Train). train.report.train) all) trains

@@ -4,10 +4,6 @@ use Rattle.rbc_snap.specs.Sights.{SeenOf}
 use Rattle.rbc_snap.proofs.LaterLemmas.{later_itself}
 use Rattle.rbc_snap.proofs.eye.look.Goals as goal
 
-pub returns-in_default-clause-later : goal.returns-in_default-clause-later
-returns-in_default-clause-later c =
-    subst (λ (s : SeenOf). IsLater c.args.told.now.history s.history) (sym c.again.ensures) (later_itself c.args.told.now.history c.known.ensures)
-
 pub returns-then-is_behind-clause-later : goal.returns-then-is_behind-clause-later
 returns-then-is_behind-clause-later c =
-    subst (λ (s : SeenOf). IsLater c.args.told.now.history s.history) (sym c.again-then-is_behind.ensures) (later_itself c.args.told.now.history c.known.ensures)
+    subst (λ (s : SeenOf). IsLater c.args.told.now.history s.history) (sym c.again.ensures) (later_itself c.args.told.now.history c.known.ensures)

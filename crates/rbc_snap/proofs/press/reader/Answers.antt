@@ -2,10 +2,10 @@ use Rattle.rbc_snap.proofs.StepLemmas.{admits, forks, merges}
 use Rattle.rbc_snap.proofs.press.reader.Goals as goal
 
 pub reader-requires : goal.reader-requires
-reader-requires g c = admits
+reader-requires c = admits
 
 pub tell-requires : goal.tell-requires
-tell-requires g c = forks _ _
+tell-requires c = forks _ _
 
 pub learn-requires-clause-rule : goal.learn-requires-clause-rule
-learn-requires-clause-rule g c = merges _ _ _ _
+learn-requires-clause-rule c = merges _ _ _ _

@@ -3,7 +3,7 @@ use Rattle.rbc_snap.specs.Records.{HistoryOnTrack}
 use Rattle.rbc_snap.specs.Later.{IsLater}
 use Rattle.rbc_desk.specs.Seats.{Seated}
 use Rattle.rbc_desk.specs.Closing.{all_receipts, AreAtPlaces, IsFirstMisplaced}
-use Rattle.rbc_desk.proofs.ClosingLemmas.{goes_on, matches}
+use Rattle.rbc_desk.proofs.ClosingLemmas.{goes_on, matches, unmarked}
 use Rattle.rbc_desk.proofs.shared.Shared.close.Goals as goal
 
 pub returns-in-None-clause-matches : goal.returns-in-None-clause-matches
@@ -33,3 +33,6 @@ returns-in-Some-clause-unmatched g c =
 pub returns-in-None-clause-told : goal.returns-in-None-clause-told
 returns-in-None-clause-told g c =
     subst (λ (h : HistoryOnTrack). All (λ (seat : Seated). IsLater seat.told h) c.args.seats.items) c.args.self.published c.take_all-misplaced.ensures.told
+
+pub take_all-misplaced-requires-clause-unmarked : goal.take_all-misplaced-requires-clause-unmarked
+take_all-misplaced-requires-clause-unmarked g c = unmarked (length c.args.self.log.entries - vec_len c.args.self.found) c.args.self.found.items c.args.self.none_found

@@ -10,13 +10,13 @@ use Rattle.rbc_desk.proofs.shared.Shared.commit_now.Goals as goal
 
 pub invariant_of-seat-2 : goal.invariant_of-seat-2
 invariant_of-seat-2 g c =
-    let told = later_twice c.seat.inside.eye _ c.bring.new.eye _ c.follow.new.eye c.bring.ensures.later c.bring.ensures.told c.follow.ensures.later c.follow.ensures.told in
-    (c.add.ensures.parts ∙ c.seat.invariant.0, search rules, later_still g.L.DeskName.opened c.seat.inside.eye c.follow.new.eye c.seat.invariant.2 told)
+    let told = later_twice c.seat.inside.eye.told _ c.bring.new.eye.told _ c.follow.new.eye.told c.bring.ensures.later c.bring.ensures.told c.follow.ensures.later c.follow.ensures.told in
+    (c.add.ensures.parts ∙ c.seat.invariant.0, search rules, later_still g.L.DeskName.opened c.seat.inside.eye.told c.follow.new.eye.told c.seat.invariant.2 told)
 
 pub returns-clause-later : goal.returns-clause-later
 returns-clause-later g c =
-    let told = later_twice c.seat.inside.eye _ c.bring.new.eye _ c.follow.new.eye c.bring.ensures.later c.bring.ensures.told c.follow.ensures.later c.follow.ensures.told in
-    subst (λ (s : Seated). IsLater s.told c.follow.new.eye) c.seat.view_is told
+    let told = later_twice c.seat.inside.eye.told _ c.bring.new.eye.told _ c.follow.new.eye.told c.bring.ensures.later c.bring.ensures.told c.follow.ensures.later c.follow.ensures.told in
+    subst (λ (s : Seated). IsLater s.told c.follow.new.eye.told) c.seat.view_is told
 
 pub returns-then-not-is_there-clause-tries : goal.returns-then-not-is_there-clause-tries
 returns-then-not-is_there-clause-tries g c =
@@ -42,4 +42,4 @@ enter-requires-clause-known g c = sym c.if-not-is_there.ensures
 pub enter-requires-clause-shown : goal.enter-requires-clause-shown
 enter-requires-clause-shown g c =
     let made = subst (λ (s : Seated). IsMadeIn s.told c.args.candidate.now) (sym c.seat.view_is) c.requires in
-    made_still c.seat.inside.eye c.args.self.now.log c.args.candidate.now (subst (λ (h : HistoryOnTrack). IsLater c.seat.inside.eye h) c.args.self.now.published c.bring.ensures.later) made
+    made_still c.seat.inside.eye.told c.args.self.now.log c.args.candidate.now (subst (λ (h : HistoryOnTrack). IsLater c.seat.inside.eye.told h) c.args.self.now.published c.bring.ensures.later) made
