@@ -200,8 +200,9 @@ pub fn check<R: Source, W: Sink>(
     // Without memory nothing begins.
     ensures memory { result ≡ Err NoMemory → (reader.new ≡ reader.old) × (writer.new ≡ writer.old) }
 
-    // Ok is answered at the end of the input.
+    // Ok is answered at the end of the input, which the last read found.
     ensures end { OnOk result (IsAtEnd (R.left reader.new)) }
+    ensures ended { OnOk result (R.ended reader.new ≡ true) }
 
     // What was written tells the verdicts on the blocks of what was read, and Ok tells whether each was certified.
     ensures checked { (input : List ℕ) × Consumes (R.left reader.old) (R.left reader.new) input

@@ -235,8 +235,9 @@ pub fn decode<F: Form, R: Source, W: Sink>(
     // Without memory nothing begins.
     ensures memory { result ≡ Err NoMemory → (reader.new ≡ reader.old) × (writer.new ≡ writer.old) }
 
-    // Ok is answered at the end of the input.
+    // Ok is answered at the end of the input, which the last read found.
     ensures end { OnOk result (IsAtEnd (R.left reader.new)) }
+    ensures ended { OnOk result (R.ended reader.new ≡ true) }
 
     // What was written answers the lines of what was read, and Ok tells whether none was refused.
     ensures talk { (input : List ℕ) × Consumes (R.left reader.old) (R.left reader.new) input × (refused : Bool)

@@ -33,6 +33,9 @@ impl<'a, L: DeskName, D: Device, N: ScribeName> Keeper<L> for DeskJournal<'a, Se
 
     ghost kept = { HasLine };
 
+    // Its file may fail at any call.
+    ghost failed = { λ _. Unit {0} };
+
     ghost says = { λ line said. parse_session line ≡ Ok said };
 
     fn keeps_nothing(&self) -> bool {

@@ -9,10 +9,10 @@ use crate::ends::End;
 use crate::log::{Caller, Log, News, Parting};
 use rbc_model::SessionFault;
 use rbc_model::limits::LONGEST_LINE;
-use rbc_streams::{LineReader, Retried, Stream};
+use rbc_streams::{Buffered, LineReader, Retried, Stream};
 use std::alloc::Global;
 use std::io;
-use std::io::{BufWriter, Eprint, Error, ErrorKind, Read, Write};
+use std::io::{Eprint, Error, ErrorKind, Read, Write};
 use std::net::{OpenStream, Shutdown, SocketAddr};
 use std::snapshot::Snapshot;
 use std::time::{Clock, Duration, Instant};
@@ -109,7 +109,7 @@ impl<S: Read + OpenStream + Drop> Connection<S> {
 
 type Reading<S> = Stream<Retried<End<Connection<S>>>>;
 
-type Writing<S> = Stream<BufWriter<Retried<End<Connection<S>>>>>;
+type Writing<S> = Stream<Buffered<End<Connection<S>>>>;
 
 /// A client that was let go: how its session ended, and what is known of its two ends then, if it had any.
 #[derive(Drop)]

@@ -1,5 +1,5 @@
 -- Connections: each client is served from a seat.
-use Rattle.std.proofs.Common.{◌≡◌, ℕ, ◌+◌, ◌<◌, ◌≤◌, Bool, false, List, [], ◌∷◌, ◌++◌, length, map, Option, Some, None, Result, Err, refl, sym, ap, ◌∙◌, subst, append_assoc, lit≤, arith}
+use Rattle.std.proofs.Common.{◌≡◌, ℕ, ◌+◌, ◌<◌, ◌≤◌, Bool, true, false, suc, List, [], ◌∷◌, ◌++◌, length, map, Option, Some, None, Result, Err, refl, sym, ap, ◌∙◌, subst, append_assoc, lit≤, arith}
 use Rattle.std.specs.Prelude.{◌↔◌, ◌||◌, All, IsTrue, OnOk}
 use Rattle.std.proofs.KnownBytes.{Appends-nil, Consumes-nil}
 use Rattle.std.proofs.lemmas.List.{append-nil, length-map, map_push, nil_from_length}
@@ -11,7 +11,7 @@ use Rattle.rbc_model.specs.declared.sessions.SessionFault.{SessionFault}
 use Rattle.rbc_model.specs.declared.sessions.SessionFault.TheVariants.{Read, Write, Memory}
 use Rattle.rbc_port.specs.Clients.{Came, Coming, FewerCome, NoneComes, Parting, unheard}
 use Rattle.rbc_sessions.specs.Seats.{Seated}
-use Rattle.rbc_server.specs.Connections.{AreConnections, AreParted, Connection, IsConnection}
+use Rattle.rbc_server.specs.Connections.{AreConnections, AreParted, Connection, IsConnection, OneKnows, TellsFailure, afresh}
 use Rattle.rbc_sessions.specs.SeatAnswers.{AreLineAnswers}
 use Rattle.rbc_sessions.specs.SeatSessions.{IsSeatSession, SeatTurn}
 use Rattle.rbc_sessions.specs.Sittings.{AreToldKept, IsKept, StaysKept}
@@ -29,7 +29,7 @@ module _ {L P : Type 0} (kept : P → ℕ → Type 0) where
       → ((s : IsSeatSession before.seat after.seat input written told ended) → AreLineAnswers before.seat.told s.turns)
       → StaysKept kept before.pen after.pen
       → OnOk ended (IsAtEnd unread) → ((ended ≡ Err Read) ↔ IsTrue read_failed) → (ended ≡ Err Write → IsTrue (after.has_failed || write_failed)) → (IsTrue write_failed → ended ≡ Err Write)
-      → (ended ≡ Err Memory → (unread ≡ left) × (told ≡ written) × (after ≡ before)) → ((after.has_failed || write_failed) ≡ false → held ≡ [])
+      → (ended ≡ Err Memory → (unread ≡ left) × (told ≡ written) × (after ≡ afresh before)) → ((after.has_failed || write_failed) ≡ false → held ≡ [])
       → IsConnection kept (record { came = came; before = before; after = after; went = went })
   talked came before after went left unread written told held read_failed write_failed ended input says tells parted read session answers stays end reading writing failing memory handed =
       let begun : (s : IsSeatSession before.seat after.seat input came.told told ended) × AreToldKept (kept after.pen) after.has_failed s.turns came.told told × AreLineAnswers before.seat.told s.turns =
@@ -63,12 +63,12 @@ not_write r memory write = absurd (let c : ⊥ = cc in c)
 
 -- memory was refused before anything was read
 pub none_begun : {L P : Type 0} (kept : P → ℕ → Type 0) (came : Coming) (sitting : Sitting L P) (went : Parting) → went ≡ unheard came
-    → IsConnection kept (record { came = came; before = sitting; after = sitting; went = went })
+    → IsConnection kept (record { came = came; before = sitting; after = afresh sitting; went = went })
 none_begun kept came sitting went parted =
     let seat = sitting.seat in
     let session : IsSeatSession seat seat [] came.told came.told (Err Memory) =
     record { turns = []; rest = []; lines = refl; few = lit≤ tt; each = refl; receipts = sym (append-nil seat.receipts); ends = (Appends-nil came.told, refl) } in
-    let none : AreToldKept (kept sitting.pen) sitting.has_failed [] came.told came.told = record {
+    let none : AreToldKept (kept sitting.pen) false [] came.told came.told = record {
       told = [];
       untold = [];
       all = refl;
@@ -78,7 +78,7 @@ none_begun kept came sitting went parted =
       each = All-nil (λ (turn : SeatTurn). IsKept (kept sitting.pen) turn.receipt);
     } in
     let parting : Parting = record { unread = came.says; told = came.told; held_back = []; read_failed = false; write_failed = false; ended = Err Memory } in
-    let whole : IsConnection kept (record { came = came; before = sitting; after = sitting; went = parting }) = record {
+    let whole : IsConnection kept (record { came = came; before = sitting; after = afresh sitting; went = parting }) = record {
       input = [];
       read = Consumes-nil came.says;
       session = session;
@@ -92,7 +92,7 @@ none_begun kept came sitting went parted =
       memory = λ e. (refl, refl, refl);
       handed_on = λ e. refl;
     } in
-    subst (λ (w : Parting). IsConnection kept (record { came = came; before = sitting; after = sitting; went = w })) (sym parted) whole
+    subst (λ (w : Parting). IsConnection kept (record { came = came; before = sitting; after = afresh sitting; went = w })) (sym parted) whole
 
 -- ---- the clients that came
 
@@ -140,6 +140,19 @@ pub one_handed : {H S : Type 0} (promised : H → S) (handles more : List H) (h 
 one_handed promised handles more h s left rest all was next is mine =
     ap (λ l. map promised l ++ rest) is ∙ ap (λ l. l ++ rest) (map_push promised handles h) ∙ append_assoc (map promised handles) (promised h ∷ []) rest
     ∙ ap (λ x. map promised handles ++ x ∷ rest) mine ∙ ap (λ l. map promised handles ++ l) (sym next) ∙ was
+
+-- the two parts of what is known of each
+pub zip_first : {H V : Type 0} (R : H → V → Type 0) (S : V → Type 0) (hs : List H) (vs : List V) → AllZip (λ h v. R h v × S v) hs vs → AllZip R hs vs
+zip_first R S [] [] z = z
+zip_first R S [] (v ∷ vs) z = absurd z
+zip_first R S (h ∷ hs) [] z = absurd z
+zip_first R S (h ∷ hs) (v ∷ vs) z = (z.0.0, zip_first R S hs vs z.1)
+
+pub zip_second : {H V : Type 0} (R : H → V → Type 0) (S : V → Type 0) (hs : List H) (vs : List V) → AllZip (λ h v. R h v × S v) hs vs → All S vs
+zip_second R S [] [] z = All-nil S
+zip_second R S [] (v ∷ vs) z = absurd z
+zip_second R S (h ∷ hs) [] z = absurd z
+zip_second R S (h ∷ hs) (v ∷ vs) z = All-cons S v vs z.0.1 (zip_second R S hs vs z.1)
 
 -- What each handle promised, of its client and its seat, was kept by the visit that came back.
 module _ {H V L P : Type 0} (keeps : P → ℕ → Type 0) (came : H → Coming) (before : H → Sitting L P) (after : V → Sitting L P) (went : V → Parting) where
@@ -224,3 +237,18 @@ parted {L = L} {P = P} keeps sitting gone parting coming sittings visits seats p
       seats_are = in_seats ∙ sym (map_twice sitting (λ (s : Sitting L P). s.seat) visits);
       pens_are = in_pens ∙ sym (map_twice sitting (λ (s : Sitting L P). s.pen) visits);
     }
+
+-- ---- where keeping failed
+
+-- one of the pens knows that keeping failed
+one_more : {V L P : Type 0} (failed : P → Type 0) (sitting : V → Sitting L P) (v : V) (visits : List V) (b : Bool) → (sitting v).has_failed ≡ b → TellsFailure failed (sitting v)
+    → (b || list_any (λ v. (sitting v).has_failed) visits) ≡ true → (list_any (λ v. (sitting v).has_failed) visits ≡ true → OneKnows failed)
+    → OneKnows failed
+one_more failed sitting v visits true now told is rest = ((sitting v).pen, told now)
+one_more failed sitting v visits false now told is rest = rest is
+
+pub one_knows : {V L P : Type 0} (failed : P → Type 0) (sitting : V → Sitting L P) (visits : List V) → All (λ v. TellsFailure failed (sitting v)) visits
+    → list_any (λ v. (sitting v).has_failed) visits ≡ true → OneKnows failed
+one_knows failed sitting [] told is = absurd (let c : ⊥ = cc in c)
+one_knows failed sitting (v ∷ visits) told is =
+    one_more failed sitting v visits (sitting v).has_failed refl (told 0 v (omega arith)) is (λ more. one_knows failed sitting visits (λ i d inside. told (suc i) d (omega (arith, inside))) more)

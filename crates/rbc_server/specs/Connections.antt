@@ -1,5 +1,5 @@
 -- Connections: each client that comes is served from a seat of its own.
-use Rattle.std.specs.Prelude.{◌≡◌, ◌↔◌, ◌||◌, ℕ, List, [], false, map, All, IsTrue, OnOk, Option, Err}
+use Rattle.std.specs.Prelude.{◌≡◌, ◌↔◌, ◌||◌, ℕ, List, [], true, false, map, All, IsTrue, OnOk, Option, Err}
 use Rattle.std.specs.Io.KnownBytes.{Consumes, IsAtEnd}
 use Rattle.rbc_model.specs.declared.sessions.SessionFault.TheVariants.{Read, Write, Memory}
 use Rattle.rbc_port.specs.Clients.{Came, Coming, Parting}
@@ -15,6 +15,10 @@ pub record Connection (L P : Type 0) : Type 0 where
   pub before : Sitting L P
   pub after : Sitting L P
   pub went : Parting
+
+-- the seat with its pen, where keeping has not failed yet
+abbrev pub afresh : {L P : Type 0} → Sitting L P → Sitting L P
+afresh sitting = record { seat = sitting.seat; pen = sitting.pen; has_failed = false }
 
 -- The client was served from the seat. By what a pen knows, what led to an entry is kept.
 pub record IsConnection {L P : Type 0} (kept : P → ℕ → Type 0) (c : Connection L P) : Type 0 where
@@ -32,9 +36,17 @@ pub record IsConnection {L P : Type 0} (kept : P → ℕ → Type 0) (c : Connec
   pub write_fault : c.went.ended ≡ Err Write → IsTrue (c.after.has_failed || c.went.write_failed)
   pub write_failed : IsTrue c.went.write_failed → c.went.ended ≡ Err Write
   -- Without memory it did not begin.
-  pub memory : c.went.ended ≡ Err Memory → (c.went.unread ≡ c.came.says) × (c.went.told ≡ c.came.told) × (c.after ≡ c.before)
+  pub memory : c.went.ended ≡ Err Memory → (c.went.unread ≡ c.came.says) × (c.went.told ≡ c.came.told) × (c.after ≡ afresh c.before)
   -- All that this client was told was handed on to it, unless a write failed, or keeping.
   pub handed_on : (c.after.has_failed || c.went.write_failed) ≡ false → c.went.held_back ≡ []
+
+-- where keeping has failed, the pen knows so
+abbrev pub TellsFailure : {L P : Type 0} → (P → Type 0) → Sitting L P → Type 0
+TellsFailure failed sitting = sitting.has_failed ≡ true → failed sitting.pen
+
+-- one of the pens knows that keeping has failed
+abbrev pub OneKnows : {P : Type 0} → (P → Type 0) → Type 0
+OneKnows {P} failed = (pen : P) × failed pen
 
 -- Of the clients that come, where it is known who comes, the first came, in order: one for each of these seats, also in order, which then were so. So
 -- the clients went.

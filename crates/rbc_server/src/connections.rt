@@ -4,8 +4,8 @@ ghost use Rattle.std.specs.Prelude.{◌≡◌, ◌+◌, ◌≤◌, ◌<◌, ◌^
 ghost use Rattle.std.specs.List.{AllZip, list_any};
 ghost use Rattle.std.specs.Thread.{IsSend, IsSync};
 ghost use Rattle.rbc_port.specs.Clients.{FewerCome};
-ghost use Rattle.rbc_server.specs.Connections.{AreConnections, AreParted, IsConnection};
-ghost use Rattle.rbc_server.specs.declared.connections.ConnectFault.TheVariants.{Port as NoClient};
+ghost use Rattle.rbc_server.specs.Connections.{AreConnections, AreParted, IsConnection, OneKnows, TellsFailure};
+ghost use Rattle.rbc_server.specs.declared.connections.ConnectFault.TheVariants.{Port as NoClient, Journal as NotKeptInSession};
 
 use crate::{Counter, Keeper, SessionEnd, Sitting, session};
 use rbc_port::{Client, Clients, Ends, PortFailed};
@@ -64,14 +64,14 @@ struct Serves<L: DeskName, K, Q, C>(Snapshot<Sitting<L, Q>>, Snapshot<C>, Phanto
 
 impl<L: DeskName, K: Keeper<L, Pen = Q>, Q, G, C: Client<Gone = G>> Promise<Visit<L, Q, G>>
     for Serves<L, K, Q, C> {
-    ghost use Rattle.rbc_server.specs.Connections.{IsConnection};
+    ghost use Rattle.rbc_server.specs.Connections.{IsConnection, TellsFailure};
 
     ghost kept_by = { λ promise visit. IsConnection K.kept (record {
       came = C.coming promise.1.value;
       before = promise.0.value;
       after = visit.sitting;
       went = C.parting visit.gone;
-    }) };
+    }) × TellsFailure K.failed visit.sitting };
 }
 
 /// A session with a client, from this sitting. A fault of the session ends the connection, and nothing else.
@@ -93,13 +93,20 @@ fn connection<
     sitting: Sitting<L, Q>,
     client: C,
 ) -> Visit<L, Q, G>
-    ensures { IsConnection K.kept (record {
+    ensures served { IsConnection K.kept (record {
       came = C.coming client;
       before = sitting;
       after = result.sitting;
       went = C.parting result.gone;
     }) }
+    ensures failed { TellsFailure K.failed result.sitting }
 {
+    let Sitting { seat, pen, .. } = sitting;
+    let sitting = Sitting {
+        seat,
+        pen,
+        has_failed: false,
+    };
     let Ends {
         mut reader,
         mut writer,
@@ -107,12 +114,6 @@ fn connection<
     } = match client.begin(rt, alloc) {
         Ok(ends) => ends,
         Err(gone) => return Visit { sitting, gone },
-    };
-    let Sitting { seat, pen, .. } = sitting;
-    let sitting = Sitting {
-        seat,
-        pen,
-        has_failed: false,
     };
     let SessionEnd { sitting, ended } = session(
         rt,
@@ -140,7 +141,7 @@ fn join_all<L: DeskName, Q: Drop, K: Keeper<L, Pen = Q>, G: Drop, C: Client<Gone
       before = handle.promise.0.value;
       after = visit.sitting;
       went = C.parting visit.gone;
-    })) handles.items result.items }
+    }) × TellsFailure K.failed visit.sitting) handles.items result.items }
     ensures length { vec_len result ≡ vec_len handles }
 {
     for handle in handles {
@@ -226,6 +227,8 @@ fn visit_all<
     ensures served { IfOk result (λ visits. AreConnections K.kept (P.coming port) sittings.items
         (map (λ visit. visit.sitting) visits.items) (map (λ visit. C.parting visit.gone) visits.items)
         × (vec_len visits ≤ vec_len sittings)) }
+    ensures failed { IfOk result (λ visits. All (λ visit. TellsFailure K.failed visit.sitting) visits.items) }
+    ensures not_kept { result ≡ Err NotKeptInSession → ⊥ }
     ensures port { result ≡ Err NoClient → FewerCome (P.coming port) (vec_len sittings) }
 {
     thread::scope(
@@ -237,6 +240,8 @@ fn visit_all<
             ensures served { IfOk result (λ visits. AreConnections K.kept (P.coming port) sittings.items
                 (map (λ visit. visit.sitting) visits.items) (map (λ visit. C.parting visit.gone) visits.items)
                 × (vec_len visits ≤ vec_len sittings)) }
+            ensures failed { IfOk result (λ visits. All (λ visit. TellsFailure K.failed visit.sitting) visits.items) }
+            ensures not_kept { result ≡ Err NotKeptInSession → ⊥ }
             ensures port { result ≡ Err NoClient → FewerCome (P.coming port) (vec_len sittings) }
         {
             let mut handles = Vec::with_capacity(alloc, sittings.len())?;
@@ -266,12 +271,13 @@ fn visit_all<
                     move || -> Visit<L, Q, G>
                         requires { IsSync T.row × IsSend L.row × IsSync L.row × IsSend Q.row × IsSend X.row × IsSend K.row × IsSync K.row
                             × IsSend I.row × IsSend O.row × IsSend G.row × IsSend C.row }
-                        ensures { IsConnection K.kept (record {
+                        ensures served { IsConnection K.kept (record {
                           came = C.coming client;
                           before = sitting;
                           after = result.sitting;
                           went = C.parting result.gone;
                         }) }
+                        ensures failed { TellsFailure K.failed result.sitting }
                     {
                         let _types = types;
                         connection(rt, alloc, counter, sitting, client)
@@ -326,6 +332,7 @@ pub(crate) fn connect<
     ensures served { IfOk result (λ back. AreParted K.kept (P.coming port) sittings.items
         back.seats.items back.pens.items (map C.parting back.gone.items)) }
     ensures room { IfOk result (λ back. vec_len back.seats + more ≤ vec_capacity back.seats) }
+    ensures journal { result ≡ Err NotKeptInSession → OneKnows K.failed }
     ensures port { result ≡ Err NoClient → FewerCome (P.coming port) (vec_len sittings) }
 {
     let room = Parted {

@@ -8,6 +8,8 @@ ghost use Rattle.rbc_sessions.specs.Later.{IsLater};
 ghost use Rattle.rbc_sessions.specs.Outcomes.{IsToldToOne};
 ghost use Rattle.rbc_sessions.specs.Records.{HistoryOnTrack};
 ghost use Rattle.rbc_sessions.specs.Seats.{Seated};
+ghost use Rattle.rbc_sessions.specs.declared.keeping.KeepFault.TheVariants.{Journal as KeeperFailed};
+ghost use Rattle.rbc_server.specs.Connections.{OneKnows};
 ghost use Rattle.rbc_server.specs.Serving.{closed_line, AreKept, IsAttended, IsClosed, IsCloseFault, IsServed, IsServeFault};
 ghost use Rattle.rbc_server.specs.declared.serving.ServeFault.TheVariants.{Port as PortFault, Write as WriteFault, Memory as NoMemory, Journal as JournalFault};
 
@@ -140,6 +142,7 @@ fn keep_swept<'a, L: DeskName, K: Keeper<L>, G, R: Wait>(
     requires told { (before : List Seated) × All (IsToldToOne before swept.now) outcomes.now }
     ensures kept { OnOk result (AreKept K.kept swept.now visited.old.seats.items visited.old.pens.items outcomes.now
         visited.new.seats.items visited.new.pens.items) }
+    ensures journal { result ≡ Err KeeperFailed → OneKnows K.failed }
     ensures room { vec_capacity visited.new.seats ≡ vec_capacity visited.old.seats }
     ensures gone { visited.new.gone.items ≡ visited.old.gone.items }
 {
@@ -196,6 +199,7 @@ fn attend<
     ensures no_client { result ≡ Err PortFault → FewerCome (P.coming port) (vec_len staff.sittings) }
     ensures memory { result ≡ Err NoMemory → writer.new ≡ writer.old }
     ensures journal { result ≡ Err JournalFault → writer.new ≡ writer.old }
+    ensures journal_failed { result ≡ Err JournalFault → OneKnows K.failed }
     ensures write { (result ≡ Err WriteFault) ↔ IsTrue (W.failed writer.new) }
     ensures fault { IfErr result (IsServeFault K.kept L.opened (P.coming port) L.parts staff
         (W.written writer.old) (W.written writer.new)) }
@@ -322,12 +326,14 @@ pub fn serve<
     ensures told { IfOk result (λ served. IsLater served.told.history served.record) }
 
     // Where a client could not be had, memory was refused or a request could not be kept, nothing is written; and where it is
-    // known who comes, fewer come than are to be served. A write fault is answered exactly where the writer failed; then a
+    // known who comes, fewer come than are to be served. That a request could not be kept is told only where a pen knows that
+    // keeping has failed. A write fault is answered exactly where the writer failed; then a
     // part of the text is written, from its start. Where the desk can't be closed the outcomes are told.
     ensures port { result ≡ Err PortFault → writer.new ≡ writer.old }
     ensures no_client { result ≡ Err PortFault → FewerCome (P.coming port) (vec_len staff.sittings) }
     ensures memory { result ≡ Err NoMemory → writer.new ≡ writer.old }
     ensures journal { result ≡ Err JournalFault → writer.new ≡ writer.old }
+    ensures journal_failed { result ≡ Err JournalFault → OneKnows K.failed }
     ensures write { (result ≡ Err WriteFault) ↔ IsTrue (W.failed writer.new) }
     ensures fault { IfErr result (IsServeFault K.kept L.opened (P.coming port) L.parts staff
         (W.written writer.old) (W.written writer.new)) }

@@ -1,7 +1,7 @@
 -- Told lines that rest at a sitting, and what becomes of them.
 use Rattle.std.proofs.Common.{◌≡◌, ℕ, ◌<◌, ◌≤◌, ◌+◌, Bool, true, false, List, [], ◌∷◌, ◌++◌, length, take, get_or, Option, Ok, Err, inl, inr, refl, sym, ap, ◌∙◌, subst, append_assoc, append-nil}
 use Rattle.std.specs.Prelude.{All, ◌||◌, MatchBool}
-use Rattle.std.proofs.lemmas.Bool.{or_right}
+use Rattle.std.proofs.lemmas.Bool.{both_ways, or_right}
 use Rattle.std.proofs.lemmas.List.{take_all, take_more}
 use Rattle.std.proofs.lemmas.List.Elements.{All-nil, All-push}
 use Rattle.rbc_model.specs.HistoryText.{IsToldOfTrack}
@@ -69,17 +69,22 @@ module _ {L P : Type 0} where
 
     -- ---- how a line is answered
 
-    pub advances_resting : (before after : Hearing L P) (line : List ℕ) → Rests track kept before line after → Advances track kept before line [] after
-    advances_resting before after line rests = record { how = inl (rests, refl); goes_on = λ whole. rests_going before after line rests }
+    pub advances_resting : (failed : P → Type 0) (before after : Hearing L P) (line : List ℕ) → Rests track kept before line after → Advances track kept failed before line [] after
+    advances_resting failed before after line rests =
+        let going = rests_going before after line rests in
+        record { how = inl (rests, refl); goes_on = λ whole. going; why = λ broken. absurd (both_ways _ going.whole broken) }
 
-    pub advances_entered : (before behind after : Hearing L P) (line text : List ℕ) → Rests track kept before line behind → CatchesUp kept behind text after → Advances track kept before line text after
-    advances_entered before behind after line text rests catches_up = record {
+    pub advances_entered : (failed : P → Type 0) (before behind after : Hearing L P) (line text : List ℕ) → Rests track kept before line behind → CatchesUp kept behind text after
+        → Advances track kept failed before line text after
+    advances_entered failed before behind after line text rests catches_up = record {
       how = inr (inl (behind, rests, catches_up));
       goes_on = λ whole. none_left after whole catches_up.none_rests;
+      why = λ broken. absurd (both_ways _ catches_up.still_whole broken);
     }
 
-    pub advances_treated : (before after : Hearing L P) (line text : List ℕ) → CatchesUpAndTreats kept before line text after → Advances track kept before line text after
-    advances_treated before after line text treats = record { how = inr (inr treats); goes_on = λ whole. none_left after whole treats.none_rests }
+    pub advances_treated : (failed : P → Type 0) (before after : Hearing L P) (line text : List ℕ) → CatchesUpAndTreats kept before line text after → (after.sitting.has_failed ≡ true → failed after.sitting.pen)
+        → Advances track kept failed before line text after
+    advances_treated failed before after line text treats why = record { how = inr (inr treats); goes_on = λ whole. none_left after whole treats.none_rests; why = why }
 
     -- a line that is told rests, or nothing changes where there was no room
     pub rests_or_same : (before after : Hearing L P) (line : List ℕ) (told : Told) (is_room : Bool) → IsGoing track kept before → demand_in before.sitting.seat.told.track line ≡ Ok (Event told)

@@ -217,7 +217,7 @@ module _ {L P : Type 0} (kept : P → ℕ → Type 0) where
           (subst (λ t. Turned next.sitting after lines t) (sym (ap (λ t. t ++ rest) hears.0)) turns))
       by (inr free) = told_turns before.sitting next.sitting after pending before.resting text lines rest catches_up.whole free asked catches_up.hears catches_up.pen turns
 
-  module _ (track : Track) where
+  module _ (track : Track) (failed : P → Type 0) where
     none_pending : (hearing : Hearing L P) → hearing.resting ≡ [] → AreAsked hearing.sitting.seat.told.track [] hearing.resting
     none_pending hearing none = subst (λ (items : List Told). AreAsked hearing.sitting.seat.told.track [] items) (sym none) tt
 
@@ -229,7 +229,8 @@ module _ {L P : Type 0} (kept : P → ℕ → Type 0) where
         (subst (λ (items : List Told). AreAsked before.sitting.seat.told.track (pending ++ line ∷ []) items) (sym rests.behind)
         (asked_more before.sitting.seat.told.track pending before.resting line rests.told asked rests.asks))
 
-    advances_whole : (before after : Hearing L P) (line text : List ℕ) → Advances track kept before line text after → before.sitting.has_failed ≡ false
+    -- a line is not treated behind one where keeping failed
+    advances_whole : (before after : Hearing L P) (line text : List ℕ) → Advances track kept failed before line text after → before.sitting.has_failed ≡ false
     advances_whole before after line text advances = by advances.how
       where
         by : (Rests track kept before line after × (text ≡ []))
@@ -241,7 +242,7 @@ module _ {L P : Type 0} (kept : P → ℕ → Type 0) where
 
     -- Lines are pending, and then come these: all have had their turns where none rests.
     turned : (before after : Hearing L P) (pending lines : List (List ℕ)) (text : List ℕ) → AreAsked before.sitting.seat.told.track pending before.resting
-        → Answered (Advances track kept) before lines text after → after.resting ≡ [] → Turned before.sitting after.sitting (pending ++ lines) text
+        → Answered (Advances track kept failed) before lines text after → after.resting ≡ [] → Turned before.sitting after.sitting (pending ++ lines) text
     turned before after pending [] text asked (silent, same) none =
         let asked_none : AreAsked before.sitting.seat.told.track pending [] =
         subst (λ (items : List Told). AreAsked before.sitting.seat.told.track pending items) (ap (λ (h : Hearing L P). h.resting) (sym same) ∙ none) asked in
@@ -266,12 +267,12 @@ module _ {L P : Type 0} (kept : P → ℕ → Type 0) where
         treated : Continues → (mid : Hearing L P) (late : List ℕ) → TreatsLine kept mid.sitting line late next.sitting → next.resting ≡ [] → Turned mid.sitting after.sitting (line ∷ lines) (late ++ rest)
         treated continue mid late treats none_now = by_failure next.sitting.has_failed refl lines later (from_next continue none_now)
           where
-            by_failure : (failed : Bool) → next.sitting.has_failed ≡ failed → (more : List (List ℕ)) → Answered (Advances track kept) next more rest after → Turned next.sitting after.sitting more rest
+            by_failure : (broken : Bool) → next.sitting.has_failed ≡ broken → (more : List (List ℕ)) → Answered (Advances track kept failed) next more rest after → Turned next.sitting after.sitting more rest
                 → Turned mid.sitting after.sitting (line ∷ more) (late ++ rest)
             by_failure false whole more then turns = one_told mid.sitting next.sitting after.sitting line late rest more (late ++ rest) treats whole refl turns
-            by_failure true failed [] (said, same) turns =
-                one_untold_last mid.sitting next.sitting after.sitting line late rest (late ++ rest) treats failed refl said (ap (λ (h : Hearing L P). h.sitting) same)
-            by_failure true failed (other ∷ more) (said, others, behind, advances, so, still) turns = absurd (both_ways _ (advances_whole next behind other said advances) failed)
+            by_failure true broken [] (said, same) turns =
+                one_untold_last mid.sitting next.sitting after.sitting line late rest (late ++ rest) treats broken refl said (ap (λ (h : Hearing L P). h.sitting) same)
+            by_failure true broken (other ∷ more) (said, others, behind, advances, so, still) turns = absurd (both_ways _ (advances_whole next behind other said advances) broken)
 
         by : Continues → (Rests track kept before line next × (reply ≡ []))
             ⊎ (((behind : Hearing L P) × Rests track kept before line behind × CatchesUp kept behind reply next) ⊎ CatchesUpAndTreats kept before line reply next)
@@ -291,7 +292,7 @@ module _ {L P : Type 0} (kept : P → ℕ → Type 0) where
             (caught_up before treats.next after.sitting pending treats.early (line ∷ lines) (treats.late ++ rest) asked treats.catches_up (treated continue treats.next treats.late treats.treats treats.none_rests))
 
     pub sitting_session : (first last : Hearing L P) (input : List ℕ) (old new : Option (List ℕ)) (result : Result (Unit {0}) SessionFault)
-        → IsTalk LONGEST_LINE (Advances track kept) first last input old new result → first.resting ≡ [] → last.resting ≡ [] → (last.sitting.has_failed ≡ true → result ≡ Err Write)
+        → IsTalk LONGEST_LINE (Advances track kept failed) first last input old new result → first.resting ≡ [] → last.resting ≡ [] → (last.sitting.has_failed ≡ true → result ≡ Err Write)
         → (session : IsSeatSession first.sitting.seat last.sitting.seat input old new result) × AreToldKept (kept last.sitting.pen) last.sitting.has_failed session.turns old new
     sitting_session first last input old new result t none none_left cut =
         let told = turned first last [] t.treated t.text (none_pending first none) t.answered none_left in
@@ -319,11 +320,11 @@ module _ {L P : Type 0} (kept : P → ℕ → Type 0) where
         )
 
     pub sitting_stays : (first last : Hearing L P) (input : List ℕ) (old new : Option (List ℕ)) (result : Result (Unit {0}) SessionFault)
-        → IsTalk LONGEST_LINE (Advances track kept) first last input old new result → first.resting ≡ [] → last.resting ≡ [] → StaysKept kept first.sitting.pen last.sitting.pen
+        → IsTalk LONGEST_LINE (Advances track kept failed) first last input old new result → first.resting ≡ [] → last.resting ≡ [] → StaysKept kept first.sitting.pen last.sitting.pen
     sitting_stays first last input old new result t none none_left = let told = turned first last [] t.treated t.text (none_pending first none) t.answered none_left in told.stays
 
     pub sitting_grown : (first last : Hearing L P) (input : List ℕ) (old new : Option (List ℕ)) (result : Result (Unit {0}) SessionFault)
-        → IsTalk LONGEST_LINE (Advances track kept) first last input old new result → first.resting ≡ [] → last.resting ≡ [] → AreFirst first.sitting.seat last.sitting.seat
+        → IsTalk LONGEST_LINE (Advances track kept failed) first last input old new result → first.resting ≡ [] → last.resting ≡ [] → AreFirst first.sitting.seat last.sitting.seat
     sitting_grown first last input old new result t none none_left =
         let told = turned first last [] t.treated t.text (none_pending first none) t.answered none_left in
         let before = first.sitting in
@@ -333,6 +334,24 @@ module _ {L P : Type 0} (kept : P → ℕ → Type 0) where
           receipts = ap (λ l. take (length before.seat.receipts) l) told.receipts ∙ take-append_seam before.seat.receipts (receipts_gained turns);
           told = begins_turns before.seat.told after.seat.told turns told.right;
         }
+
+-- where keeping has failed, the pen knows so
+module _ {L P : Type 0} (kept : P → ℕ → Type 0) (track : Track) (failed : P → Type 0) where
+  failed_last : (before after : Hearing L P) (lines : List (List ℕ)) (text : List ℕ) → Answered (Advances track kept failed) before lines text after → before.sitting.has_failed ≡ false
+      → after.sitting.has_failed ≡ true → failed after.sitting.pen
+  failed_last before after [] text (silent, same) whole broken = absurd (both_ways _ (ap (λ (h : Hearing L P). h.sitting.has_failed) same ∙ whole) broken)
+  failed_last before after (line ∷ lines) text (reply, rest, next, advances, is, later) whole broken =
+      by (λ fine. failed_last next after lines rest later fine broken) next.sitting.has_failed refl lines later
+    where
+      by : (next.sitting.has_failed ≡ false → failed after.sitting.pen) → (b : Bool) → next.sitting.has_failed ≡ b → (more : List (List ℕ)) → Answered (Advances track kept failed) next more rest after
+          → failed after.sitting.pen
+      by later_on false fine more then = later_on fine
+      by later_on true now [] (said, same) = subst (λ (h : Hearing L P). failed h.sitting.pen) (sym same) (advances.why now)
+      by later_on true now (other ∷ more) (said, others, behind, so, is, still) = absurd (both_ways _ (advances_whole kept track failed next behind other said so) now)
+
+  pub sitting_failed : (first last : Hearing L P) (input : List ℕ) (old new : Option (List ℕ)) (result : Result (Unit {0}) SessionFault)
+      → IsTalk LONGEST_LINE (Advances track kept failed) first last input old new result → first.sitting.has_failed ≡ false → last.sitting.has_failed ≡ true → failed last.sitting.pen
+  sitting_failed first last input old new result t whole broken = failed_last first last t.treated t.text t.answered whole broken
 
 -- where keeping has failed, it is told as a write fault
 pub cut_off : (failed writer_failed : Bool) (result : Result (Unit {0}) SessionFault) → (IsTrue (failed || writer_failed) → result ≡ Err Write) → failed ≡ true → result ≡ Err Write

@@ -1,5 +1,5 @@
 -- What the treatment of a line makes of a sitting at which told lines rest.
-use Rattle.std.specs.Prelude.{◌≡◌, ℕ, false, List, [], ◌∷◌, ◌++◌, All, ◌⊎◌, Ok}
+use Rattle.std.specs.Prelude.{◌≡◌, ℕ, true, false, List, [], ◌∷◌, ◌++◌, All, ◌⊎◌, Ok}
 use Rattle.rbc_model.specs.HistoryText.{IsToldOfTrack}
 use Rattle.rbc_model.specs.Tracks.{Track}
 use Rattle.rbc_model.specs.declared.reports.Told.{Told}
@@ -46,10 +46,12 @@ module _ {L P : Type 0} where
     pub none_rests : after.resting ≡ []
     pub both : text ≡ early ++ late
 
-  -- A line rests, or is entered together with those that rest, or is treated behind these. Where nothing has failed the next line can follow.
-  pub record Advances (track : Track) (kept : P → ℕ → Type 0) (before : Hearing L P) (line text : List ℕ) (after : Hearing L P) : Type 0 where
+  -- A line rests, or is entered together with those that rest, or is treated behind these. Where nothing has failed the next line can follow; where keeping
+  -- has, the pen knows so.
+  pub record Advances (track : Track) (kept : P → ℕ → Type 0) (failed : P → Type 0) (before : Hearing L P) (line text : List ℕ) (after : Hearing L P) : Type 0 where
     pub how :
         (Rests track kept before line after × (text ≡ []))
         ⊎ (((behind : Hearing L P) × Rests track kept before line behind × CatchesUp kept behind text after)
         ⊎ CatchesUpAndTreats kept before line text after)
     pub goes_on : after.sitting.has_failed ≡ false → IsGoing track kept after
+    pub why : after.sitting.has_failed ≡ true → failed after.sitting.pen

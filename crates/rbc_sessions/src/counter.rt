@@ -87,6 +87,7 @@ impl<'a, L: DeskName, K: Keeper<L>, G: Gate, R: Wait> Counter<'a, L, K, G, R> {
             × AddsEntry sitting.old.seat.told receipt.now.place request }
         ensures seat { sitting.new.seat ≡ sitting.old.seat }
         ensures failed { sitting.new.has_failed ≡ is_err result }
+        ensures why { sitting.new.has_failed ≡ true → K.failed sitting.new.pen }
         ensures kept { OnOk result (K.kept sitting.new.pen receipt.now.place) }
         ensures stays { StaysKept K.kept sitting.old.pen sitting.new.pen }
     {
@@ -123,6 +124,7 @@ impl<'a, L: DeskName, K: Keeper<L>, G: Gate, R: Wait> Counter<'a, L, K, G, R> {
         ensures kept { sitting.new.has_failed ≡ false → K.kept sitting.new.pen receipt.now.place }
         ensures said { sitting.new.has_failed ≡ false → Prints (W.written writer.old) (W.written writer.new)
             (W.failed writer.new) (reply_text self.now.track.now reply.now) result }
+        ensures why { sitting.new.has_failed ≡ true → K.failed sitting.new.pen }
         ensures unsaid { sitting.new.has_failed ≡ true → (writer.new ≡ writer.old) × (is_err result ≡ true) }
     {
         match self.keep(sitting, receipt, text) {
@@ -149,7 +151,8 @@ impl<'a, L: DeskName, K: Keeper<L>, G: Gate, R: Wait> Counter<'a, L, K, G, R> {
         requires sayable { IsSayable (request_view request.now) }
         requires demand { looked_up L.opened.track (request_view request.now) ≡ Ok (Event told) }
         requires of_track { IsToldOfTrack L.opened.track told }
-        ensures { IsTreated K.kept (Ok (Event told)) sitting.old sitting.new
+        ensures why { sitting.new.has_failed ≡ true → K.failed sitting.new.pen }
+        ensures treated { IsTreated K.kept (Ok (Event told)) sitting.old sitting.new
             (W.written writer.old) (W.written writer.new) (W.failed writer.new) result }
     {
         // What a refusal names is of the track, since the track is sound. What the seat was told is on it.
@@ -199,7 +202,8 @@ impl<'a, L: DeskName, K: Keeper<L>, G: Gate, R: Wait> Counter<'a, L, K, G, R> {
         requires whole { sitting.old.has_failed ≡ false }
         requires sayable { IsSayable (request_view request.now) }
         requires demand { looked_up L.opened.track (request_view request.now) ≡ Ok (Authority train) }
-        ensures { IsTreated K.kept (Ok (Authority train)) sitting.old sitting.new
+        ensures why { sitting.new.has_failed ≡ true → K.failed sitting.new.pen }
+        ensures treated { IsTreated K.kept (Ok (Authority train)) sitting.old sitting.new
             (W.written writer.old) (W.written writer.new) (W.failed writer.new) result }
     {
         // As above.
@@ -236,7 +240,8 @@ impl<'a, L: DeskName, K: Keeper<L>, G: Gate, R: Wait> Counter<'a, L, K, G, R> {
         requires going { W.failed writer.old ≡ false }
         requires whole { sitting.old.has_failed ≡ false }
         requires sayable { IsSayable (request_view request.now) }
-        ensures { IsTreated K.kept (looked_up sitting.old.seat.told.track (request_view request.now)) sitting.old sitting.new
+        ensures why { sitting.new.has_failed ≡ true → K.failed sitting.new.pen }
+        ensures treated { IsTreated K.kept (looked_up sitting.old.seat.told.track (request_view request.now)) sitting.old sitting.new
             (W.written writer.old) (W.written writer.new) (W.failed writer.new) result }
     {
         // As above.
@@ -267,7 +272,8 @@ impl<'a, L: DeskName, K: Keeper<L>, G: Gate, R: Wait> Counter<'a, L, K, G, R> {
     ) -> Result<(), WriteFailed>
         requires going { W.failed writer.old ≡ false }
         requires whole { sitting.old.has_failed ≡ false }
-        ensures { IsTreated K.kept (demand_in sitting.old.seat.told.track line.now) sitting.old sitting.new
+        ensures why { sitting.new.has_failed ≡ true → K.failed sitting.new.pen }
+        ensures treated { IsTreated K.kept (demand_in sitting.old.seat.told.track line.now) sitting.old sitting.new
             (W.written writer.old) (W.written writer.new) (W.failed writer.new) result }
     {
         // As above.

@@ -1,15 +1,16 @@
 //! What a sweep granted is kept before it is told.
 
-ghost use Rattle.std.specs.Prelude.{◌<◌, ℕ, All, IsPermutation, IfOk, OnOk, length};
+ghost use Rattle.std.specs.Prelude.{◌≡◌, ◌<◌, ℕ, All, IsPermutation, Err, IfOk, OnOk, length};
 ghost use Rattle.std.specs.List.Sorted.{IsNonDecreasingBy};
 ghost use Rattle.rbc_model.specs.SessionText.{Ask, IsSayable};
 ghost use Rattle.rbc_sweep.specs.Outcomes.{granted};
 ghost use Rattle.rbc_sessions.specs.Keeping.{HasGrant, HasOutcome};
+ghost use Rattle.rbc_sessions.specs.declared.keeping.KeepFault.TheVariants.{Journal as KeeperFailed};
 ghost use Rattle.rbc_sessions.specs.Sittings.{AreKeptOf, HasRank, IsKeptAt, StaysKept, rank_place};
 
 use crate::{Counter, KeepFault, Keeper};
-use rbc_model::TrainId;
 use rbc_model::limits::LAST_TRAIN;
+use rbc_model::{Memory, TrainId};
 use rbc_replies::words::Request;
 use rbc_sweep::{Answer, DeskName, Gate, Granted, Outcome, Seat};
 use std::alloc::{AllocError, Global};
@@ -61,22 +62,22 @@ impl<'a, L: DeskName, K: Keeper<L>, G: Gate, R: Wait> Counter<'a, L, K, G, R> {
     ///
     /// # Errors
     ///
-    /// `Memory`: there is none for it. `Journal`: no line says it.
-    fn text_of(&self, alloc: Global, train: TrainId) -> Result<K::Text, KeepFault>
+    /// `Memory`: there is none for it.
+    fn text_of(&self, alloc: Global, train: TrainId) -> Result<K::Text, Memory>
         ensures sayable { OnOk result (IsSayable (Ask train)) }
         ensures says { IfOk result (λ text. K.says text (Ask train)) }
     {
-        // Every train has a number from 1 to the last. No line says another.
-        if train.number() < 1 {
-            return Err(KeepFault::Journal);
+        // Every train has a number from 1 to the last, so the first try succeeds. No line says another.
+        for _ in self.waiting.forever() {
+            if train.number() < 1 {
+                continue;
+            }
+            if train.number() > LAST_TRAIN {
+                continue;
+            }
+            return self.keeper.prepare(alloc, &Request::Ask(train));
         }
-        if train.number() > LAST_TRAIN {
-            return Err(KeepFault::Journal);
-        }
-        match self.keeper.prepare(alloc, &Request::Ask(train)) {
-            Ok(text) => Ok(text),
-            Err(_) => Err(KeepFault::Memory),
-        }
+        unreachable!()
     }
 
     /// Keeps the request of a train that led to what it was granted.
@@ -94,12 +95,15 @@ impl<'a, L: DeskName, K: Keeper<L>, G: Gate, R: Wait> Counter<'a, L, K, G, R> {
     ) -> Result<(), KeepFault>
         requires told { HasGrant seat.now.told train granted.now }
         ensures kept { OnOk result (K.kept pen.new granted.now.receipt.place) }
+        ensures journal { result ≡ Err KeeperFailed → K.failed pen.new }
         ensures stays { StaysKept K.kept pen.old pen.new }
     {
         // What the seat was told is on the desk's track, in form.
         self.track.known();
         seat.known();
-        let text = self.text_of(alloc, train)?;
+        let Ok(text) = self.text_of(alloc, train) else {
+            return Err(KeepFault::Memory);
+        };
         match self
             .keeper
             .keep(self.waiting, pen, seat, &granted.receipt, text)
@@ -123,6 +127,7 @@ impl<'a, L: DeskName, K: Keeper<L>, G: Gate, R: Wait> Counter<'a, L, K, G, R> {
     ) -> Result<(), KeepFault>
         requires told { HasOutcome seat.now.told outcome.now }
         ensures kept { OnOk result (AreKeptOf (K.kept pen.new) outcome.now) }
+        ensures journal { result ≡ Err KeeperFailed → K.failed pen.new }
         ensures stays { StaysKept K.kept pen.old pen.new }
     {
         match &outcome.answer {
@@ -146,6 +151,7 @@ impl<'a, L: DeskName, K: Keeper<L>, G: Gate, R: Wait> Counter<'a, L, K, G, R> {
     ) -> Result<(), KeepFault>
         requires told { All (HasOutcome seat.now.told) outcomes.now }
         ensures kept { OnOk result (IsKeptAt (K.kept pen.new) outcomes.now number) }
+        ensures journal { result ≡ Err KeeperFailed → K.failed pen.new }
         ensures stays { StaysKept K.kept pen.old pen.new }
     {
         match outcomes.get(number) {
@@ -170,6 +176,7 @@ impl<'a, L: DeskName, K: Keeper<L>, G: Gate, R: Wait> Counter<'a, L, K, G, R> {
         requires told { All (HasOutcome seat.now.told) outcomes.now }
         requires each { (number : ℕ) → number < length outcomes.now → HasRank ranks.now number }
         ensures kept { OnOk result (All (λ receipt. K.kept pen.new receipt.place) (granted outcomes.now)) }
+        ensures journal { result ≡ Err KeeperFailed → K.failed pen.new }
         ensures stays { StaysKept K.kept pen.old pen.new }
     {
         for rank in ranks {
@@ -192,6 +199,7 @@ impl<'a, L: DeskName, K: Keeper<L>, G: Gate, R: Wait> Counter<'a, L, K, G, R> {
     ) -> Result<(), KeepFault>
         requires told { All (HasOutcome seat.now.told) outcomes.now }
         ensures kept { OnOk result (All (λ receipt. K.kept pen.new receipt.place) (granted outcomes.now)) }
+        ensures journal { result ≡ Err KeeperFailed → K.failed pen.new }
         ensures stays { StaysKept K.kept pen.old pen.new }
     {
         match ranked(alloc, outcomes) {

@@ -1,6 +1,6 @@
 //! A sitting in a session answers lines. What is told rests, so that it is entered in one hold of the desk's lock.
 
-ghost use Rattle.std.specs.Prelude.{◌≡◌, ◌||◌, [], ℕ, List, false, MatchBool};
+ghost use Rattle.std.specs.Prelude.{◌≡◌, ◌||◌, [], ℕ, List, true, false, MatchBool};
 ghost use Rattle.rbc_model.specs.Sessions.{Prints};
 ghost use Rattle.rbc_sessions.specs.Hearings.{CatchesUp, CatchesUpAndTreats, IsGoing, Rests};
 
@@ -114,7 +114,8 @@ impl<L: DeskName, P: Drop> Hearing<L, P> {
     ) -> Result<(), WriteFailed>
         requires going { W.failed writer.old ≡ false }
         requires ready { IsGoing L.opened.track K.kept self.old }
-        ensures { (reply : List ℕ) × CatchesUpAndTreats K.kept self.old line.now reply self.new
+        ensures why { self.new.sitting.has_failed ≡ true → K.failed self.new.sitting.pen }
+        ensures treated { (reply : List ℕ) × CatchesUpAndTreats K.kept self.old line.now reply self.new
             × Prints (W.written writer.old) (W.written writer.new) (self.new.sitting.has_failed || W.failed writer.new) reply result }
     {
         match self.catch_up(alloc, counter, true, writer) {
@@ -140,7 +141,7 @@ impl<'a, L: DeskName, P: Drop, K: Keeper<L, Pen = P>, G: Gate, R: Wait> Answers<
 
     ghost state = { λ hearing. hearing };
 
-    ghost answers = { Advances L.opened.track K.kept };
+    ghost answers = { Advances L.opened.track K.kept K.failed };
 
     ghost rests = { λ hearing. length hearing.resting };
 

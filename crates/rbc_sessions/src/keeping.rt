@@ -1,6 +1,6 @@
 //! What keeps the requests that led to entries, before these are answered.
 
-ghost use Rattle.std.specs.Prelude.{◌≡◌, ℕ, true, Ok, IfOk, OnOk, IsTrue};
+ghost use Rattle.std.specs.Prelude.{◌≡◌, ℕ, true, Ok, IfOk, OnOk, OnErr, IsTrue};
 ghost use Rattle.rbc_model.specs.SessionText.{SessionLine, IsSayable};
 ghost use Rattle.rbc_sessions.specs.Keeping.{AddsEntry};
 ghost use Rattle.rbc_replies.specs.SessionLines.{request_view};
@@ -39,6 +39,9 @@ pub trait Keeper<L: DeskName> {
     /// By what the pen knows, the request that led to the entry at this place is kept.
     ghost kept: { Self.Pen → ℕ → Type 0 };
 
+    /// By what the pen knows, keeping has failed. Of a keeper that never fails no pen knows so.
+    ghost failed: { Self.Pen → Type 0 };
+
     /// The text says this.
     ghost says: { Self.Text → SessionLine → Type 0 };
 
@@ -71,6 +74,7 @@ pub trait Keeper<L: DeskName> {
     ) -> Result<(), NotKept>
         requires told { (request : SessionLine) × says text request × AddsEntry seat.now.told receipt.now.place request }
         ensures kept { OnOk result (kept pen.new receipt.now.place) }
+        ensures failed { OnErr result (failed pen.new) }
         ensures stays { (place : ℕ) → kept pen.old place → kept pen.new place };
 }
 
@@ -84,6 +88,8 @@ impl<L: DeskName> Keeper<L> for NoJournal {
     type Text = ();
 
     ghost kept = { λ _ _. Unit {0} };
+
+    ghost failed = { λ _. ⊥ };
 
     ghost says = { λ _ _. Unit {0} };
 

@@ -135,6 +135,9 @@ pub fn session<
         × (session : IsSeatSession sitting.seat result.sitting.seat input (W.written writer.old) (W.written writer.new) result.ended)
         × AreToldKept (K.kept result.sitting.pen) result.sitting.has_failed session.turns (W.written writer.old) (W.written writer.new) }
 
+    // Keeping failed only where the pen knows so.
+    ensures failed { result.sitting.has_failed ≡ true → K.failed result.sitting.pen }
+
     // What was kept before still is.
     ensures stays { StaysKept K.kept sitting.pen result.sitting.pen }
 

@@ -68,9 +68,9 @@ Goes input now (Err Lines) = ⊥
 Goes input now (Err TooLong) = ⊥
 Goes input now (Err Memory) = ⊥
 
--- The input is seen to end only where nothing is left to read.
-abbrev pub KnowsEnd : LineReading → Option (List ℕ) → Type 0
-KnowsEnd now left = now.ended ≡ true → IsAtEnd left
+-- The input is seen to end only where the last read found its end, and nothing is left to read.
+abbrev pub KnowsEnd : LineReading → Option (List ℕ) → Bool → Type 0
+KnowsEnd now left is_end = now.ended ≡ true → IsAtEnd left × (is_end ≡ true)
 
 -- how the line and the pending bytes lie in a buffer of this size
 pub record IsInOrder (size line_start line_end start end longest : ℕ) : Type 0 where

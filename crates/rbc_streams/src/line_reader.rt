@@ -98,7 +98,7 @@ impl LineReader {
         ensures fault { OnErr result ((self.new.pending ≡ []) × (self.new.ended ≡ false)) }
         ensures answer { IfOk result (λ more. MatchBool more (0 < length self.new.pending)
             ((self.new.pending ≡ []) × (self.new.ended ≡ true))) }
-        ensures end { KnowsEnd self.old (R.left reader.old) → KnowsEnd self.new (R.left reader.new) }
+        ensures end { KnowsEnd self.old (R.left reader.old) (R.ended reader.old) → KnowsEnd self.new (R.left reader.new) (R.ended reader.new) }
         ensures ended { self.old.ended ≡ true → self.new.ended ≡ true }
         ensures line { self.old.pending ≡ [] → self.new.line ≡ [] }
         ensures longest { self.new.longest ≡ self.old.longest }
@@ -140,7 +140,7 @@ impl LineReader {
         ensures failed { R.failed reader.new ≡ is_err result }
         ensures next { (taken : List ℕ) × Consumes (R.left reader.old) (R.left reader.new) taken
             × (self.old.ended ≡ true → taken ≡ []) × Advances (self.old.pending ++ taken) self.new result }
-        ensures end { KnowsEnd self.old (R.left reader.old) → KnowsEnd self.new (R.left reader.new) }
+        ensures end { KnowsEnd self.old (R.left reader.old) (R.ended reader.old) → KnowsEnd self.new (R.left reader.new) (R.ended reader.new) }
         ensures ended { self.old.ended ≡ true → self.new.ended ≡ true }
         ensures longest { self.new.longest ≡ self.old.longest }
     {
@@ -226,7 +226,7 @@ impl LineReader {
             × (self.old.ended ≡ true → more ≡ []) × (count ≡ 0 → self.new.ended ≡ true)) }
         ensures err { OnErr result ((self.new.pending ≡ self.old.pending) × (self.new.ended ≡ false)
             × Keeps (R.left reader.old) (R.left reader.new)) }
-        ensures end { KnowsEnd self.old (R.left reader.old) → KnowsEnd self.new (R.left reader.new) }
+        ensures end { KnowsEnd self.old (R.left reader.old) (R.ended reader.old) → KnowsEnd self.new (R.left reader.new) (R.ended reader.new) }
         ensures ended { self.old.ended ≡ true → self.new.ended ≡ true }
         ensures line { self.new.line ≡ [] }
         ensures longest { self.new.longest ≡ self.old.longest }

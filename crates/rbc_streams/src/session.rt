@@ -41,8 +41,9 @@ pub fn converse<C, A: Answers<C>, R: Source, W: Sink>(
     ensures memory { result ≡ Err SessionFault.Memory
         → (reader.new ≡ reader.old) × (writer.new ≡ writer.old) × (answerer.new ≡ answerer.old) }
 
-    // Ok is answered at the end of the input.
+    // Ok is answered at the end of the input, which the last read found.
     ensures end { OnOk result (IsAtEnd (R.left reader.new)) }
+    ensures ended { OnOk result (R.ended reader.new ≡ true) }
 
     // No reply rests.
     ensures none_rests { A.rests (A.state answerer.new) ≡ 0 }
@@ -85,8 +86,9 @@ pub fn answer_lines<C, A: Answers<C>, R: Source, W: Sink>(
     ensures read { (result ≡ Err SessionFault.Read) ↔ IsTrue (R.failed reader.new) }
     ensures write { (result ≡ Err SessionFault.Write) ↔ IsTrue (A.broken (A.state answerer.new) || W.failed writer.new) }
 
-    // Ok is answered at the end of the input.
+    // Ok is answered at the end of the input, which the last read found.
     ensures end { OnOk result (IsAtEnd (R.left reader.new)) }
+    ensures ended { OnOk result (R.ended reader.new ≡ true) }
 
     // No reply rests.
     ensures none_rests { A.rests (A.state answerer.new) ≡ 0 }
@@ -134,7 +136,7 @@ fn next_line<R: Source, W: Sink>(
     ensures memory { result ≢ Err SessionFault.Memory }
     ensures next { (taken : List ℕ) × Consumes (R.left reader.old) (R.left reader.new) taken
         × (lines.old.ended ≡ true → taken ≡ []) × Goes (lines.old.pending ++ taken) lines.new result }
-    ensures end { KnowsEnd lines.old (R.left reader.old) → KnowsEnd lines.new (R.left reader.new) }
+    ensures end { KnowsEnd lines.old (R.left reader.old) (R.ended reader.old) → KnowsEnd lines.new (R.left reader.new) (R.ended reader.new) }
     ensures ended { lines.old.ended ≡ true → lines.new.ended ≡ true }
     ensures longest { lines.new.longest ≡ lines.old.longest }
     ensures written { Keeps (W.written writer.old) (W.written writer.new) }

@@ -3,6 +3,7 @@
 ghost use Rattle.std.specs.Prelude.{◌≡◌, ◌≤◌, ◌<◌, ℕ, List, [], Bool, false, Option, IfOk, OnOk, length, is_err};
 ghost use Rattle.std.specs.Io.KnownBytes.{ReadConsumes, WriteAppends, Keeps};
 ghost use Rattle.rbc_model.specs.Sessions.{Prints};
+ghost use Rattle.rbc_streams.specs.Calls.{finds_end};
 ghost use Rattle.rbc_model.specs.declared.sessions.SessionFault.TheVariants.{Read as ReadFault, Write as WriteFault};
 
 use rbc_model::SessionFault;
@@ -34,7 +35,8 @@ impl From<WriteFailed> for SessionFault {
     }
 }
 
-/// Where bytes are read from. A read that fails sets `failed`, and nothing else does. Nothing is read after that.
+/// Where bytes are read from. A read that fails sets `failed`, and nothing else does. Nothing is read after that. A read
+/// that gives no byte, though there is room for one, sets `ended`, and nothing else does: any other takes it back.
 pub trait Source {
     /// The bytes that are left to read, where they are known.
     ghost left: { Self → Option (List ℕ) };
@@ -42,13 +44,17 @@ pub trait Source {
     /// Whether a read has failed.
     ghost failed: { Self → Bool };
 
+    /// Whether the last read found the end: it gave no byte, though there was room for one.
+    ghost ended: { Self → Bool };
+
     /// Reads some bytes into the front of the buffer, and answers how many. It gives none only at the end, or for an
     /// empty buffer.
     fn read(&mut self, buffer: &mut [u8]) -> Result<usize, ReadFailed>
         requires { failed self.old ≡ false }
         ensures bound { IfOk result (λ count. count ≤ length buffer.new) }
         ensures bytes { ReadConsumes (left self.old) (left self.new) result buffer.new }
-        ensures failed { failed self.new ≡ is_err result };
+        ensures failed { failed self.new ≡ is_err result }
+        ensures ended { ended self.new ≡ finds_end result (length buffer.new) };
 }
 
 /// Where bytes are written to. A write or a flush that fails sets `failed`, and nothing else does. Nothing is written

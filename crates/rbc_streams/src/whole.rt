@@ -1,6 +1,6 @@
 //! A source's bytes as a whole.
 
-ghost use Rattle.std.specs.Prelude.{◌≡◌, ◌↔◌, ◌<◌, ◌≤◌, ◌++◌, ℕ, List, false, IfOk, IsTrue, Err, length};
+ghost use Rattle.std.specs.Prelude.{◌≡◌, ◌↔◌, ◌<◌, ◌≤◌, ◌++◌, ℕ, List, true, false, IfOk, OnOk, IsTrue, Err, length};
 ghost use Rattle.std.specs.Io.KnownBytes.{Consumes, IsAtEnd};
 ghost use Rattle.rbc_streams.specs.declared.whole.WholeFault.TheVariants.{Read as ReadFault, Memory as NoMemory};
 
@@ -51,6 +51,7 @@ pub fn read_whole<R: Source>(
     requires { R.failed reader.old ≡ false }
     ensures whole { IfOk result (λ bytes. Consumes (R.left reader.old) (R.left reader.new) bytes.items
         × IsAtEnd (R.left reader.new)) }
+    ensures ended { OnOk result (R.ended reader.new ≡ true) }
     ensures short { IfOk result (λ bytes. length bytes.items ≤ most) }
     ensures read { (result ≡ Err WholeFault.Read) ↔ IsTrue (R.failed reader.new) }
     ensures too_long { result ≡ Err WholeFault.TooLong

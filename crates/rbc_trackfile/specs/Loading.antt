@@ -23,12 +23,13 @@ abbrev pub file_fault : OrMemory FileFault → LoadFault
 file_fault (Refused fault) = File fault
 file_fault NoFileMemory = Memory
 
--- for a reader with these bytes before and after, which failed or did not
-module _ (before after : Option (List ℕ)) (failed : Bool) where
-  -- These bytes were read, and nothing is left.
+-- for a reader with these bytes before and after, which failed or did not, and whose last read found the end or did not
+module _ (before after : Option (List ℕ)) (failed ended : Bool) where
+  -- These bytes were read, and nothing is left: the last read found the end.
   pub record IsReadWhole (bytes : List ℕ) : Type 0 where
     pub read : Consumes before after bytes
     pub at_end : IsAtEnd after
+    pub found_end : ended ≡ true
     pub short : length bytes ≤ LONGEST_FILE
     pub works : failed ≡ false
 

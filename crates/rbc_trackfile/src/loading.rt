@@ -31,7 +31,7 @@ pub enum LoadFault {
 /// - `Memory`, where the reader did not fail.
 pub fn load<R: Source>(alloc: Global, reader: &mut R) -> Result<Track, LoadFault>
     requires { R.failed reader.old ≡ false }
-    ensures { IsLoaded (R.left reader.old) (R.left reader.new) (R.failed reader.new) result }
+    ensures { IsLoaded (R.left reader.old) (R.left reader.new) (R.failed reader.new) (R.ended reader.new) result }
 {
     let bytes = read_whole(alloc, reader, LONGEST_FILE)?;
     Ok(read(alloc, bytes.as_slice())?)

@@ -1,6 +1,6 @@
 use Rattle.std.proofs.Common.{rules}
 use Rattle.std.specs.Vec.Iter.{into_iter_items}
-use Rattle.rbc_server.specs.Connections.{IsConnection}
+use Rattle.rbc_server.specs.Connections.{IsConnection, TellsFailure}
 use Rattle.rbc_server.proofs.ConnectionLemmas.{all_came}
 use Rattle.rbc_server.proofs.connections.join_all.Goals as goal
 
@@ -8,6 +8,6 @@ pub returns-clause-served : goal.returns-clause-served
 returns-clause-served g c =
     let inv = c.loop-handle.invariant in
     all_came
-    (λ h v. IsConnection g.K.Keeper.kept (record { came = g.C.Client.coming h.promise.1.value; before = h.promise.0.value; after = v.sitting; went = g.C.Client.parting v.gone }))
+    (λ h v. IsConnection g.K.Keeper.kept (record { came = g.C.Client.coming h.promise.1.value; before = h.promise.0.value; after = v.sitting; went = g.C.Client.parting v.gone }) × TellsFailure g.K.Keeper.failed v.sitting)
     c.args.handles.items (into_iter_items c.into_iter-handle-iterator.result)
     (into_iter_items c.loop-handle.handle-iterator) c.loop-handle.back.items inv.0 (search rules) c.into_iter-handle-iterator.ensures.into_iter_gives.0

@@ -11,12 +11,14 @@ use Rattle.rbc_show.proofs.strip.strips_in.Goals as goal
 pub loop-train-init : goal.loop-train-init
 loop-train-init c =
     let track = c.args.book.now.track in
-    let it = c.trains-train-items.result.now in
-    let e : it ≡ map (on_track track) c.args.book.now.trains = c.trains-train-items.ensures in
+    let it = c.into_iter-train-iterator.result in
+    let e : it ≡ map (on_track track) c.args.book.now.trains = c.into_iter-train-iterator.ensures.into_iter_gives ∙ c.trains-train-items.ensures.trains in
     let same : map (λ (t : TrainOnTrack). t.train) it ≡ c.args.book.now.trains =
     ap (map (λ (t : TrainOnTrack). t.train)) e ∙ map-map (λ (t : TrainOnTrack). t.train) (on_track track) c.args.book.now.trains ∙ map-id c.args.book.now.trains in
     let shown = strip_of track (scene_of c.args.locks.now c.args.book.now.trains) in
     record {
+      can = tt;
+      finite = tt;
       tracks = e ∙ ap (map (on_track track)) (sym same);
       told = ap (λ l. map strip_view l ++ map shown (map (λ (t : TrainOnTrack). t.train) it)) c.new-strips.ensures.items ∙ ap (map shown) same;
     }

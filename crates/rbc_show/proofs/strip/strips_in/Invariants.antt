@@ -1,4 +1,4 @@
-use Rattle.std.proofs.Common.{◌≡◌, ◌++◌, drop}
+use Rattle.std.proofs.Common.{◌≡◌, ◌++◌}
 use Rattle.std.specs.Prelude.{map}
 use Rattle.rbc_scene.specs.TrainsOnTracks.{TrainOnTrack}
 use Rattle.rbc_scene.specs.Entries.{on_track}
@@ -9,7 +9,9 @@ use Rattle.rbc_show.proofs.strip.strips_in.Given as goal
 
 abbrev pub invariant-loop-train : goal.invariant-loop-train
 invariant-loop-train l = record {
-  tracks : drop l.train-index l.train-items ≡ map (on_track l.book.track) (map (λ (t : TrainOnTrack). t.train) (drop l.train-index l.train-items));
-  told : map strip_view l.strips.items ++ map (strip_of l.book.track (scene_of l.locks l.book.trains)) (map (λ (t : TrainOnTrack). t.train) (drop l.train-index l.train-items))
+  can : (goal.iterator-loop-train).can_next l.train-iterator;
+  finite : (goal.iterator-loop-train).is_finite l.train-iterator;
+  tracks : l.train-iterator ≡ map (on_track l.book.track) (map (λ (t : TrainOnTrack). t.train) l.train-iterator);
+  told : map strip_view l.strips.items ++ map (strip_of l.book.track (scene_of l.locks l.book.trains)) (map (λ (t : TrainOnTrack). t.train) l.train-iterator)
       ≡ map (strip_of l.book.track (scene_of l.locks l.book.trains)) l.book.trains;
 }

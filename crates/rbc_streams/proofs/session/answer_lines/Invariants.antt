@@ -12,7 +12,7 @@ invariant-loop-count g l = record {
   intact : g.A.Answers.broken (g.A.Answers.state l.answerer) ≡ false;
   none_rests : (g.A.Answers.rests (g.A.Answers.state l.answerer) ≡ 0) ⊎ ((l.count < MOST_LINES) × HasLine l.lines.pending l.lines.longest);
   longest : l.lines.longest ≡ g.A.Answers.longest;
-  end : KnowsEnd l.lines (g.R.Source.left l.reader);
+  end : KnowsEnd l.lines (g.R.Source.left l.reader) (g.R.Source.ended l.reader);
   handed_on : g.W.Sink.held_back l.fn.writer ≡ [] → l.count ≡ 0 → g.W.Sink.held_back l.writer ≡ [];
   under_way : IsUnderWay g.A.Answers.longest g.A.Answers.answers (g.A.Answers.state l.fn.answerer) (g.A.Answers.state l.answerer)
       (g.R.Source.left l.fn.reader) (g.R.Source.left l.reader) (g.W.Sink.written l.fn.writer) (g.W.Sink.written l.writer)

@@ -16,6 +16,7 @@ returns g c = (
   record {
     read = (c.in_ok-bytes.ensures.whole).0;
     at_end = (c.in_ok-bytes.ensures.whole).1;
+    found_end = c.in_ok-bytes.ensures.ended;
     short = c.in_ok-bytes.ensures.short;
     works = works (g.R.Source.failed c.read_whole.new.reader) c.in_ok-bytes.bytes c.in_ok-bytes.ensures.read;
   },

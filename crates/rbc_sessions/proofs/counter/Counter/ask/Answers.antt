@@ -12,8 +12,8 @@ print-requires-clause-of_track g c =
     asked_whole c.args.train track (Err c.ask_in_vain.result) c.reply_to.result c.args.sitting.now.seat.told c.ask_in_vain.new.seat.told (later.track ∙ sym c.args.self.now.of_desk)
     c.ask_in_vain.ensures.since c.reply_to.ensures.whole
 
-pub returns-in_default : goal.returns-in_default
-returns-in_default g c =
+pub returns-in_default-clause-treated : goal.returns-in_default-clause-treated
+returns-in_default-clause-treated g c =
     let track = c.args.self.now.track.now in
     let later = c.known-2.ensures in
     denied_treated g.K.Keeper.kept _ _ _ _ _ _ c.args.train track (reply_text track c.reply_to.result) c.ask_in_vain.result (Err c.ask_in_vain.result) refl c.requires.whole refl refl
@@ -40,8 +40,8 @@ say-requires-clause-reply g c =
     asked_whole c.args.train track c.ask_by-answer.result c.reply_to-reply.result c.args.sitting.now.seat.told c.ask_by-answer.new.seat.told (later.track ∙ sym c.args.self.now.of_desk)
     c.ask_by-answer.ensures.since c.reply_to-reply.ensures.whole
 
-pub returns-in-Ok-answer : goal.returns-in-Ok-answer
-returns-in-Ok-answer g c =
+pub returns-in-Ok-answer-clause-treated : goal.returns-in-Ok-answer-clause-treated
+returns-in-Ok-answer-clause-treated g c =
     let track = c.args.self.now.track.now in
     let later = c.known-2.ensures in
     granted_treated g.K.Keeper.kept _ _ _ _ _ _ c.args.train track (reply_text track c.reply_to-reply.result) c.in-Ok-answer.granted c.ask_by-answer.result c.ask_by-answer.new.seat c.in-Ok-answer.is
@@ -55,8 +55,8 @@ print-requires-in-Err-clause-of_track g c =
     asked_whole c.args.train track c.ask_by-answer.result c.reply_to-reply.result c.args.sitting.now.seat.told c.ask_by-answer.new.seat.told (later.track ∙ sym c.args.self.now.of_desk)
     c.ask_by-answer.ensures.since c.reply_to-reply.ensures.whole
 
-pub returns-in-Err : goal.returns-in-Err
-returns-in-Err g c =
+pub returns-in-Err-clause-treated : goal.returns-in-Err-clause-treated
+returns-in-Err-clause-treated g c =
     let track = c.args.self.now.track.now in
     let later = c.known-2.ensures in
     denied_treated g.K.Keeper.kept _ _ _ _ _ _ c.args.train track (reply_text track c.reply_to-reply.result) c.in-Err.field-0 c.ask_by-answer.result c.in-Err.is c.requires.whole refl refl

@@ -10,7 +10,7 @@ keep-requires g c =
     record {
       told = (
         Ask c.args.train,
-        c.in_ok-text.ensures.says,
+        c.in-Ok.ensures.says,
         grant_adds c.args.seat.now.told c.args.train c.args.granted.now c.requires.told (subst IsInForm (c.args.self.now.of_desk ∙ sym later.track) c.known.ensures.form),
       );
     }

@@ -6,8 +6,8 @@ use Rattle.rbc_replies.specs.SessionLines.{request_view}
 use Rattle.rbc_sessions.proofs.TreatingLemmas.{asked_for, nothing_treated, refused_for, refused_treated, treated_as}
 use Rattle.rbc_sessions.proofs.counter.Counter.treat.Goals as goal
 
-pub returns-in-Ok-Nothing : goal.returns-in-Ok-Nothing
-returns-in-Ok-Nothing g c =
+pub returns-in-Ok-Nothing-clause-treated : goal.returns-in-Ok-Nothing-clause-treated
+returns-in-Ok-Nothing-clause-treated g c =
     let later = c.known.ensures in
     nothing_treated g.K.Keeper.kept c.args.sitting.now _ _ _ _ c.requires.whole (looked_up c.args.sitting.now.seat.told.track (request_view c.args.request.now))
     (asked_for c.args.self.now.track.now c.args.sitting.now.seat.told.track (request_view c.args.request.now) c.in-Ok-Nothing.field-0 Nothing (c.args.self.now.of_desk ∙ sym later.track)
@@ -18,12 +18,12 @@ tell-requires-clause-demand g c =
     sym (asked_for c.args.self.now.track.now g.L.DeskName.opened.track (request_view c.args.request.now) c.in-Ok-Event.field-0 (Event c.in-Ok-Event.told) c.args.self.now.of_desk
     c.in-Ok-Event.field-0-is c.in-Ok-Event.ensures.demand)
 
-pub returns-in-Ok-Event : goal.returns-in-Ok-Event
-returns-in-Ok-Event g c =
+pub returns-in-Ok-Event-clause-treated : goal.returns-in-Ok-Event-clause-treated
+returns-in-Ok-Event-clause-treated g c =
     let later = c.known.ensures in
     treated_as g.K.Keeper.kept _ _ _ _ _ _ (Ok (Event c.in-Ok-Event.told)) (looked_up c.args.sitting.now.seat.told.track (request_view c.args.request.now))
     (asked_for c.args.self.now.track.now c.args.sitting.now.seat.told.track (request_view c.args.request.now) c.in-Ok-Event.field-0 (Event c.in-Ok-Event.told) (c.args.self.now.of_desk ∙ sym later.track)
-    c.in-Ok-Event.field-0-is c.in-Ok-Event.ensures.demand) c.tell.ensures
+    c.in-Ok-Event.field-0-is c.in-Ok-Event.ensures.demand) c.tell.ensures.treated
 
 pub ask-requires-clause-demand : goal.ask-requires-clause-demand
 ask-requires-clause-demand g c κs within =
@@ -31,15 +31,15 @@ ask-requires-clause-demand g c κs within =
     c.in-Ok-Authority.field-0-is c.in-Ok-Authority.ensures.demand)
     ∙ ap (λ train. Ok (Authority train)) (sym c.new-train.ensures)
 
-pub returns-in-Ok-Authority : goal.returns-in-Ok-Authority
-returns-in-Ok-Authority g c =
+pub returns-in-Ok-Authority-clause-treated : goal.returns-in-Ok-Authority-clause-treated
+returns-in-Ok-Authority-clause-treated g c =
     let later = c.known.ensures in
     treated_as g.K.Keeper.kept _ _ _ _ _ _ (Ok (Authority c.in-Ok-Authority.number)) (looked_up c.args.sitting.now.seat.told.track (request_view c.args.request.now))
     (asked_for c.args.self.now.track.now c.args.sitting.now.seat.told.track (request_view c.args.request.now) c.in-Ok-Authority.field-0 (Authority c.in-Ok-Authority.number) (c.args.self.now.of_desk ∙ sym later.track)
-    c.in-Ok-Authority.field-0-is c.in-Ok-Authority.ensures.demand) (rw c.new-train.ensures at c.ask.ensures)
+    c.in-Ok-Authority.field-0-is c.in-Ok-Authority.ensures.demand) (rw c.new-train.ensures at c.ask.ensures.treated)
 
-pub returns-in-Err : goal.returns-in-Err
-returns-in-Err g c =
+pub returns-in-Err-clause-treated : goal.returns-in-Err-clause-treated
+returns-in-Err-clause-treated g c =
     let later = c.known.ensures in
     let track = c.args.self.now.track.now in
     let told = c.args.sitting.now.seat.told.track in

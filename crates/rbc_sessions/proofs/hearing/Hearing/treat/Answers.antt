@@ -6,10 +6,10 @@ use Rattle.rbc_sessions.proofs.hearing.Hearing.treat.Goals as goal
 pub treat_line-requires-in-Err-clause-whole : goal.treat_line-requires-in-Err-clause-whole
 treat_line-requires-in-Err-clause-whole g c κs within = let caught_up = c.in-Err.ensures.1 in caught_up.still_whole
 
-pub returns-in-Err : goal.returns-in-Err
-returns-in-Err g c =
+pub returns-in-Err-clause-treated : goal.returns-in-Err-clause-treated
+returns-in-Err-clause-treated g c =
     let caught_up = c.in-Err.ensures in
-    let treated = c.treat_line-in-Err.ensures in (
+    let treated = c.treat_line-in-Err.ensures.treated in (
       caught_up.0 ++ treated.0,
       record {
         next = c.catch_up.new.self;
@@ -26,10 +26,10 @@ returns-in-Err g c =
 pub treat_line-requires-clause-whole : goal.treat_line-requires-clause-whole
 treat_line-requires-clause-whole g c κs within = let caught_up = c.in-Ok.ensures.1 in caught_up.still_whole
 
-pub returns-in-Ok : goal.returns-in-Ok
-returns-in-Ok g c =
+pub returns-in-Ok-clause-treated : goal.returns-in-Ok-clause-treated
+returns-in-Ok-clause-treated g c =
     let caught_up = c.in-Ok.ensures in
-    let treated = c.treat_line.ensures in (
+    let treated = c.treat_line.ensures.treated in (
       caught_up.0 ++ treated.0,
       record {
         next = c.catch_up.new.self;

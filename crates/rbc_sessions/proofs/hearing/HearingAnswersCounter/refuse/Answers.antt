@@ -1,4 +1,5 @@
 use Rattle.std.proofs.Common.{[], ◌∙◌, refl, sym}
+use Rattle.std.proofs.lemmas.Bool.{both_ways}
 use Rattle.std.proofs.lemmas.List.{nil_from_length}
 use Rattle.rbc_model.specs.SessionReply.{BadLine, refused_reply}
 use Rattle.rbc_model.specs.declared.refusals.LineFault.TheVariants.{Overlong}
@@ -15,7 +16,7 @@ returns-clause-reply g c =
     let track = c.args.counter.now.track.now in
     let none = nil_from_length now.resting c.requires.none_rests in (
       refused_reply track (BadLine Overlong),
-      (λ line long. advances_treated g.L.DeskName.opened.track g.K.Keeper.kept now now line (refused_reply track (BadLine Overlong)) (record {
+      (λ line long. advances_treated g.L.DeskName.opened.track g.K.Keeper.kept g.K.Keeper.failed now now line (refused_reply track (BadLine Overlong)) (record {
         next = now;
         early = [];
         late = refused_reply track (BadLine Overlong);
@@ -23,6 +24,6 @@ returns-clause-reply g c =
         treats = refused_treats g.K.Keeper.kept now.sitting going.whole line Overlong track (c.args.counter.now.of_desk ∙ sym later.track) (overlong_read line long);
         none_rests = none;
         both = refl;
-      })),
+      }) (λ broken. absurd (both_ways _ going.whole broken))),
       prints_whole _ _ _ _ _ now.sitting.has_failed going.whole c.print.ensures,
     )

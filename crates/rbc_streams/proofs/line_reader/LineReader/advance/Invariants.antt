@@ -9,7 +9,7 @@ invariant-loop-step g l = record {
   longest : l.self.longest ≡ l.fn.self.longest;
   reads : (taken : List ℕ) × Consumes (g.R.Source.left l.fn.reader) (g.R.Source.left l.reader) taken
       × (l.fn.self.ended ≡ true → taken ≡ []) × (l.self.pending ≡ l.fn.self.pending ++ taken);
-  knows : KnowsEnd l.fn.self (g.R.Source.left l.fn.reader) → KnowsEnd l.self (g.R.Source.left l.reader);
+  knows : KnowsEnd l.fn.self (g.R.Source.left l.fn.reader) (g.R.Source.ended l.fn.reader) → KnowsEnd l.self (g.R.Source.left l.reader) (g.R.Source.ended l.reader);
   stays : l.fn.self.ended ≡ true → l.self.ended ≡ true;
 }
 

@@ -2,7 +2,7 @@ use Rattle.std.proofs.Common.{◌≡◌, ◌+◌, ◌≤◌, ◌++◌, None, Som
 use Rattle.std.specs.Prelude.{vec_capacity}
 use Rattle.std.specs.Vec.Iter.{into_iter_items}
 use Rattle.rbc_port.specs.Clients.{Came, FewerCome}
-use Rattle.rbc_server.specs.declared.connections.ConnectFault.TheVariants.{Port}
+use Rattle.rbc_server.specs.declared.connections.ConnectFault.TheVariants.{Port, Journal}
 use Rattle.rbc_server.proofs.connections.fn.visit_all.scope.Given as goal
 
 -- As long as no fault came, each of the sittings so far went to a thread that serves a client from it: the next one that came. There is room for a handle
@@ -13,4 +13,5 @@ invariant-loop-sitting g l =
     × Came (g.P.Clients.coming l.initial.port) (g.P.Clients.coming l.port) (map (λ h. g.C.Client.coming h.promise.1.value) l.handles.items))
     × (l.fault ≡ Some Port → FewerCome (g.P.Clients.coming l.initial.port) (length (into_iter_items l.initial.sitting-iterator)))
     × (length l.handles.items + length (into_iter_items l.sitting-iterator) ≤ length (into_iter_items l.initial.sitting-iterator))
+    × (l.fault ≡ Some Journal → ⊥)
     × (vec_capacity l.handles ≡ vec_capacity l.initial.handles)
