@@ -98,6 +98,27 @@ where
     }
 }
 
+/// The seats do their work at once.
+fn work_at_once<L: DeskName + Send + Sync, R>(
+    rt: &R,
+    desk: &Desk<L>,
+    track: &Track,
+    seats: &mut [Seat<L>],
+)
+where
+    R: Threads + Wait + Abort + AllocGlobal + Sync,
+    requires { track.now ≡ L.opened.track }
+{
+    thread::for_each_mut(
+        rt,
+        seats,
+        4,
+        &|number: usize, seat: &mut Seat<L>|
+            requires { track.now ≡ L.opened.track }
+        { work(rt, desk, track, seat, &LINES[number % 4]) },
+    );
+}
+
 /// The record after all four seats have done their work at once.
 fn crowd<L: DeskName + Send + Sync, R>(rt: &R, history: Record, blank: Blank) -> Record
 where
@@ -109,15 +130,7 @@ where
 {
     let shared = shared_track(rt, &history);
     let (desk, mut seats) = Desk::<L>::new(rt, rt.alloc(), history, 4, blank).expect(rt, "seats");
-    let track: &Track = &shared;
-    thread::for_each_mut(
-        rt,
-        seats.as_mut_slice(),
-        4,
-        &|number: usize, seat: &mut Seat<L>|
-            requires { track.now ≡ L.opened.track }
-        { work(rt, &desk, track, seat, &LINES[number % 4]) },
-    );
+    work_at_once(rt, &desk, &shared, seats.as_mut_slice());
     for seat in &seats {
         assert!(rt; !seat.receipts().is_empty());
     }
