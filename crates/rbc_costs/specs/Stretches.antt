@@ -34,3 +34,7 @@ module _ {V : Type 0} (levels : Levels V) (track : StepFunction V) where
   pub record IsLostByFloor (from to : ℕ) (value : V) (price : ℕ) : Type 0 where
     pub lost : lost_below levels track (levels.floor value) from + price ≡ lost_below levels track (levels.floor value) to
     pub bound : from * MOST_PRICE + price ≤ to * MOST_PRICE
+
+-- what one step costs from each break before that of a number up to there
+abbrev pub AreCosts : (ℕ → ℕ → ℕ) → List ℕ → Type 0
+AreCosts cost costs = (i : ℕ) → i < length costs → slice_index costs i ≡ cost i (length costs)

@@ -14,7 +14,7 @@ mod table;
 mod total;
 
 pub use costs::{costs_to, further, least_of, totals_on};
-pub use next::{low_from, next_costs};
+pub use next::{costs_behind, firsts_of, low_from, next_costs};
 pub use priced::Priced;
 pub use rbc_model::Memory;
 pub use rbc_stretches::{Stretch, is_at_most};

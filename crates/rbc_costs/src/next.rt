@@ -1,12 +1,14 @@
 //! What one step costs up to the next break, from what it costs up to the one before.
-ghost use Rattle.std.specs.Prelude.{◌≡◌, ℕ, ◌+◌, ◌-◌, ◌<◌, ◌≤◌, map, length, slice_index};
+ghost use Rattle.std.specs.Prelude.{◌≡◌, ℕ, ◌+◌, ◌-◌, ◌<◌, ◌≤◌, map, IfOk, OnErr, length, slice_index, vec_capacity};
 ghost use Rattle.rbc_model.specs.Scales.{unit_of};
 ghost use Rattle.rbc_table_laws.specs.Stretches.{cost_of_step};
-ghost use Rattle.rbc_costs.specs.Stretches.{AreLowFrom, AreStretches, IsLowFrom};
+ghost use Rattle.rbc_costs.specs.Stretches.{AreCosts, AreLowFrom, AreStretches, IsLowFrom};
 
 use crate::total::Total;
+use rbc_model::Memory;
 use rbc_steps::{Level, Runs};
 use rbc_stretches::{Stretch, is_at_most, price_on};
+use std::alloc::Global;
 
 /// The first stretch from which on none is lower than that of the index `stretch`, where `firsts` has it for each before.
 fn low_up_to<V: Level>(
@@ -43,6 +45,22 @@ pub fn low_from<V: Level>(track: &Runs<V>, stretches: &[(Stretch, V)], firsts: &
     for stretch in 0..stretches.len() {
         firsts[stretch] = low_up_to(track, stretches, firsts, stretch);
     }
+}
+
+/// For each stretch the first one from which on up to there none is lower.
+pub fn firsts_of<V: Level>(
+    alloc: Global,
+    track: &Runs<V>,
+    stretches: &[(Stretch, V)],
+) -> Result<Vec<usize>, Memory>
+    requires { AreStretches V.levels (unit_of track.now.end) track.now stretches.now }
+    ensures count { IfOk result (λ firsts. length firsts.items ≡ length stretches.now) }
+    ensures firsts { IfOk result (λ firsts. AreLowFrom V.levels (unit_of track.now.end) track.now stretches.now
+        (length stretches.now) (slice_index firsts.items)) }
+{
+    let mut firsts = vec![in alloc; 0; stretches.len()]?;
+    low_from(track, stretches, firsts.as_mut_slice());
+    Ok(firsts)
 }
 
 /// Writes what one step costs up to the break behind the last stretch, from each break from `first` on: no stretch from
@@ -124,4 +142,36 @@ pub fn next_costs<V: Level, N: Total>(
         write_more(before, costs, from, end, N::of(lost));
         end = from;
     }
+}
+
+/// What one step costs up to the break behind that up to which `before` has it. It is kept in `room`, whatever that has.
+///
+/// # Errors
+///
+/// `Memory` where `room` has to grow, and there is no memory for it.
+pub fn costs_behind<V: Level, N: Total>(
+    track: &Runs<V>,
+    stretches: &[(Stretch, V)],
+    firsts: &[usize],
+    before: &[N],
+    room: Vec<N>,
+) -> Result<Vec<N>, Memory>
+    requires stretches { AreStretches V.levels (unit_of track.now.end) track.now stretches.now }
+    requires inside { length before.now < length stretches.now }
+    requires room { length stretches.now ≤ length firsts.now }
+    requires firsts { AreLowFrom V.levels (unit_of track.now.end) track.now stretches.now (length stretches.now)
+        (slice_index firsts.now) }
+    requires before { AreCosts (cost_of_step V.levels (unit_of track.now.end) track.now) (map N.number before.now) }
+    requires small { (i to : ℕ) → i < to → to ≤ length stretches.now
+        → cost_of_step V.levels (unit_of track.now.end) track.now i to ≤ N.most }
+    ensures count { IfOk result (λ costs. length costs.items ≡ length before.now + 1) }
+    ensures costs { IfOk result (λ costs. AreCosts (cost_of_step V.levels (unit_of track.now.end) track.now)
+        (map N.number costs.items)) }
+    ensures full { OnErr result (vec_capacity room < length before.now + 1) }
+{
+    track.known();
+    let mut costs = room;
+    costs.resize(before.len() + 1, N::of(0))?;
+    next_costs(track, stretches, firsts, before, costs.as_mut_slice());
+    Ok(costs)
 }

@@ -1,12 +1,9 @@
 -- A tile of columns of a table of prices, begun from the breaks before it.
 use Rattle.std.specs.Prelude.{◌≡◌, ℕ, zero, suc, ◌+◌, ◌*◌, ◌/◌, ◌<◌, List, Some, map, length, slice_get, slice_index}
 use Rattle.std.specs.Global.{Vec}
+use Rattle.rbc_costs.specs.Stretches.{AreCosts}
 use Rattle.rbc_costs.specs.declared.sums.Four.{Four}
 use Rattle.rbc_reduce.specs.Rows.{IsCheapest, price_up_to, row_in}
-
--- what one step costs from each break before that of a number up to there
-abbrev pub AreCosts : (ℕ → ℕ → ℕ) → List ℕ → Type 0
-AreCosts cost costs = (i : ℕ) → i < length costs → slice_index costs i ≡ cost i (length costs)
 
 -- the columns have what one step costs up to the break of a number, and up to each one behind
 pub record AreCostsFrom {N : Type 0} (number : N → ℕ) (cost : ℕ → ℕ → ℕ) (known : ℕ) (columns : List (Vec N)) : Type 0 where

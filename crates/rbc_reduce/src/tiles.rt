@@ -6,13 +6,13 @@ ghost use Rattle.std.specs.Prelude.{◌≡◌, ℕ, ◌+◌, ◌*◌, ◌<◌, �
 ghost use Rattle.std.specs.Global.{Vec};
 ghost use Rattle.rbc_model.specs.Scales.{unit_of};
 ghost use Rattle.rbc_table_laws.specs.Stretches.{cost_of_step};
-ghost use Rattle.rbc_costs.specs.Stretches.{AreLowFrom, AreStretches};
+ghost use Rattle.rbc_costs.specs.Stretches.{AreCosts, AreLowFrom, AreStretches};
 ghost use Rattle.rbc_reduce.specs.Rows.{AreFilled, IsCheapest, IsColumnMore, price_up_to, row_in};
-ghost use Rattle.rbc_reduce.specs.Tiles.{AreCosts, AreCostsFrom, AreGroups, IsGroup, nth_of};
+ghost use Rattle.rbc_reduce.specs.Tiles.{AreCostsFrom, AreGroups, IsGroup, nth_of};
 
 use crate::table::add_price;
 use rayon::prelude::*;
-use rbc_costs::{Four, Stretch, Total, cheapest_four, cheapest_from, low_from, next_costs};
+use rbc_costs::{Four, Stretch, Total, cheapest_four, cheapest_from, costs_behind, firsts_of};
 use rbc_model::Memory;
 use rbc_steps::{Level, Runs};
 use std::alloc::Global;
@@ -28,60 +28,53 @@ const WIDE: usize = 1_024;
 const TILE: usize = 256;
 
 /// Fewer groups of four columns are not worth a thread.
-const FEWEST_GROUPS: usize = 8;
+const FEWEST_GROUPS: usize = 16;
 
-/// What one step costs up to the break behind that up to which `before` has it.
-fn costs_behind<V: Level, N: Total>(
+/// As many rooms for costs: those that were used before, and new ones with room for `width` of them.
+fn rooms_for<N: Total>(
     alloc: Global,
-    track: &Runs<V>,
-    stretches: &[(Stretch, V)],
-    firsts: &[usize],
-    before: &[N],
-) -> Result<Vec<N>, Memory>
-    requires stretches { AreStretches V.levels (unit_of track.now.end) track.now stretches.now }
-    requires inside { length before.now < length stretches.now }
-    requires room { length stretches.now ≤ length firsts.now }
-    requires firsts { AreLowFrom V.levels (unit_of track.now.end) track.now stretches.now (length stretches.now)
-        (slice_index firsts.now) }
-    requires before { AreCosts (cost_of_step V.levels (unit_of track.now.end) track.now) (map N.number before.now) }
-    requires small { (i to : ℕ) → i < to → to ≤ length stretches.now
-        → cost_of_step V.levels (unit_of track.now.end) track.now i to ≤ N.most }
-    ensures count { IfOk result (λ costs. length costs.items ≡ length before.now + 1) }
-    ensures costs { IfOk result (λ costs. AreCosts (cost_of_step V.levels (unit_of track.now.end) track.now)
-        (map N.number costs.items)) }
+    used: Vec<Vec<N>>,
+    count: usize,
+    width: usize,
+) -> Result<Vec<Vec<N>>, Memory>
+    ensures { IfOk result (λ rooms. length rooms.items ≡ count) }
 {
-    track.known();
-    let mut costs = vec![in alloc; N::of(0); before.len() + 1]?;
-    next_costs(track, stretches, firsts, before, costs.as_mut_slice());
-    Ok(costs)
+    let mut rooms = used;
+    rooms.truncate(count);
+    for _room in rooms.len()..count {
+        rooms.push(Vec::with_capacity(alloc, width)?)?;
+    }
+    Ok(rooms)
 }
 
-/// What one step costs, column by column: up to the break up to which `before` has it, and to each of `count` behind.
+/// What one step costs, column by column: up to the break up to which `before` has it, and to the breaks behind, of which
+/// each has its room in `rooms`.
 fn costs_from<V: Level, N: Total>(
     alloc: Global,
     track: &Runs<V>,
     stretches: &[(Stretch, V)],
     firsts: &[usize],
     before: Vec<N>,
-    count: usize,
+    rooms: Vec<Vec<N>>,
 ) -> Result<Vec<Vec<N>>, Memory>
     requires stretches { AreStretches V.levels (unit_of track.now.end) track.now stretches.now }
-    requires inside { length before.items + count ≤ length stretches.now }
+    requires inside { length before.items + length rooms.items ≤ length stretches.now }
     requires room { length stretches.now ≤ length firsts.now }
     requires firsts { AreLowFrom V.levels (unit_of track.now.end) track.now stretches.now (length stretches.now)
         (slice_index firsts.now) }
     requires before { AreCosts (cost_of_step V.levels (unit_of track.now.end) track.now) (map N.number before.items) }
     requires small { (i to : ℕ) → i < to → to ≤ length stretches.now
         → cost_of_step V.levels (unit_of track.now.end) track.now i to ≤ N.most }
-    ensures count { IfOk result (λ columns. length columns.items ≡ count + 1) }
+    ensures count { IfOk result (λ columns. length columns.items ≡ length rooms.items + 1) }
     ensures costs { IfOk result (λ columns. AreCostsFrom N.number
         (cost_of_step V.levels (unit_of track.now.end) track.now) (length before.items) columns.items) }
 {
     track.known();
-    let mut columns = Vec::with_capacity(alloc, count + 1)?;
+    let mut columns = Vec::with_capacity(alloc, rooms.len() + 1)?;
     columns.push(before)?;
-    for last in 0..count {
-        let next = costs_behind(alloc, track, stretches, firsts, columns[last].as_slice())?;
+    for room in rooms {
+        let last = columns[columns.len() - 1].as_slice();
+        let next = costs_behind(track, stretches, firsts, last, room)?;
         columns.push(next)?;
     }
     Ok(columns)
@@ -293,20 +286,22 @@ pub(crate) fn fill_in_tiles<V: Level, N: Total>(
         (length rows.old.items) (row_in N.number rows.new.items) (length stretches.now)) }
 {
     track.known();
-    let mut firsts = vec![in alloc; 0; stretches.len()]?;
-    low_from(track, stretches, firsts.as_mut_slice());
+    let firsts = firsts_of(alloc, track, stretches)?;
     let tile = tile_of(stretches.len());
+    let mut used = Vec::new(alloc);
     let mut before = Vec::new(alloc);
     while before.len() < stretches.len() {
         let known = before.len();
         let count = tile.min(stretches.len() - known);
-        let mut columns = costs_from(alloc, track, stretches, &firsts, before, count)?;
+        let rooms = rooms_for(alloc, used, count, stretches.len())?;
+        let mut columns = costs_from(alloc, track, stretches, &firsts, before, rooms)?;
         let groups = begin_all(rt, alloc, rows.as_slice(), &columns)?;
         fill_tile(track, rows, known, &columns, &groups)?;
         before = match columns.pop() {
             Some(last) => last,
             None => unreachable!(),
         };
+        used = columns;
     }
     Ok(())
 }

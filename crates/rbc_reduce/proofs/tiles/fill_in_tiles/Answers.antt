@@ -34,6 +34,7 @@ begin_all-requires-clause-small_costs g c κs within = λ q i column there.
     let here = subst (λ xs. slice_get xs q ≡ Some column) c.deref-in-loop-alloc.ensures.value there in
     let inside = some_inside c.in_ok-columns.columns.items q column here in
     let count = c.in_ok-columns.ensures.count in
+    let rooms = c.in_ok-rooms.ensures in
     let width = c.in_ok-columns.ensures.costs.width q column here in
     let long = length-map column.items number in
     let most = min_second c.tile_of-tile.result (length c.args.stretches.now - c.len-known.result) in
@@ -45,6 +46,7 @@ begin_all-requires-clause-small_costs g c κs within = λ q i column there.
 pub fill_tile-requires-clause-small : goal.fill_tile-requires-clause-small
 fill_tile-requires-clause-small g c κs within = λ i to h inside.
     let count = c.in_ok-columns.ensures.count in
+    let rooms = c.in_ok-rooms.ensures in
     let same = ap length c.deref-in-loop-alloc-2.ensures.value in
     let most = min_second c.tile_of-tile.result (length c.args.stretches.now - c.len-known.result) in
     c.requires.small i to h (omega (arith, c.min-count.ensures, c.len-known.ensures, c.loop-alloc.invariant.inside))
@@ -52,6 +54,7 @@ fill_tile-requires-clause-small g c κs within = λ i to h inside.
 pub loop-alloc-smaller : goal.loop-alloc-smaller
 loop-alloc-smaller g c =
     let count = c.in_ok-columns.ensures.count in
+    let rooms = c.in_ok-rooms.ensures in
     let value = c.pop.ensures.value c.in-Some.last (omega arith) in
     let same : c.in-Some.last ≡ get_or c.in_ok-columns.columns.items c.min-count.result c.in-Some.last =
     some_is _ _ (sym c.in-Some.is ∙ value ∙ ap (λ n. Some (get_or c.in_ok-columns.columns.items n c.in-Some.last)) (omega arith)) in
@@ -65,6 +68,7 @@ loop-alloc-preserved g c =
     let i = c.loop-alloc.invariant in
     let inside = i.inside in
     let count = c.in_ok-columns.ensures.count in
+    let rooms = c.in_ok-rooms.ensures in
     let value = c.pop.ensures.value c.in-Some.last (omega arith) in
     let same : c.in-Some.last ≡ get_or c.in_ok-columns.columns.items c.min-count.result c.in-Some.last =
     some_is _ _ (sym c.in-Some.is ∙ value ∙ ap (λ n. Some (get_or c.in_ok-columns.columns.items n c.in-Some.last)) (omega arith)) in

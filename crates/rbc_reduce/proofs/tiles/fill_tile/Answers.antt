@@ -6,7 +6,8 @@ use Rattle.rbc_model.specs.Scales.{unit_of}
 use Rattle.rbc_table_laws.specs.Stretches.{cost_of_step}
 use Rattle.rbc_costs.proofs.TotalLemmas.{none_behind, small_totals}
 use Rattle.rbc_reduce.specs.Rows.{AreFilled, IsCheapest, IsColumnMore, price_up_to, row_in}
-use Rattle.rbc_reduce.specs.Tiles.{AreCosts, nth_of}
+use Rattle.rbc_costs.specs.Stretches.{AreCosts}
+use Rattle.rbc_reduce.specs.Tiles.{nth_of}
 use Rattle.rbc_reduce.proofs.RowLemmas.{filled_more, same_cheapest, same_up, small_prices}
 use Rattle.rbc_reduce.proofs.TileLemmas.{some_inside}
 use Rattle.rbc_reduce.proofs.tiles.fill_tile.Given.{Over}
