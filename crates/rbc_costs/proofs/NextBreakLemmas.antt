@@ -8,7 +8,7 @@ use Rattle.rbc_model.specs.Profiles.{StepFunction, IsTrackFunction}
 use Rattle.rbc_model.proofs.ScanLemmas.{at_or_past}
 use Rattle.rbc_table_laws.specs.Breaks.{IsLowest, IsBelowAll, lost_below}
 use Rattle.rbc_table_laws.specs.Stretches.{breaks_for, cost_of_step}
-use Rattle.rbc_table_laws.proofs.StretchLemmas.{least_range, floor_range, floor_under, below_part, lower_lowest_back, least_same, least_before, cost_is, lost_is, in_range_at, breaks_rise_to, breaks_to_end}
+use Rattle.rbc_table_laws.proofs.StretchLemmas.{least_range, floor_range, floor_under, below_part, lower_lowest_back, least_before, cost_is, lost_is, breaks_rise_to, breaks_to_end}
 use Rattle.rbc_stretches.specs.OnTracks.{IsStretch}
 use Rattle.rbc_stretches.specs.declared.stretch.Stretch.{Stretch}
 use Rattle.rbc_costs.specs.Stretches.{AreStretches, IsLostByFloor}
@@ -26,15 +26,6 @@ module _ {V : Type 0} (levels : Levels V) (lawful : IsLawful levels) (track : St
   pub lower_in_front : (from mid to : ℕ) (here least now : V) → to ≤ track.end → IsLowest levels track from mid here → IsLowest levels track mid to least
       → now ≡ (if levels.at_most least here then least else here) → IsLowest levels track from to now
   lower_in_front from mid to here least now end first second is = rw is (lower_lowest_back levels lawful track function from mid to here least end first second)
-
-  -- where the last value is no higher than all of them, it was so before the stretch in front came in
-  pub flat_before : (from behind to : ℕ) (now least new : V) → to ≤ track.end → IsLowest levels track from to now → IsLowest levels track behind to least → from ≤ behind
-      → IsInRange levels new → levels.at_most new now ≡ true → levels.at_most new least ≡ true
-  flat_before from behind to now least new end l b h range e =
-      let low = b.low in
-      let high = b.high in
-      lawful.ordered.transitive new now least range (least_range levels lawful track function from to now end l) (in_range_at levels lawful track function b.place least (omega arith) b.there) e
-      (l.below b.place least (omega arith) high b.there)
 
 -- ---- stretches by index
 
@@ -66,13 +57,6 @@ module _ {V : Type 0} (levels : Levels V) (unit : ℕ) (track : StepFunction V) 
     pub cost_of_floor : (i to : ℕ) → to ≤ length stretches → (least : V) (price : ℕ) → IsLowest levels track (at i) (at to) least
         → IsLostByFloor levels track (at i) (at to) least price → price ≡ cost_of_step levels unit track i to
     cost_of_floor i to inside least price l by = cost_is levels lawful track function (at i) (at to) least (near to inside) l price by.lost
-
-    -- where the last value is no higher than all of them it is the least
-    pub flat_lowest : (i last to : ℕ) → i ≤ last → last ≤ to → to ≤ length stretches → (now new : V) → IsLowest levels track (at i) (at to) now → IsLowest levels track (at last) (at to) new
-        → levels.at_most new now ≡ true → IsLowest levels track (at i) (at to) new
-    flat_lowest i last to h k inside now new l n e =
-        let same = least_same levels lawful track function (at i) (at last) (at to) now new (near to inside) (rises i last h (omega arith)) l n e in
-        subst (λ v. IsLowest levels track (at i) (at to) v) same l
 
     -- its floor may be given on each stretch
     pub flat_given : (i to : ℕ) (s : Stretch × V) → slice_get stretches i ≡ Some s → i + 1 ≤ to → to ≤ length stretches → (new given : V) → IsLowest levels track (at i) (at to) new → given ≡ levels.floor new

@@ -1,5 +1,5 @@
 //! What one step costs from a break up to another.
-ghost use Rattle.std.specs.Prelude.{◌≡◌, ℕ, ◌+◌, ◌-◌, ◌*◌, ◌<◌, ◌≤◌, map, length, slice_index};
+ghost use Rattle.std.specs.Prelude.{◌≡◌, ℕ, ◌+◌, ◌-◌, ◌*◌, ◌<◌, ◌≤◌, length, slice_index};
 ghost use Rattle.rbc_model.specs.Scales.{unit_of};
 ghost use Rattle.rbc_model.specs.declared.limits.TheConstants.{MOST_PRICE};
 ghost use Rattle.rbc_table_laws.specs.Breaks.{IsLowest};
@@ -7,7 +7,6 @@ ghost use Rattle.rbc_table_laws.specs.Stretches.{breaks_for, cost_of_step};
 ghost use Rattle.rbc_stretches.specs.OnTracks.{IsOnTrack, IsStretch};
 ghost use Rattle.rbc_costs.specs.Stretches.{AreStretches, IsLostByFloor};
 
-use crate::total::{Total, write_totals};
 use rbc_steps::{Level, Runs};
 use rbc_stretches::{Stretch, is_at_most, price_on};
 
@@ -28,30 +27,6 @@ pub fn least_of<V: Level>(track: &Runs<V>, stretches: &[(Stretch, V)], from: usi
         }
     }
     least
-}
-
-/// The least value where one stretch more stands in front, and what its floor loses on the stretch `last`; `least` and
-/// `lost` are both from the stretch behind on.
-fn lowered<V: Level>(
-    track: &Runs<V>,
-    last: Stretch,
-    least: V,
-    lost: u64,
-    front: (Stretch, V),
-) -> (V, u64)
-    requires last { IsOnTrack track.now last }
-    requires before { front.0.to ≤ last.from }
-    requires front { IsLowest V.levels track.now front.0.from front.0.to front.1 }
-    requires least { IsLowest V.levels track.now front.0.to last.to least }
-    requires lost { IsLostByFloor V.levels track.now last.from last.to least lost }
-    ensures least { IsLowest V.levels track.now front.0.from last.to result.0 }
-    ensures lost { IsLostByFloor V.levels track.now last.from last.to result.0 result.1 }
-{
-    track.known();
-    if is_at_most(least, front.1) {
-        return (least, lost);
-    }
-    (front.1, price_on(track, last, front.1.floor()))
 }
 
 /// The least value where one stretch more stands in front, and what its floor loses up to `end`; `least` and `lost` are
@@ -135,72 +110,4 @@ pub fn costs_to<V: Level>(track: &Runs<V>, stretches: &[(Stretch, V)], to: usize
         lost = lowest.1;
         costs[i] = lost;
     }
-}
-
-/// Goes on to the next break: where `costs` has what one step costs up to the break before `to`, writes what one costs
-/// up to `to`. As far back as no stretch is lower than the last one the step has that one's floor; before, the least
-/// value stays as it was, and the step costs what it cost and what its floor loses on the last stretch.
-fn costs_on<V: Level>(track: &Runs<V>, stretches: &[(Stretch, V)], to: usize, costs: &mut [u64])
-    requires stretches { AreStretches V.levels (unit_of track.now.end) track.now stretches.now }
-    requires some { 0 < to }
-    requires inside { to ≤ length stretches.now }
-    requires room { to ≤ length costs.old }
-    requires costs { (i : ℕ) → i < to - 1
-        → slice_index costs.old i ≡ cost_of_step V.levels (unit_of track.now.end) track.now i (to - 1) }
-    requires bound { (i : ℕ) → i < to - 1
-        → slice_index costs.old i ≤ slice_index (breaks_for (unit_of track.now.end) track.now) (to - 1) * MOST_PRICE }
-    ensures costs { (i : ℕ) → i < to
-        → slice_index costs.new i ≡ cost_of_step V.levels (unit_of track.now.end) track.now i to }
-    ensures bound { (i : ℕ) → i < to
-        → slice_index costs.new i ≤ slice_index (breaks_for (unit_of track.now.end) track.now) to * MOST_PRICE }
-{
-    track.known();
-    let Last {
-        stretch: last,
-        least: new,
-        lost: mut price,
-    } = last_before(track, stretches, to);
-    let mut least = new;
-    let mut lost = price;
-    costs[to - 1] = price;
-    for i in (0..to - 1).rev() {
-        let lowest = lowered(track, last, least, lost, stretches[i]);
-        least = lowest.0;
-        lost = lowest.1;
-        if is_at_most(new, least) {
-            price += price_on(track, stretches[i].0, new.floor());
-            costs[i] = price;
-        } else {
-            costs[i] += lost;
-        }
-    }
-}
-
-/// The same, and writes these costs as totals.
-pub fn totals_on<V: Level, N: Total>(
-    track: &Runs<V>,
-    stretches: &[(Stretch, V)],
-    to: usize,
-    costs: &mut [u64],
-    totals: &mut [N],
-)
-    requires stretches { AreStretches V.levels (unit_of track.now.end) track.now stretches.now }
-    requires some { 0 < to }
-    requires inside { to ≤ length stretches.now }
-    requires room { to ≤ length costs.old }
-    requires room_of_totals { to ≤ length totals.old }
-    requires costs { (i : ℕ) → i < to - 1
-        → slice_index costs.old i ≡ cost_of_step V.levels (unit_of track.now.end) track.now i (to - 1) }
-    requires bound { (i : ℕ) → i < to - 1
-        → slice_index costs.old i ≤ slice_index (breaks_for (unit_of track.now.end) track.now) (to - 1) * MOST_PRICE }
-    requires small { (i : ℕ) → i < to → cost_of_step V.levels (unit_of track.now.end) track.now i to ≤ N.most }
-    ensures costs { (i : ℕ) → i < to
-        → slice_index costs.new i ≡ cost_of_step V.levels (unit_of track.now.end) track.now i to }
-    ensures bound { (i : ℕ) → i < to
-        → slice_index costs.new i ≤ slice_index (breaks_for (unit_of track.now.end) track.now) to * MOST_PRICE }
-    ensures totals { (i : ℕ) → i < to
-        → slice_index (map N.number totals.new) i ≡ cost_of_step V.levels (unit_of track.now.end) track.now i to }
-{
-    costs_on(track, stretches, to, costs);
-    write_totals(&costs[..to], totals);
 }

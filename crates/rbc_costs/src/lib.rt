@@ -13,7 +13,7 @@ mod sums;
 mod table;
 mod total;
 
-pub use costs::{costs_to, further, least_of, totals_on};
+pub use costs::{costs_to, further, least_of};
 pub use next::{costs_behind, firsts_of, low_from, next_costs};
 pub use priced::Priced;
 pub use rbc_model::Memory;

@@ -1,5 +1,5 @@
 //! Numbers that totals are kept in.
-ghost use Rattle.std.specs.Prelude.{◌≡◌, ℕ, ◌+◌, ◌<◌, ◌≤◌, nat_le, map, min, length, slice_index};
+ghost use Rattle.std.specs.Prelude.{◌≡◌, ℕ, ◌+◌, ◌≤◌, nat_le, min};
 ghost use Rattle.rbc_model.specs.declared.limits.TheConstants.{MOST_LOSS};
 
 use rbc_model::limits::MOST_LOSS;
@@ -86,16 +86,5 @@ impl Total for u64 {
 
     fn wide(self) -> u64 {
         self
-    }
-}
-
-/// Writes costs as totals.
-pub(crate) fn write_totals<N: Total>(costs: &[u64], totals: &mut [N])
-    requires room { length costs.now ≤ length totals.old }
-    requires small { (i : ℕ) → i < length costs.now → slice_index costs.now i ≤ N.most }
-    ensures { (i : ℕ) → i < length costs.now → slice_index (map N.number totals.new) i ≡ slice_index costs.now i }
-{
-    for i in 0..costs.len() {
-        totals[i] = N::of(costs[i]);
     }
 }

@@ -11,7 +11,7 @@ ghost use Rattle.rbc_price.specs.Columns.{stretches_of};
 ghost use Rattle.rbc_price.specs.Places.{IsFirst};
 ghost use Rattle.rbc_price.specs.Totals.{AreTotals, IsSoundColumn};
 
-use rbc_costs::{Priced, Total, cheapest, stretches_of, totals_on};
+use rbc_costs::{Priced, Total, cheapest, costs_behind, firsts_of, stretches_of};
 use rbc_model::Memory;
 use rbc_steps::{Level, Runs};
 use std::alloc::Global;
@@ -90,20 +90,16 @@ fn is_sound_in<V: Level, N: Total>(
         return Ok(false);
     };
     let stretches = stretches_of(alloc, track)?;
-    let breaks = stretches.len();
-    let mut costs = vec![in alloc; 0; breaks]?;
-    let mut totals = vec![in alloc; N::of(0); breaks]?;
-    for last in 0..breaks {
-        totals_on(
-            track,
-            &stretches,
-            last + 1,
-            costs.as_mut_slice(),
-            totals.as_mut_slice(),
-        );
-        if !is_sound_column(&table, &totals[..last + 1]) {
+    let firsts = firsts_of(alloc, track, &stretches)?;
+    let mut room = Vec::with_capacity(alloc, stretches.len())?;
+    let mut before = Vec::with_capacity(alloc, stretches.len())?;
+    for _column in 0..stretches.len() {
+        let costs = costs_behind(track, &stretches, &firsts, &before, room)?;
+        if !is_sound_column(&table, &costs) {
             return Ok(false);
         }
+        room = before;
+        before = costs;
     }
     Ok(true)
 }

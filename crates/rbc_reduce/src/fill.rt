@@ -1,16 +1,16 @@
 //! The table of prices of a track.
-ghost use Rattle.std.specs.Prelude.{◌≡◌, ℕ, ◌<◌, ◌≤◌, [], map, min, IfOk, OnOk, length, slice_index};
+ghost use Rattle.std.specs.Prelude.{◌≡◌, ℕ, ◌+◌, ◌-◌, ◌<◌, ◌≤◌, [], map, min, IfOk, OnOk, length, slice_index};
 ghost use Rattle.rbc_model.specs.declared.limits.TheConstants.{MOST_LOSS};
 ghost use Rattle.rbc_model.specs.PriceTables.{IsGreatestSoundTable};
 ghost use Rattle.rbc_model.specs.Scales.{unit_of};
 ghost use Rattle.rbc_table_laws.specs.PriceRows.{prices_of, AreWide};
 ghost use Rattle.rbc_table_laws.specs.Stretches.{cost_of_step};
 ghost use Rattle.rbc_reduce.specs.Rows.{AreFilled, AreSmall, price_in, row_at, row_in};
-ghost use Rattle.rbc_costs.specs.Stretches.{AreStretches};
+ghost use Rattle.rbc_costs.specs.Stretches.{AreLowFrom, AreStretches};
 
 use crate::table::{add_column, empty_rows};
 use crate::tiles::fill_in_tiles;
-use rbc_costs::{Priced, Stretch, Total, totals_on};
+use rbc_costs::{Priced, Stretch, Total, low_from, next_costs};
 use rbc_model::Memory;
 use rbc_steps::{Level, Runs};
 use std::alloc::Global;
@@ -39,29 +39,59 @@ fn widened<N: Total>(alloc: Global, rows: &[Vec<N>]) -> Result<Vec<Vec<u64>>, Me
     Ok(wide)
 }
 
-/// Fills rows, which are empty, with the prices up to each break but the first.
-fn fill_rows<V: Level, N: Total>(
+/// What one step costs from each break before that of the number `to` up to there, kept in place, where `before` has it up
+/// to the break before that one.
+fn costs_in_place<V: Level>(
     track: &Runs<V>,
     stretches: &[(Stretch, V)],
-    rows: &mut Vec<Vec<N>>,
-    costs: &mut [u64],
-    totals: &mut [N],
+    firsts: &[usize],
+    before: &[u64],
+    to: usize,
+) -> [u64; FEW]
+    requires stretches { AreStretches V.levels (unit_of track.now.end) track.now stretches.now }
+    requires few { length stretches.now ≤ 16 }
+    requires some { 0 < to }
+    requires inside { to ≤ length stretches.now }
+    requires room { length stretches.now ≤ length firsts.now }
+    requires room_before { to ≤ length before.now + 1 }
+    requires firsts { AreLowFrom V.levels (unit_of track.now.end) track.now stretches.now (length stretches.now)
+        (slice_index firsts.now) }
+    requires before { (i : ℕ) → i < to - 1
+        → slice_index before.now i ≡ cost_of_step V.levels (unit_of track.now.end) track.now i (to - 1) }
+    requires small { (i to : ℕ) → i < to → to ≤ length stretches.now
+        → cost_of_step V.levels (unit_of track.now.end) track.now i to ≤ MOST_LOSS }
+    ensures { (i : ℕ) → i < to
+        → slice_index result i ≡ cost_of_step V.levels (unit_of track.now.end) track.now i to }
+{
+    let mut costs = [0; FEW];
+    next_costs(track, stretches, firsts, before, &mut costs[..to]);
+    costs
+}
+
+/// Fills rows, which are empty, with the prices up to each break but the first, break by break: what one step costs takes
+/// no memory.
+fn fill_rows<V: Level>(
+    track: &Runs<V>,
+    stretches: &[(Stretch, V)],
+    rows: &mut Vec<Vec<u64>>,
 ) -> Result<(), Memory>
     requires stretches { AreStretches V.levels (unit_of track.now.end) track.now stretches.now }
+    requires few { length stretches.now ≤ 16 }
     requires some { 0 < length rows.old.items }
-    requires empty { (j : ℕ) → row_in N.number rows.old.items j ≡ [] }
-    requires room { length stretches.now ≤ length costs.old }
-    requires room_of_totals { length stretches.now ≤ length totals.old }
+    requires empty { (j : ℕ) → row_in (λ n. n) rows.old.items j ≡ [] }
     requires small { (i to : ℕ) → i < to → to ≤ length stretches.now
-        → cost_of_step V.levels (unit_of track.now.end) track.now i to ≤ N.most }
+        → cost_of_step V.levels (unit_of track.now.end) track.now i to ≤ MOST_LOSS }
     ensures size { length rows.new.items ≡ length rows.old.items }
     ensures filled { OnOk result (AreFilled (cost_of_step V.levels (unit_of track.now.end) track.now)
-        (length rows.old.items) (row_in N.number rows.new.items) (length stretches.now)) }
+        (length rows.old.items) (row_in (λ n. n) rows.new.items) (length stretches.now)) }
 {
     track.known();
+    let mut firsts = [0; FEW];
+    low_from(track, stretches, &mut firsts);
+    let mut costs = [0; FEW];
     for last in 0..stretches.len() {
-        totals_on(track, stretches, last + 1, costs, totals);
-        add_column(rows, &totals[..last + 1])?;
+        costs = costs_in_place(track, stretches, &firsts, &costs, last + 1);
+        add_column(rows, &costs[..last + 1])?;
     }
     Ok(())
 }
@@ -87,7 +117,7 @@ fn filled<V: Level, N: Total>(
     Ok(rows)
 }
 
-/// The same of few stretches, break by break: what one step costs takes no memory.
+/// The same of few stretches.
 fn filled_of_few<V: Level>(
     alloc: Global,
     track: &Runs<V>,
@@ -103,10 +133,8 @@ fn filled_of_few<V: Level>(
     ensures filled { IfOk result (λ rows. AreFilled (cost_of_step V.levels (unit_of track.now.end) track.now) count
         (row_in (λ n. n) rows.items) (length stretches.now)) }
 {
-    let mut costs = [0; FEW];
-    let mut totals = [0; FEW];
     let mut rows = empty_rows(alloc, count, stretches.len())?;
-    fill_rows(track, stretches, &mut rows, &mut costs, &mut totals)?;
+    fill_rows(track, stretches, &mut rows)?;
     Ok(rows)
 }
 
