@@ -8,7 +8,7 @@ use Rattle.rbc_model.specs.Profiles.{StepFunction, IsTrackFunction}
 use Rattle.rbc_model.proofs.ScanLemmas.{at_or_past}
 use Rattle.rbc_table_laws.specs.Breaks.{IsLowest, IsBelowAll, lost_below}
 use Rattle.rbc_table_laws.specs.Stretches.{breaks_for, cost_of_step}
-use Rattle.rbc_table_laws.proofs.StretchLemmas.{least_range, floor_range, floor_under, below_part, lower_lowest_back, least_before, cost_is, lost_is, breaks_rise_to, breaks_to_end}
+use Rattle.rbc_table_laws.proofs.StretchLemmas.{floor_range, floor_under, below_part, lower_lowest_back, least_before, cost_is, lost_is, breaks_rise_to, breaks_to_end}
 use Rattle.rbc_stretches.specs.OnTracks.{IsStretch}
 use Rattle.rbc_stretches.specs.declared.stretch.Stretch.{Stretch}
 use Rattle.rbc_costs.specs.Stretches.{AreStretches, IsLostByFloor}

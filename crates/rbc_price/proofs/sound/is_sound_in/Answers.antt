@@ -1,4 +1,4 @@
-use Rattle.std.proofs.Common.{arith, ◌≡◌, refl, ℕ, ◌+◌, ◌-◌, ◌<◌, ◌≤◌, inl, inr, ap, sym, ◌∙◌, length, get_or, map, subst}
+use Rattle.std.proofs.Common.{arith, ◌≡◌, refl, ℕ, ◌+◌, ◌<◌, inl, inr, ap, sym, ◌∙◌, length, get_or, map, subst}
 use Rattle.std.proofs.lemmas.List.{length-map}
 use Rattle.rbc_model.specs.Scales.{unit_of}
 use Rattle.rbc_table_laws.specs.PriceRows.{prices_of}
