@@ -1,12 +1,12 @@
 -- The exit statuses of the program.
-use Rattle.std.specs.Prelude.{ℕ}
+use Rattle.std.specs.Prelude.{ℕ, Bool, true, false, Result, Ok, Err}
 use Rattle.clap.specs.Values.{kind_of}
 use Rattle.clap.specs.declared.error.kind.ErrorKind.{ErrorKind}
 use Rattle.clap.specs.declared.error.kind.ErrorKind.TheVariants.{DisplayHelp, DisplayVersion}
 use Rattle.rbc_model.specs.declared.sessions.SessionFault.{SessionFault}
-use Rattle.rbc_model.specs.declared.sessions.SessionFault.TheVariants.{Memory}
+use Rattle.rbc_model.specs.declared.sessions.SessionFault.TheVariants.{Memory, Write}
 use Rattle.rbc_pages.specs.ServeFault.{ServeFault}
-use Rattle.rbc_pages.specs.ServeFault.TheVariants.{Memory as NoServeMemory, Close}
+use Rattle.rbc_pages.specs.ServeFault.TheVariants.{Memory as NoServeMemory, Close, Write as ServeWrite}
 use Rattle.rbc.specs.declared.journal.JournalFault.{JournalFault}
 use Rattle.rbc.specs.declared.journal.JournalFault.TheVariants.{Foreign}
 use Rattle.rbc_trackfile.specs.declared.loading.LoadFault.{LoadFault}
@@ -53,3 +53,9 @@ status_of History = 4
 status_of (Journal fault) = status_of_journal fault
 status_of (Serve fault) = status_of_serve fault
 status_of NoMemory = 5
+
+-- whether a command ended since the standard output could not be written
+abbrev pub is_output_fault : Result (Unit {0}) Failure → Bool
+is_output_fault (Err (Session Write)) = true
+is_output_fault (Err (Serve ServeWrite)) = true
+is_output_fault _ = false

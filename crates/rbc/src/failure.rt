@@ -1,6 +1,6 @@
 //! How the program ends where it could not do all that it was asked for.
 
-ghost use Rattle.std.specs.Prelude.{◌≡◌};
+ghost use Rattle.std.specs.Prelude.{◌≡◌, ◌≢◌};
 ghost use Rattle.rbc.specs.Statuses.{status_of};
 
 use crate::journal::JournalFault;
@@ -82,9 +82,24 @@ impl Failure {
         }
     }
 
-    /// Prints what went wrong. There is nobody to tell where that can't be printed.
-    pub fn tell(&self, rt: &(impl Print + Eprint)) {
-        let _ = match self {
+    /// Prints what went wrong, or the help that is asked for, and gives what the program ends with: a write fault where help
+    /// can't be printed, unless its reader has gone. There is nobody to tell where a fault can't be printed.
+    pub fn told(self, rt: &(impl Print + Eprint)) -> Failure
+        ensures fault { status_of self ≢ 0 → result ≡ self }
+    {
+        match (self.tell(rt), self.status()) {
+            (Err(error), 0) if error.kind() != io::ErrorKind::BrokenPipe => {
+                let unprinted = Failure::Session(SessionFault::Write);
+                let _ = unprinted.tell(rt);
+                unprinted
+            }
+            _ => self,
+        }
+    }
+
+    /// Prints it.
+    fn tell(&self, rt: &(impl Print + Eprint)) -> io::Result<()> {
+        match self {
             Failure::CommandLine(error) => error.print(rt),
             Failure::NotText => eprintln!(rt;
                 "error: invalid UTF-8 was detected in one or more arguments"
@@ -96,7 +111,7 @@ impl Failure {
             Failure::Serve(fault) => eprintln!(rt; "rbc: {fault}"),
             Failure::NotCertified | Failure::NotRead => Ok(()),
             Failure::Memory => eprintln!(rt; "rbc: out of memory"),
-        };
+        }
     }
 }
 

@@ -6,6 +6,7 @@ ghost use Rattle.rbc_pages.specs.Kept.{IsReady};
 
 use crate::failure::Failure;
 use crate::history::write_history;
+use crate::output::{ended, standard_output};
 use crate::serve::open_port;
 use crate::serve_kept::serve_kept;
 use rbc_command_line::Service;
@@ -15,7 +16,7 @@ use rbc_pages::kept::{self, Device, Kept};
 use rbc_trackfile::Track;
 use std::alloc::Global;
 use std::fs::{File, Files};
-use std::io::{self, Eprint};
+use std::io::Eprint;
 use std::net::{Net, TcpListener, TcpStream};
 use std::sync::{Arc, Wait};
 use std::thread::Threads;
@@ -53,18 +54,14 @@ pub(crate) fn run_kept(
     let alloc = rt.alloc();
     let (bytes, device) = rbc_journal_file::open(rt, journal)?;
     let mut kept = recovered(rt, alloc, empty, bytes.as_slice(), device)?;
-    let ended = kept::run(
-        rt,
-        alloc,
-        &mut Stream::reader(rt.reader()),
-        &mut Stream::writer(alloc, io::writer(rt))?,
-        &mut kept,
-    );
+    let mut output = standard_output(rt)?;
+    let reader = &mut Stream::reader(rt.reader());
+    let answered = kept::run(rt, alloc, reader, &mut output, &mut kept);
     let written = match (history, kept.history()) {
         (Some(path), Some(history)) => write_history(rt, path, history),
         _ => Ok(()),
     };
-    ended?;
+    ended(output, answered.map_err(Failure::from))?;
     written
 }
 
@@ -91,9 +88,12 @@ pub(crate) fn serve_with(
     let empty = Record::new(alloc, track)?;
     let (bytes, device) = rbc_journal_file::open(rt, journal)?;
     let kept = recovered(rt, alloc, empty, bytes.as_slice(), device)?;
-    let mut writer = Stream::writer(alloc, io::writer(rt))?;
-    let port = open_port(rt, service, &mut writer)?;
-    serve_kept(rt, alloc, port, kept, service, &mut writer)
+    let mut output = standard_output(rt)?;
+    let outcome = match open_port(rt, service, &mut output) {
+        Ok(port) => serve_kept(rt, alloc, port, kept, service, &mut output),
+        Err(failure) => Err(failure),
+    };
+    ended(output, outcome)
 }
 
 /// The record that a journal's bytes tell, with its journal: an empty record gains what they tell.

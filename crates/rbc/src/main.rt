@@ -4,13 +4,16 @@
 mod failure;
 mod history;
 mod journal;
+mod output;
 mod serve;
 mod serve_kept;
+mod version;
 
 use failure::Failure;
 use history::write_history;
 pub use journal::JournalFault;
 use journal::{run_kept, serve_with};
+use output::{ended, standard_output};
 pub use rbc_certifier::steps;
 use rbc_command_line::{Centre, Printing, Service, Shown, Task};
 pub use rbc_fields::{Form, Json, Plain, decode};
@@ -29,13 +32,14 @@ use std::process::ExitCode;
 use std::sync::{Arc, Wait};
 use std::thread::Threads;
 use std::time::Clock;
-use std::{env, fs, io};
+use std::{env, fs};
+use version::VERSION;
 
 fn main(rt: HostRuntime) -> ExitCode {
     match run(&rt) {
         Ok(()) => ExitCode::SUCCESS,
         Err(failure) => {
-            failure.tell(&rt);
+            let failure = failure.told(&rt);
             ExitCode::from(failure.status())
         }
     }
@@ -57,7 +61,7 @@ fn run(
 ) -> Result<(), Failure> {
     let alloc = rt.alloc();
     let words: Vec<String> = env::args(rt)?.collect(alloc)?;
-    match rbc_command_line::read(alloc, words.as_slice())? {
+    match rbc_command_line::read(alloc, VERSION, words.as_slice())? {
         Task::Steps => answer_input(rt),
         Task::Check => check_input(rt),
         Task::Decode(Printing::Plain) => decode_input(rt, &Plain),
@@ -71,46 +75,46 @@ fn run(
 
 /// Answers the requests for steps of the standard input.
 fn answer_input(rt: &(impl Input + Print + AllocGlobal + Threads + Sync)) -> Result<(), Failure> {
-    let alloc = rt.alloc();
-    steps(
+    let mut output = standard_output(rt)?;
+    let answered = steps(
         rt,
-        alloc,
+        rt.alloc(),
         &mut Stream::reader(rt.reader()),
-        &mut Stream::writer(alloc, io::writer(rt))?,
-    )?;
-    Ok(())
+        &mut output,
+    );
+    ended(output, answered.map_err(Failure::from))
 }
 
 /// Judges the certificates of the standard input.
 fn check_input(rt: &(impl Input + Print + AllocGlobal + Threads + Sync)) -> Result<(), Failure> {
-    let alloc = rt.alloc();
-    let all_certified = check(
+    let mut output = standard_output(rt)?;
+    let outcome = match check(
         rt,
-        alloc,
+        rt.alloc(),
         &mut Stream::reader(rt.reader()),
-        &mut Stream::writer(alloc, io::writer(rt))?,
-    )?;
-    if all_certified {
-        Ok(())
-    } else {
-        Err(Failure::NotCertified)
-    }
+        &mut output,
+    ) {
+        Ok(true) => Ok(()),
+        Ok(false) => Err(Failure::NotCertified),
+        Err(fault) => Err(Failure::Session(fault)),
+    };
+    ended(output, outcome)
 }
 
 /// Draws the certificates of the standard input.
 fn draw_input(rt: &(impl Input + Print + AllocGlobal + Threads + Sync)) -> Result<(), Failure> {
-    let alloc = rt.alloc();
-    let all_certified = draw(
+    let mut output = standard_output(rt)?;
+    let outcome = match draw(
         rt,
-        alloc,
+        rt.alloc(),
         &mut Stream::reader(rt.reader()),
-        &mut Stream::writer(alloc, io::writer(rt))?,
-    )?;
-    if all_certified {
-        Ok(())
-    } else {
-        Err(Failure::NotCertified)
-    }
+        &mut output,
+    ) {
+        Ok(true) => Ok(()),
+        Ok(false) => Err(Failure::NotCertified),
+        Err(fault) => Err(Failure::Session(fault)),
+    };
+    ended(output, outcome)
 }
 
 /// Prints the messages and packets of the standard input in this form.
@@ -118,19 +122,14 @@ fn decode_input<F: Form>(
     rt: &(impl Input + Print + AllocGlobal + Threads + Sync),
     form: &F,
 ) -> Result<(), Failure> {
-    let alloc = rt.alloc();
-    let all_read = decode(
-        form,
-        rt,
-        alloc,
-        &mut Stream::reader(rt.reader()),
-        &mut Stream::writer(alloc, io::writer(rt))?,
-    )?;
-    if all_read {
-        Ok(())
-    } else {
-        Err(Failure::NotRead)
-    }
+    let mut output = standard_output(rt)?;
+    let reader = &mut Stream::reader(rt.reader());
+    let outcome = match decode(form, rt, rt.alloc(), reader, &mut output) {
+        Ok(true) => Ok(()),
+        Ok(false) => Err(Failure::NotRead),
+        Err(fault) => Err(Failure::Session(fault)),
+    };
+    ended(output, outcome)
 }
 
 /// Runs a centre on the track of a file: it answers the lines of the standard input. However they end, the history that
@@ -145,18 +144,14 @@ fn run_centre(
     if let Some(journal) = centre.journal {
         return run_kept(rt, journal, centre.history, record);
     }
-    let ended = server::run(
-        rt,
-        alloc,
-        &mut Stream::reader(rt.reader()),
-        &mut Stream::writer(alloc, io::writer(rt))?,
-        &mut record,
-    );
+    let mut output = standard_output(rt)?;
+    let reader = &mut Stream::reader(rt.reader());
+    let answered = server::run(rt, alloc, reader, &mut output, &mut record);
     let kept = match centre.history {
         Some(path) => write_history(rt, path, &record),
         None => Ok(()),
     };
-    ended?;
+    ended(output, answered.map_err(Failure::from))?;
     kept
 }
 
@@ -168,15 +163,10 @@ fn show_session(
     let alloc = rt.alloc();
     let track = Arc::new(alloc, read_track(rt, shown.track)?).map_err(Memory::from)?;
     let record = Record::new(alloc, track)?;
-    show(
-        rt,
-        alloc,
-        shown.each,
-        record,
-        &mut Stream::reader(rt.reader()),
-        &mut Stream::writer(alloc, io::writer(rt))?,
-    )?;
-    Ok(())
+    let mut output = standard_output(rt)?;
+    let reader = &mut Stream::reader(rt.reader());
+    let answered = show(rt, alloc, shown.each, record, reader, &mut output);
+    ended(output, answered.map_err(Failure::from))
 }
 
 /// Serves connections on a port, on the track of a file.
@@ -197,9 +187,12 @@ fn serve_centre(
     if let Some(journal) = service.journal {
         return serve_with(rt, journal, track, service);
     }
-    let mut writer = Stream::writer(alloc, io::writer(rt))?;
-    let port = open_port(rt, service, &mut writer)?;
-    serve(rt, alloc, port, track, service, &mut writer)
+    let mut output = standard_output(rt)?;
+    let outcome = match open_port(rt, service, &mut output) {
+        Ok(port) => serve(rt, alloc, port, track, service, &mut output),
+        Err(failure) => Err(failure),
+    };
+    ended(output, outcome)
 }
 
 /// The track of this file.

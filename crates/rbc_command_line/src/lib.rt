@@ -75,8 +75,66 @@ pub struct Service<'a> {
     pub ghost few: { (connections ≤ 8) × (workers ≤ 8) },
 }
 
-/// The requests of a session, as the help shows them.
-const REQUESTS: &str = "\
+/// What stands behind the help of the program.
+const PAGES: &str = "\
+`rbc COMMAND --help` has an example of each command, and its exit statuses.";
+
+/// What stands behind the help of `steps`.
+const STEPS: &str = "\
+Example:
+  printf 'speed 2 0:160 100:120 150:160 end 300\\n' | rbc steps
+
+Exit status:
+  0  Each request was answered
+  4  A read or write fault, a line over 4,096 bytes, or more than 1,000,000 lines
+  5  No memory";
+
+/// What stands behind the help of `check`.
+const CHECK: &str = "\
+Example:
+  rbc steps < requests.txt | rbc check
+
+Exit status:
+  0  Each certificate is accepted
+  1  A certificate is refused
+  4  A read or write fault, a line over 65,536 bytes, or more than 1,000,000 lines
+  5  No memory";
+
+/// What stands behind the help of `decode`.
+const DECODE: &str = "\
+Example:
+  rbc run station.toml < morning.txt | rbc decode
+
+Exit status:
+  0  Each message and packet is read
+  1  One is refused
+  4  A read or write fault, a line over 65,536 bytes, or more than 1,000,000 lines
+  5  No memory";
+
+/// What stands behind the help of `draw`.
+const DRAW: &str = "\
+Example:
+  rbc run station.toml < morning.txt | rbc draw > morning.html
+
+Exit status:
+  0  Each certificate is accepted
+  1  A certificate is refused
+  4  A read or write fault, a line over 65,536 bytes, or more than 1,000,000 lines
+  5  No memory";
+
+/// What stands behind the help of `show`.
+const SHOW: &str = "\
+Example:
+  rbc show station.toml < morning.txt > scene.html
+
+Exit status:
+  0  Each line was answered
+  3  The track file can't be read, or is refused
+  4  A read or write fault, a line over 4,096 bytes, or more than 1,000,000 lines
+  5  No memory";
+
+/// What stands behind the help of `run`.
+const RUN: &str = "\
 Requests, one a line:
   report T C/B D DIST OVER UNDER LEN TIME  Train T reports its front DIST m past group C/B,
                                            up to OVER m less or UNDER m more; D is nominal or reverse
@@ -84,13 +142,46 @@ Requests, one a line:
   free S                                   Section S is freed
   leave T                                  Train T leaves
   yield T END                              Train T gives back its authority from END m past its group on
-  ask T                                    Train T asks for an authority";
+  ask T                                    Train T asks for an authority
 
-/// Reads the command line, whose first word is the program's name. A line that asks for help is an error whose exit
-/// code is 0.
-pub fn read<'a>(alloc: Global, words: &'a [String]) -> Result<Task<'a>, Error> {
+Example:
+  rbc run station.toml --journal day.journal < morning.txt
+
+Exit status:
+  0  Each line was answered
+  3  The track file can't be read, or is refused; or the journal is not one of this track
+  4  A read or write fault, a line over 4,096 bytes, or more than 1,000,000 lines; or the journal, or the file of the
+     history, can't be had or fails
+  5  No memory";
+
+/// What stands behind the help of `serve`.
+const SERVE: &str = "\
+Requests, one a line:
+  report T C/B D DIST OVER UNDER LEN TIME  Train T reports its front DIST m past group C/B,
+                                           up to OVER m less or UNDER m more; D is nominal or reverse
+  lock R                                   Route R is locked
+  free S                                   Section S is freed
+  leave T                                  Train T leaves
+  yield T END                              Train T gives back its authority from END m past its group on
+  ask T                                    Train T asks for an authority
+
+Example:
+  rbc serve station.toml --port 7001 --connections 2 --workers 2 --patience 60 --journal day.journal
+
+Exit status:
+  0  All connections have ended, and each train was served once more
+  3  The track file can't be read, or is refused; or the journal is not one of this track
+  4  The port can't be opened, or accepts no connection; a write fault; or the journal can't be had or fails
+  5  No memory, or no thread for a connection
+  6  The receipts of the connections and the sweep are not the history";
+
+/// Reads the command line, whose first word is the program's name. A line that asks for help, or for the version, is an
+/// error whose exit code is 0.
+pub fn read<'a>(alloc: Global, version: &'a str, words: &'a [String]) -> Result<Task<'a>, Error> {
     let command = Command::new(alloc, "rbc")
         .about("The deciding part of an ETCS Level 2 radio block centre")
+        .version(version)
+        .after_help(PAGES)
         .subcommand_required(true)
         .subcommand(steps(alloc))?
         .subcommand(check(alloc))?
@@ -135,16 +226,20 @@ fn task_in<'a>(matches: &ArgMatches<'a>) -> Task<'a> {
 
 /// The command that answers requests for steps.
 fn steps<'a>(alloc: Global) -> Command<'a> {
-    Command::new(alloc, "steps").about(
-        "Answers each request on standard input with a best profile of few steps, its loss and its packet",
-    )
+    Command::new(alloc, "steps")
+        .about(
+            "Answers each request on standard input with a best profile of few steps, its loss and its packet",
+        )
+        .after_help(STEPS)
 }
 
 /// The command that judges certificates.
 fn check<'a>(alloc: Global) -> Command<'a> {
-    Command::new(alloc, "check").about(
-        "Tells of each certificate on standard input whether its prices show that no profile loses less",
-    )
+    Command::new(alloc, "check")
+        .about(
+            "Tells of each certificate on standard input whether its prices show that no profile loses less",
+        )
+        .after_help(CHECK)
 }
 
 /// The command that prints messages.
@@ -155,14 +250,17 @@ fn decode<'a>(alloc: Global) -> Result<Command<'a>, AllocError> {
         .action(ArgAction::SetTrue);
     Command::new(alloc, "decode")
         .about("Prints each message 3 and packet on standard input field by field, and in words")
+        .after_help(DECODE)
         .arg(json)
 }
 
 /// The command that draws certificates.
 fn draw<'a>(alloc: Global) -> Command<'a> {
-    Command::new(alloc, "draw").about(
-        "Draws each certificate on standard input, and tells whether its prices show that no profile loses less, as one page of HTML",
-    )
+    Command::new(alloc, "draw")
+        .about(
+            "Draws each certificate on standard input, and tells whether its prices show that no profile loses less, as one page of HTML",
+        )
+        .after_help(DRAW)
 }
 
 /// The command that runs a centre.
@@ -171,7 +269,7 @@ fn run<'a>(alloc: Global) -> Result<Command<'a>, AllocError> {
         .about(
             "Runs a centre on the track of a file: answers reports, locks and requests on standard input",
         )
-        .after_help(REQUESTS)
+        .after_help(RUN)
         .arg(track_file(alloc))?
         .arg(history_file(alloc))?
         .arg(journal_file(alloc))
@@ -187,6 +285,7 @@ fn show<'a>(alloc: Global) -> Result<Command<'a>, AllocError> {
         .about(
             "Draws the scene that the requests on standard input lead to, on the track of a file, as one page of HTML",
         )
+        .after_help(SHOW)
         .arg(track_file(alloc))?
         .arg(each)
 }
@@ -235,7 +334,7 @@ fn serve<'a>(alloc: Global) -> Result<Command<'a>, AllocError> {
         .about(
             "Runs a centre on the track of a file for several connections at once, and serves every train at the end",
         )
-        .after_help(REQUESTS)
+        .after_help(SERVE)
         .arg(track_file(alloc))?
         .arg(port(alloc))?
         .arg(connections(alloc))?

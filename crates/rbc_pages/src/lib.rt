@@ -6,5 +6,5 @@ mod showing;
 pub use rbc_kept as kept;
 pub use rbc_kept::server::words::{Word, print_line};
 pub use rbc_show::{check, draw};
-pub use rbc_streams::{SessionFault, Sink, Source, Stream, WriteFailed};
+pub use rbc_streams::{Buffered, SessionFault, Sink, Source, Stream, WriteFailed};
 pub use showing::show;
