@@ -48,8 +48,9 @@ pub fn run<R: Source, W: Sink>(
     ensures memory { result ≡ Err SessionFault.Memory
         → (reader.new ≡ reader.old) × (writer.new ≡ writer.old) × (history.new ≡ history.old) }
 
-    // Ok is answered at the end of the input.
+    // Ok is answered at the end of the input, which the last read found.
     ensures end { OnOk result (IsAtEnd (R.left reader.new)) }
+    ensures ended { OnOk result (R.ended reader.new ≡ true) }
 
     // The record is of the same track, and each line of what was read was answered after the entries of those before
     // it.
@@ -124,8 +125,9 @@ pub fn session<
     // None that begins ends for want of memory.
     ensures begins { result.ended ≢ Err SessionFault.Memory }
 
-    // Ok is answered at the end of the input.
+    // Ok is answered at the end of the input, which the last read found.
     ensures end { OnOk result.ended (IsAtEnd (I.left reader.new)) }
+    ensures ended { OnOk result.ended (I.ended reader.new ≡ true) }
 
     // The seat loses no receipt, and nothing that it was told. Each line of what was read was answered after all that the
     // seat had been told by then, and what was gained for it is told in its reply. What was written is made of the replies
