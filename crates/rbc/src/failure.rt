@@ -7,7 +7,7 @@ use crate::journal::JournalFault;
 use clap::error::ErrorKind;
 use rbc_journal_file::OpenFault;
 use rbc_model::Memory;
-use rbc_pages::kept::server::ServeFault;
+use rbc_pages::kept::server::{ServeFault, Unserved};
 use rbc_pages::kept::{KeptFault, RunFault};
 use rbc_pages::{SessionFault, WriteFailed};
 use rbc_trackfile::LoadFault;
@@ -127,9 +127,9 @@ impl From<SessionFault> for Failure {
     }
 }
 
-impl From<ServeFault> for Failure {
-    fn from(fault: ServeFault) -> Failure {
-        Failure::Serve(fault)
+impl<P: Drop, Q: Drop, G: Drop> From<Unserved<P, Q, G>> for Failure {
+    fn from(unserved: Unserved<P, Q, G>) -> Failure {
+        Failure::Serve(unserved.fault)
     }
 }
 

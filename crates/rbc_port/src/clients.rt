@@ -3,13 +3,14 @@
 ghost use Rattle.std.specs.Prelude.{◌≡◌, ◌≢◌, ◌∷◌, [], List, Option, Result, false, Err, IfOk, IfErr, OnErr};
 ghost use Rattle.rbc_model.specs.declared.limits.TheConstants.{LONGEST_LINE};
 ghost use Rattle.rbc_streams.specs.LineReading.{at_start};
-ghost use Rattle.rbc_port.specs.Clients.{Coming, Parting, Came, NoneComes, unheard};
+ghost use Rattle.rbc_port.specs.Clients.{Coming, Parting, Came, NoneComes, at_close, unheard};
 
 use crate::port::PortFailed;
 use rbc_model::SessionFault;
 use rbc_streams::{LineReader, Sink, Source};
 use std::alloc::Global;
 use std::io::Eprint;
+use std::snapshot::Snapshot;
 use std::time::Clock;
 
 /// What a session with a client needs.
@@ -70,6 +71,7 @@ pub trait Client {
           unread = Self.Reader.left reader;
           told = Self.Writer.written writer;
           held_back = Self.Writer.held_back writer;
+          found_end = Self.Reader.ended reader;
           read_failed = Self.Reader.failed reader;
           write_failed = Self.Writer.failed writer;
           ended = ended;
@@ -91,4 +93,21 @@ pub trait Clients {
     fn accept<T: Clock + Eprint>(&mut self, rt: &T, alloc: Global) -> Result<Self::Each, PortFailed>
         ensures next { IfOk result (λ client. Came (coming self.old) (coming self.new) (Self.Each.coming client ∷ [])) }
         ensures none { OnErr result (NoneComes (coming self.old)) };
+}
+
+/// Clients that are accepted no more.
+#[derive(Drop)]
+pub struct Closed<P> {
+    was: Snapshot<P>,
+}
+
+impl<P: Drop> Closed<P> {
+    /// From now on none of these is accepted. Who connects to a port after that is refused.
+    pub fn new(port: P) -> Closed<P>
+        ensures { at_close result ≡ port }
+    {
+        let was = Snapshot::of(&port);
+        drop(port);
+        Closed { was }
+    }
 }

@@ -142,6 +142,7 @@ impl<S: Read + Write + OpenStream + Drop> Client for Connection<S> {
       unread = None;
       told = None;
       held_back = option_map_or (λ w. ⟦<Writing<S> as rbc_streams::Sink>⟧.held_back w.value) gone.writer [];
+      found_end = option_map_or (λ r. ⟦<Reading<S> as rbc_streams::Source>⟧.ended r.value) gone.reader false;
       read_failed = option_map_or (λ r. ⟦<Reading<S> as rbc_streams::Source>⟧.failed r.value) gone.reader false;
       write_failed = option_map_or (λ w. ⟦<Writing<S> as rbc_streams::Sink>⟧.failed w.value) gone.writer false;
       ended = gone.ended;

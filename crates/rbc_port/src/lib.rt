@@ -7,7 +7,7 @@ mod ends;
 mod log;
 mod port;
 
-pub use clients::{Client, Clients, Ends};
+pub use clients::{Client, Clients, Closed, Ends};
 pub use connection::{Connection, Gone};
 pub use port::{Port, PortFailed, Terms};
 pub use rbc_model::SessionFault;

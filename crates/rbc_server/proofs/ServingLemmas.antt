@@ -1,22 +1,26 @@
 -- What comes of serving connections.
-use Rattle.std.proofs.Common.{◌≡◌, ℕ, ◌<◌, Bool, true, List, [], ◌∷◌, ◌++◌, get_or, length, map, set, Option, Result, Ok, Err, refl, sym, ap, ◌∙◌, subst, inl, inr, arith}
-use Rattle.std.proofs.lemmas.List.{length-append}
+use Rattle.std.proofs.Common.{◌≡◌, ℕ, ◌<◌, Bool, true, List, [], ◌∷◌, ◌++◌, get_or, length, map, set, Option, Some, None, Result, Ok, Err, refl, sym, ap, ◌∙◌, subst, inl, inr, lit≤, arith}
+use Rattle.std.proofs.lemmas.List.{length-append, length-map, take_all}
 use Rattle.rbc_model.specs.Histories.{Receipt}
 use Rattle.rbc_model.specs.Tracks.{Track}
 use Rattle.std.specs.Prelude.{All, IsPermutation, IsTrue, IfOk, IfErr}
 use Rattle.std.specs.List.{AllZip}
 use Rattle.std.specs.Io.KnownBytes.{Appends}
 use Rattle.rbc_model.specs.Sessions.{WritesPart}
-use Rattle.rbc_port.specs.Clients.{Coming, Parting}
+use Rattle.rbc_port.specs.Clients.{Coming, FewerCome, Parting}
 use Rattle.rbc_sessions.specs.Closing.{all_receipts, IsUnmatched}
 use Rattle.rbc_sessions.specs.Outcomes.{AreFirst, AreTrainsOfFirst, IsToldToOne, granted, train_of}
 use Rattle.rbc_sessions.specs.Outcome.{Outcome}
 use Rattle.rbc_sessions.specs.Records.{HistoryOnTrack}
 use Rattle.rbc_sessions.specs.Seats.{Seated}
 use Rattle.rbc_sessions.specs.CloseFault.{CloseFault}
-use Rattle.rbc_server.specs.Connections.{AreParted}
-use Rattle.rbc_server.specs.Serving.{closed_line, AreKept, IsAttended, IsBrought, IsClosed, IsCloseFault, IsCutOff, IsServed, IsServeFault, IsSwept}
+use Rattle.rbc_server.specs.Connections.{AllButOneServed, AllServed, AllWhoComeServed, AreParted, Connection, OneKnows, StandsConnected}
+use Rattle.rbc_server.specs.Serving.{closed_line, AreKept, IsAttended, GoOn, IsBrought, IsClosed, IsCloseFault, IsCutOff, IsServed, IsServeFault, IsSweepFault, IsSwept, serve_fault}
+use Rattle.rbc_server.proofs.ConnectionLemmas.{no_more_came}
+use Rattle.rbc_server.specs.declared.connections.ConnectFault.{ConnectFault}
+use Rattle.rbc_server.specs.declared.connections.ConnectFault.TheVariants.{Port as NoConnection, Memory as NoThread, Journal as NotKeptInSession}
 use Rattle.rbc_sessions.specs.Sittings.{StaysKept}
+use Rattle.rbc_sessions.specs.declared.sitting.Sitting.{Sitting}
 use Rattle.rbc_server.specs.declared.serving.ServeFault.{ServeFault}
 use Rattle.rbc_server.specs.declared.serving.ServeFault.TheVariants.{Port, Write, Memory, Journal, Close}
 use Rattle.rbc_server.specs.declared.staff.Staff.{Staff}
@@ -65,6 +69,16 @@ swept_kept keeps others (s ∷ more) (p ∷ other_pens) outcomes had told pen kn
   granted_kept = is_kept;
 }
 
+-- its pen goes on, and the others are as they were
+pub go_on_first : {P : Type 0} (keeps : P → ℕ → Type 0) (pens : List P) (pen knows : P) → 0 < length pens → pen ≡ get_or pens 0 pen → StaysKept keeps pen knows → GoOn keeps pens (set pens 0 knows)
+go_on_first keeps [] pen knows some is stays = absurd (omega (arith, some))
+go_on_first keeps (p ∷ others) pen knows some is stays = (knows, subst (λ pen. StaysKept keeps pen knows) is stays, refl)
+
+-- it knows that keeping has failed
+pub first_knows : {P : Type 0} (failed : P → Type 0) (pens : List P) (knows : P) → 0 < length pens → failed knows → OneKnows failed (set pens 0 knows)
+first_knows failed [] knows some broken = absurd (omega (arith, some))
+first_knows failed (p ∷ others) knows some broken = (knows, (0, omega arith, refl), broken)
+
 -- where the sittings have served, there is a first seat
 pub first_is_there : {L P : Type 0} (keeps : P → ℕ → Type 0) (track : Track) (coming : Option (List Coming)) (partings : List Parting) (staff : Staff L P) (seats : List Seated) (pens : List P) (old new : Option (List ℕ))
     → IsAttended keeps track coming partings staff seats pens old new → 0 < length seats
@@ -82,17 +96,95 @@ served_then keeps (Err fault) opened coming partings staff seats pens old so_far
 
 -- ---- faults
 
-pub fault_told : {L P T : Type 0} (keeps : P → ℕ → Type 0) (r : Result T ServeFault) (opened : HistoryOnTrack) (coming : Option (List Coming)) (partings : List Parting) (parts : ℕ) (staff : Staff L P) (seats : List Seated) (pens : List P)
-    (old so_far new : Option (List ℕ)) → IsAttended keeps opened.track coming partings staff seats pens old so_far → IfErr r (IsCloseFault opened parts seats so_far new)
-    → IfErr r (IsServeFault keeps opened coming parts staff old new)
-fault_told keeps (Ok x) opened coming partings parts staff seats pens old so_far new attended is = tt
-fault_told keeps (Err Port) opened coming partings parts staff seats pens old so_far new attended is = tt
-fault_told keeps (Err Write) opened coming partings parts staff seats pens old so_far new attended is =
-    inr (record { partings = partings; seats = seats; pens = pens; so_far = so_far; attended = attended; unclosed = is })
-fault_told keeps (Err Memory) opened coming partings parts staff seats pens old so_far new attended is = tt
-fault_told keeps (Err Journal) opened coming partings parts staff seats pens old so_far new attended is = tt
-fault_told keeps (Err (Close fault)) opened coming partings parts staff seats pens old so_far new attended is =
-    record { partings = partings; seats = seats; pens = pens; so_far = so_far; attended = attended; unclosed = is }
+-- pens that are as they were
+pub go_on_as : {P : Type 0} (keeps : P → ℕ → Type 0) (had has : List P) → has ≡ had → GoOn keeps had has
+go_on_as keeps [] has is = is
+go_on_as keeps (p ∷ others) has is = (p, (λ place k. k), is)
+
+pub go_on_same : {P : Type 0} (keeps : P → ℕ → Type 0) (pens : List P) → GoOn keeps pens pens
+go_on_same keeps pens = go_on_as keeps pens pens refl
+
+-- no connection fails to be written
+pub no_write : (connect : ConnectFault) → serve_fault connect ≡ Write → ⊥
+no_write NoConnection is = cc
+no_write NoThread is = cc
+no_write NotKeptInSession is = cc
+
+pub only_journal : (connect : ConnectFault) → serve_fault connect ≡ Journal → connect ≡ NotKeptInSession
+only_journal NoConnection is = absurd (let c : ⊥ = cc in c)
+only_journal NoThread is = absurd (let c : ⊥ = cc in c)
+only_journal NotKeptInSession is = refl
+
+-- where all sittings served, no client that came was left
+all_but_none : {L P : Type 0} (keeps : P → ℕ → Type 0) (coming to_come : Option (List Coming)) (sittings served : List (Sitting L P)) (partings : List Parting)
+    → AllServed keeps coming to_come sittings served partings → AllButOneServed keeps coming to_come sittings served partings
+all_but_none {L} {P} keeps coming to_come sittings served partings all =
+    let cs = all.0.connections in
+    let went = length-map cs (λ (c : Connection L P). c.went) in
+    let before = length-map cs (λ (c : Connection L P). c.before) in
+    let same : length partings ≡ length sittings =
+    omega (arith, went, before, ap (λ (l : List Parting). length l) all.0.went, ap (λ (l : List (Sitting L P)). length l) all.0.before) in
+    record {
+      connections = record {
+        connections = cs;
+        each = all.0.each;
+        still_to_come = all.0.still_to_come;
+        clients = all.0.clients;
+        before = all.0.before ∙ sym (take_all (length partings) sittings (omega (arith, same)));
+        after = all.0.after;
+        went = all.0.went;
+      };
+      unserved = [];
+      others = all.1;
+      one = lit≤ tt;
+      fits = omega (arith, same);
+    }
+
+fewer_come : {L P : Type 0} (keeps : P → ℕ → Type 0) (coming : Option (List Coming)) (sittings served : List (Sitting L P)) (partings : List Parting)
+    → AllWhoComeServed keeps coming sittings served partings → FewerCome coming (length sittings)
+fewer_come {L} {P} keeps coming sittings served partings all =
+    let cs = all.0.connections in
+    let went = length-map cs (λ (c : Connection L P). c.went) in
+    let came = length-map cs (λ (c : Connection L P). c.came) in
+    no_more_came coming all.0.still_to_come (map (λ (c : Connection L P). c.came) cs) (length sittings) all.0.clients all.1
+    (omega (arith, went, came, ap (λ (l : List Parting). length l) all.0.went, all.2))
+
+module _ {L P : Type 0} (keeps : P → ℕ → Type 0) (opened : HistoryOnTrack) (coming to_come : Option (List Coming)) (parts : ℕ) (partings : List Parting) (staff : Staff L P) (old new : Option (List ℕ)) where
+  -- the desk could not be closed, or the last line not be told
+  pub unclosed_told : (seats : List Seated) (pens : List P) (so_far : Option (List ℕ)) (fault : ServeFault) → IsAttended keeps opened.track coming partings staff seats pens old so_far
+      → IsCloseFault opened parts seats so_far new fault → IsServeFault keeps opened coming to_come parts partings staff pens old new fault
+  unclosed_told seats pens so_far Port attended is = absurd is
+  unclosed_told seats pens so_far Write attended is = inr (record { seats = seats; so_far = so_far; attended = attended; unclosed = is })
+  unclosed_told seats pens so_far Memory attended is = absurd is
+  unclosed_told seats pens so_far Journal attended is = absurd is
+  unclosed_told seats pens so_far (Close fault) attended is = record { seats = seats; so_far = so_far; attended = attended; unclosed = is }
+
+  by_connect : (pens : List P) (connect : ConnectFault) → StandsConnected keeps coming to_come staff.sittings.items pens partings (Some connect)
+      → IsServeFault keeps opened coming to_come parts partings staff pens old new (serve_fault connect)
+  by_connect pens NoConnection stands = stands
+  by_connect pens NoThread stands = (stands.0, stands.1, go_on_as keeps (map (λ (s : Sitting L P). s.pen) stands.0) pens stands.2)
+  by_connect pens NotKeptInSession stands = (stands.0, stands.1, go_on_as keeps (map (λ (s : Sitting L P). s.pen) stands.0) pens stands.2)
+
+  -- not all connections could be served
+  pub connect_told : (pens : List P) (connect : ConnectFault) (fault : ServeFault) → fault ≡ serve_fault connect → StandsConnected keeps coming to_come staff.sittings.items pens partings (Some connect)
+      → IsServeFault keeps opened coming to_come parts partings staff pens old new fault
+  connect_told pens connect fault is stands = subst (IsServeFault keeps opened coming to_come parts partings staff pens old new) (sym is) (by_connect pens connect stands)
+
+  -- a sweep behind them failed
+  pub sweep_told : (had pens : List P) (fault : ServeFault) → StandsConnected keeps coming to_come staff.sittings.items had partings None → GoOn keeps had pens → IsSweepFault fault
+      → (fault ≡ Write → IsCutOff keeps opened.track coming partings staff pens old new) → IsServeFault keeps opened coming to_come parts partings staff pens old new fault
+  sweep_told had pens Port stands go which cut = absurd which
+  sweep_told had pens Write stands go which cut = inl (cut refl)
+  sweep_told had pens Memory stands go which cut =
+      (stands.0, all_but_none keeps coming to_come staff.sittings.items stands.0 partings stands.1, subst (λ (l : List P). GoOn keeps l pens) stands.2 go)
+  sweep_told had pens Journal stands go which cut = (stands.0, stands.1, subst (λ (l : List P). GoOn keeps l pens) stands.2 go)
+  sweep_told had pens (Close fault) stands go which cut = absurd which
+
+  -- fewer come than are to be served
+  pub fewer_told : (pens : List P) (fault : ServeFault) → IsServeFault keeps opened coming to_come parts partings staff pens old new fault → fault ≡ Port → FewerCome coming (length staff.sittings.items)
+  fewer_told pens fault told is =
+      let stands = subst (IsServeFault keeps opened coming to_come parts partings staff pens old new) is told in
+      fewer_come keeps coming staff.sittings.items stands.0 partings stands.1
 
 module _ {T : Type 0} (r : Result T ServeFault) (fault : ServeFault) (is : r ≡ Err fault) where
   pub write_told : (failed : Bool) → fault ≡ Write → failed ≡ true → (r ≡ Err Write → IsTrue failed) × (IsTrue failed → r ≡ Err Write)
@@ -106,7 +198,3 @@ module _ {T : Type 0} (r : Result T ServeFault) (fault : ServeFault) (is : r ≡
       → new ≡ old → IfErr r (IsCloseFault opened parts kept old new)
   close_is_told opened parts kept old new close closes unmatched same =
       subst (λ x. IfErr x (IsCloseFault opened parts kept old new)) (sym (is ∙ ap Err closes)) (unmatched, same)
-
-  pub cut_off_is_told : {L P : Type 0} (keeps : P → ℕ → Type 0) (opened : HistoryOnTrack) (coming : Option (List Coming)) (parts : ℕ) (staff : Staff L P) (old new : Option (List ℕ)) → fault ≡ Write
-      → IsCutOff keeps opened.track coming staff old new → IfErr r (IsServeFault keeps opened coming parts staff old new)
-  cut_off_is_told keeps opened coming parts staff old new write cut = subst (λ x. IfErr x (IsServeFault keeps opened coming parts staff old new)) (sym (is ∙ ap Err write)) (inl cut)

@@ -24,10 +24,11 @@ use Rattle.rbc_sessions.specs.Answer.TheVariants.{Granted, Blocked, Gone, Full, 
 use Rattle.rbc_sessions.specs.Outcome.{Outcome}
 use Rattle.rbc_server.specs.declared.connections.ConnectFault.{ConnectFault}
 use Rattle.rbc_server.specs.declared.connections.ConnectFault.TheVariants.{Port as NoConnection, Memory as NoThread, Journal as NotKeptInSession}
-use Rattle.rbc_server.specs.Connections.{AreParted}
+use Rattle.rbc_server.specs.Connections.{AllButOneServed, AllServed, AllWhoComeServed, AreParted}
 use Rattle.rbc_sessions.specs.declared.keeping.KeepFault.{KeepFault}
 use Rattle.rbc_sessions.specs.declared.keeping.KeepFault.TheVariants.{Journal as KeeperFailed, Memory as NoTextMemory}
 use Rattle.rbc_sessions.specs.Sittings.{StaysKept}
+use Rattle.rbc_sessions.specs.declared.sitting.Sitting.{Sitting}
 use Rattle.rbc_server.specs.declared.serving.ServeFault.{ServeFault}
 use Rattle.rbc_server.specs.declared.staff.Staff.{Staff}
 use Rattle.rbc_server.specs.declared.serving.ServeFault.TheVariants.{Port, Write, Memory as NoServeMemory, Journal, Close}
@@ -171,10 +172,8 @@ IsCloseFault opened parts kept old new Write = (log : HistoryOnTrack) × IsClose
 IsCloseFault opened parts kept old new (Close fault) = IsUnmatched opened parts kept fault × (new ≡ old)
 
 -- The writer failed while the outcomes of a sweep were told. What was written is a part, from its start, of what tells the first of them.
-pub record IsCutOff {L P : Type 0} (kept : P → ℕ → Type 0) (track : Track) (coming : Option (List Coming)) (staff : Staff L P) (old new : Option (List ℕ)) : Type 0 where
-  pub partings : List Parting
+pub record IsCutOff {L P : Type 0} (kept : P → ℕ → Type 0) (track : Track) (coming : Option (List Coming)) (partings : List Parting) (staff : Staff L P) (pens : List P) (old new : Option (List ℕ)) : Type 0 where
   pub seats : List Seated
-  pub pens : List P
   pub outcomes : List Outcome
   pub sweep : IsSwept kept coming partings staff seats pens outcomes
   pub count : ℕ
@@ -183,21 +182,35 @@ pub record IsCutOff {L P : Type 0} (kept : P → ℕ → Type 0) (track : Track)
   pub written : WritesPart old new told
 
 -- the same while the last line was told, or the desk could not be closed
-pub record IsUnclosed {L P : Type 0} (kept : P → ℕ → Type 0) (opened : HistoryOnTrack) (coming : Option (List Coming)) (parts : ℕ) (staff : Staff L P) (old new : Option (List ℕ)) (fault : ServeFault) : Type 0 where
-  pub partings : List Parting
+pub record IsUnclosed {L P : Type 0} (kept : P → ℕ → Type 0) (opened : HistoryOnTrack) (coming : Option (List Coming)) (parts : ℕ) (partings : List Parting) (staff : Staff L P) (pens : List P) (old new : Option (List ℕ)) (fault : ServeFault) : Type 0 where
   pub seats : List Seated
-  pub pens : List P
   pub so_far : Option (List ℕ)
   pub attended : IsAttended kept opened.track coming partings staff seats pens old so_far
   pub unclosed : IsCloseFault opened parts seats so_far new fault
 
--- What is known after a fault. Of a connection that could not be had, of memory that was refused and of a request that could not be kept nothing is:
--- nothing was written before either.
-abbrev pub IsServeFault : {L P : Type 0} → (P → ℕ → Type 0) → HistoryOnTrack → Option (List Coming) → ℕ → Staff L P → Option (List ℕ) → Option (List ℕ) → ServeFault → Type 0
-IsServeFault kept opened coming parts staff old new Port = Unit {0}
-IsServeFault kept opened coming parts staff old new NoServeMemory = Unit {0}
-IsServeFault kept opened coming parts staff old new Journal = Unit {0}
-IsServeFault kept opened coming parts staff old new Write =
-    IsCutOff kept opened.track coming staff old new ⊎ IsUnclosed kept opened coming parts staff old new Write
-IsServeFault kept opened coming parts staff old new (Close fault) =
-    IsUnclosed kept opened coming parts staff old new (Close fault)
+-- What the first of the pens kept is kept by what it knows now. The others are as they were.
+abbrev pub GoOn : {P : Type 0} → (P → ℕ → Type 0) → List P → List P → Type 0
+GoOn kept [] pens = pens ≡ []
+GoOn {P} kept (pen ∷ others) pens = (knows : P) × StaysKept kept pen knows × (pens ≡ knows ∷ others)
+
+-- What stands after a fault: the clients that were served went so, and these pens came back. Where no client could be had, memory was refused or a request
+-- could not be kept, these are the pens of the sittings that served, the first of which may have gone on behind a sweep.
+abbrev pub IsServeFault : {L P : Type 0} → (P → ℕ → Type 0) → HistoryOnTrack → Option (List Coming) → Option (List Coming) → ℕ → List Parting → Staff L P → List P → Option (List ℕ) → Option (List ℕ) → ServeFault → Type 0
+IsServeFault {L} {P} kept opened coming to_come parts partings staff pens old new Port =
+    (served : List (Sitting L P)) × AllWhoComeServed kept coming staff.sittings.items served partings × (pens ≡ map (λ (s : Sitting L P). s.pen) served)
+IsServeFault {L} {P} kept opened coming to_come parts partings staff pens old new NoServeMemory =
+    (served : List (Sitting L P)) × AllButOneServed kept coming to_come staff.sittings.items served partings × GoOn kept (map (λ (s : Sitting L P). s.pen) served) pens
+IsServeFault {L} {P} kept opened coming to_come parts partings staff pens old new Journal =
+    (served : List (Sitting L P)) × AllServed kept coming to_come staff.sittings.items served partings × GoOn kept (map (λ (s : Sitting L P). s.pen) served) pens
+IsServeFault kept opened coming to_come parts partings staff pens old new Write =
+    IsCutOff kept opened.track coming partings staff pens old new ⊎ IsUnclosed kept opened coming parts partings staff pens old new Write
+IsServeFault kept opened coming to_come parts partings staff pens old new (Close fault) =
+    IsUnclosed kept opened coming parts partings staff pens old new (Close fault)
+
+-- why a sweep behind sessions is not told of whole
+abbrev pub IsSweepFault : ServeFault → Type 0
+IsSweepFault Port = ⊥
+IsSweepFault Write = Unit {0}
+IsSweepFault NoServeMemory = Unit {0}
+IsSweepFault Journal = Unit {0}
+IsSweepFault (Close fault) = ⊥

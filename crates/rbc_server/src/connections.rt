@@ -1,14 +1,14 @@
 //! Connections, each with a thread and a seat of its own.
 
-ghost use Rattle.std.specs.Prelude.{◌≡◌, ◌+◌, ◌≤◌, ◌<◌, ◌^◌, List, All, false, map, IfOk, Err, vec_len, vec_capacity};
+ghost use Rattle.std.specs.Prelude.{◌≡◌, ◌+◌, ◌≤◌, ◌<◌, ◌^◌, List, [], All, false, map, IfOk, IfSome, Some, None, vec_len, vec_capacity};
 ghost use Rattle.std.specs.List.{AllZip, list_any};
 ghost use Rattle.std.specs.Thread.{IsSend, IsSync};
-ghost use Rattle.rbc_port.specs.Clients.{FewerCome};
-ghost use Rattle.rbc_server.specs.Connections.{AreConnections, AreParted, IsConnection, OneKnows, TellsFailure};
-ghost use Rattle.rbc_server.specs.declared.connections.ConnectFault.TheVariants.{Port as NoClient, Journal as NotKeptInSession};
+ghost use Rattle.rbc_port.specs.Clients.{at_close};
+ghost use Rattle.rbc_server.specs.Connections.{AreParted, AreServed, IsConnection, OneKnows, StandsConnected, TellsFailure, fault_of};
+ghost use Rattle.rbc_server.specs.declared.connections.ConnectFault.TheVariants.{Memory as NoThread, Journal as NotKeptInSession};
 
 use crate::{Counter, Keeper, SessionEnd, Sitting, session};
-use rbc_port::{Client, Clients, Ends, PortFailed};
+use rbc_port::{Client, Clients, Closed, Ends, PortFailed};
 use rbc_sessions::{DeskName, OpenGate, Seat};
 use rbc_streams::{Sink, Source};
 use std::alloc::{AllocError, Global};
@@ -29,16 +29,6 @@ pub(crate) enum ConnectFault {
     Memory,
     /// A request could not be kept.
     Journal,
-}
-
-impl From<AllocError> for ConnectFault {
-    ghost use Rattle.rbc_server.specs.declared.connections.ConnectFault.TheVariants.{Memory as NoThread};
-
-    ghost from_gives = { λ _ fault. fault ≡ NoThread };
-
-    fn from(_refused: AllocError) -> ConnectFault {
-        ConnectFault::Memory
-    }
 }
 
 impl From<PortFailed> for ConnectFault {
@@ -199,12 +189,34 @@ fn any_failed<L: DeskName, Q, G>(visits: &[Visit<L, Q, G>]) -> bool
     visits.iter().any(|visit| visit.sitting.has_failed)
 }
 
+/// The clients' visits, in order, and why there are not as many as sittings. No more clients are accepted.
+#[derive(Drop)]
+struct Visited<L: DeskName, P, Q, G> {
+    visits: Vec<Visit<L, Q, G>>,
+    fault: Option<ConnectFault>,
+    port: Closed<P>,
+}
+
+/// Room for the threads of this number of connections; or the fault that memory was refused.
+fn handles_for<L: DeskName, Q: Drop, K: Keeper<L, Pen = Q>, G: Drop, C: Client<Gone = G>>(
+    alloc: Global,
+    count: usize,
+) -> (
+    Vec<PromisedHandle<Visit<L, Q, G>, Serves<L, K, Q, C>>>,
+    Option<ConnectFault>,
+)
+    ensures none { result.0.items ≡ [] }
+    ensures room { result.1 ≡ None → vec_capacity result.0 ≡ count }
+    ensures fault { IfSome result.1 (λ fault. fault ≡ NoThread) }
+{
+    match Vec::with_capacity(alloc, count) {
+        Ok(handles) => (handles, None),
+        Err(_) => (Vec::new(alloc), Some(ConnectFault::Memory)),
+    }
+}
+
 /// Accepts a client for each of the sittings, and waits until all sessions have ended. The port is closed behind the last
-/// client.
-///
-/// # Errors
-///
-/// Those of [`connect`], but for `Journal`.
+/// client. There is room for what comes of them.
 fn visit_all<
     'a,
     L: DeskName + Send + Sync,
@@ -223,31 +235,30 @@ fn visit_all<
     port: P,
     counter: &Counter<'a, L, K, OpenGate, T>,
     sittings: Vec<Sitting<L, Q>>,
-) -> Result<Vec<Visit<L, Q, G>>, ConnectFault>
-    ensures served { IfOk result (λ visits. AreConnections K.kept (P.coming port) sittings.items
-        (map (λ visit. visit.sitting) visits.items) (map (λ visit. C.parting visit.gone) visits.items)
-        × (vec_len visits ≤ vec_len sittings)) }
-    ensures failed { IfOk result (λ visits. All (λ visit. TellsFailure K.failed visit.sitting) visits.items) }
-    ensures not_kept { result ≡ Err NotKeptInSession → ⊥ }
-    ensures port { result ≡ Err NoClient → FewerCome (P.coming port) (vec_len sittings) }
+    visits: Vec<Visit<L, Q, G>>,
+) -> Visited<L, P, Q, G>
+    requires empty { vec_len visits ≡ 0 }
+    requires room { vec_len sittings ≤ vec_capacity visits }
+    ensures served { AreServed K.kept (P.coming port) (P.coming (at_close result.port)) sittings.items
+        (map (λ visit. visit.sitting) result.visits.items) (map (λ visit. C.parting visit.gone) result.visits.items) result.fault }
+    ensures count { vec_len result.visits ≤ vec_len sittings }
+    ensures failed { All (λ visit. TellsFailure K.failed visit.sitting) result.visits.items }
+    ensures not_kept { result.fault ≡ Some NotKeptInSession → ⊥ }
 {
     thread::scope(
         thread::scope_env(),
         rt,
-        move |scope| -> Result<Vec<Visit<L, Q, G>>, ConnectFault>
+        move |scope| -> Visited<L, P, Q, G>
             requires { IsSync T.row × IsSend L.row × IsSync L.row × IsSend Q.row × IsSend X.row × IsSend K.row × IsSync K.row × IsSend I.row
-                × IsSend O.row × IsSend G.row × IsSend C.row }
-            ensures served { IfOk result (λ visits. AreConnections K.kept (P.coming port) sittings.items
-                (map (λ visit. visit.sitting) visits.items) (map (λ visit. C.parting visit.gone) visits.items)
-                × (vec_len visits ≤ vec_len sittings)) }
-            ensures failed { IfOk result (λ visits. All (λ visit. TellsFailure K.failed visit.sitting) visits.items) }
-            ensures not_kept { result ≡ Err NotKeptInSession → ⊥ }
-            ensures port { result ≡ Err NoClient → FewerCome (P.coming port) (vec_len sittings) }
+                × IsSend O.row × IsSend G.row × IsSend C.row × (vec_len visits ≡ 0) × (vec_len sittings ≤ vec_capacity visits) }
+            ensures served { AreServed K.kept (P.coming port) (P.coming (at_close result.port)) sittings.items
+                (map (λ visit. visit.sitting) result.visits.items) (map (λ visit. C.parting visit.gone) result.visits.items) result.fault }
+            ensures count { vec_len result.visits ≤ vec_len sittings }
+            ensures failed { All (λ visit. TellsFailure K.failed visit.sitting) result.visits.items }
+            ensures not_kept { result.fault ≡ Some NotKeptInSession → ⊥ }
         {
-            let mut handles = Vec::with_capacity(alloc, sittings.len())?;
-            let visits = Vec::with_capacity(alloc, sittings.len())?;
+            let (mut handles, mut fault) = handles_for(alloc, sittings.len());
             let mut port = port;
-            let mut fault = None;
             // What runs in a thread holds each type that it names.
             let types = PhantomData::<(X, I, O, G)>;
             for sitting in sittings {
@@ -288,26 +299,98 @@ fn visit_all<
                     None => fault = Some(ConnectFault::Memory),
                 }
             }
-            drop(port);
+            let port = Closed::new(port);
             let visits = join_all(rt, handles, visits);
-            match fault {
-                None => Ok(visits),
-                Some(fault) => Err(fault),
+            Visited {
+                visits,
+                fault,
+                port,
             }
         },
     )
 }
 
-/// Accepts a client for each of the sittings, in order, each with a thread of its own, and closes the port. Once all
-/// sessions have ended it gives the seats and the pens back in their order, with room for as many seats more, and what is
-/// left of the clients.
+/// Room for what comes of connections, once their sessions have ended.
+struct Room<L: DeskName, Q, G> {
+    visits: Vec<Visit<L, Q, G>>,
+    parted: Parted<L, Q, G>,
+}
+
+/// Room for this number of connections, and for as many seats more.
 ///
 /// # Errors
 ///
-/// The first of these; the sessions that were begun have ended then too:
+/// The allocator refuses memory.
+fn room_for<L: DeskName, Q: Drop, G: Drop>(
+    alloc: Global,
+    count: usize,
+    more: usize,
+) -> Result<Room<L, Q, G>, AllocError>
+    requires { count + more < 2 ^ 64 }
+    ensures visits { IfOk result (λ room. (vec_len room.visits ≡ 0) × (vec_capacity room.visits ≡ count)) }
+    ensures seats { IfOk result (λ room. (vec_len room.parted.seats ≡ 0) × (vec_capacity room.parted.seats ≡ count + more)) }
+    ensures pens { IfOk result (λ room. (vec_len room.parted.pens ≡ 0) × (vec_capacity room.parted.pens ≡ count)) }
+    ensures gone { IfOk result (λ room. (vec_len room.parted.gone ≡ 0) × (vec_capacity room.parted.gone ≡ count)) }
+{
+    Ok(Room {
+        visits: Vec::with_capacity(alloc, count)?,
+        parted: Parted {
+            seats: Vec::with_capacity(alloc, count + more)?,
+            pens: Vec::with_capacity(alloc, count)?,
+            gone: Vec::with_capacity(alloc, count)?,
+        },
+    })
+}
+
+/// What came of connections: the seats, the pens and what is left of the clients that were served, each in order, and why not
+/// all were. No more clients are accepted.
+#[derive(Drop)]
+pub(crate) struct Connected<L: DeskName, P, Q, G> {
+    pub(crate) parted: Parted<L, Q, G>,
+    pub(crate) fault: Option<ConnectFault>,
+    pub(crate) port: Closed<P>,
+}
+
+/// Where there was no room for any connection.
+fn none_connected<L: DeskName, P: Drop, Q, G>(alloc: Global, port: P) -> Connected<L, P, Q, G>
+    ensures seats { result.parted.seats.items ≡ [] }
+    ensures pens { result.parted.pens.items ≡ [] }
+    ensures gone { result.parted.gone.items ≡ [] }
+    ensures fault { result.fault ≡ Some NoThread }
+    ensures port { at_close result.port ≡ port }
+{
+    Connected {
+        parted: Parted {
+            seats: Vec::new(alloc),
+            pens: Vec::new(alloc),
+            gone: Vec::new(alloc),
+        },
+        fault: Some(ConnectFault::Memory),
+        port: Closed::new(port),
+    }
+}
+
+/// The fault that is there already, or that a request could not be kept in one of the visits.
+fn fault_of<L: DeskName, Q, G>(
+    fault: Option<ConnectFault>,
+    visits: &[Visit<L, Q, G>],
+) -> Option<ConnectFault>
+    ensures { result ≡ fault_of fault (list_any (λ visit. visit.sitting.has_failed) visits.now) }
+{
+    match fault {
+        None if any_failed(visits) => Some(ConnectFault::Journal),
+        fault => fault,
+    }
+}
+
+/// Accepts a client for each of the sittings, in order, each with a thread of its own, and closes the port. Once all
+/// sessions have ended it gives the seats and the pens back in their order, with room for as many seats more, and what is
+/// left of the clients; and the first of these faults:
 /// - `Port`: a client could not be accepted,
 /// - `Memory`: no thread could be started for a connection, or there was no room for the seats,
 /// - `Journal`: a request could not be kept.
+///
+/// Behind one of the first two the other sittings have not served, and are let go.
 pub(crate) fn connect<
     'a,
     L: DeskName + Send + Sync,
@@ -327,22 +410,28 @@ pub(crate) fn connect<
     counter: &Counter<'a, L, K, OpenGate, T>,
     sittings: Vec<Sitting<L, Q>>,
     more: usize,
-) -> Result<Parted<L, Q, G>, ConnectFault>
+) -> Connected<L, P, Q, G>
     requires fits { vec_len sittings + more < 2 ^ 64 }
-    ensures served { IfOk result (λ back. AreParted K.kept (P.coming port) sittings.items
-        back.seats.items back.pens.items (map C.parting back.gone.items)) }
-    ensures room { IfOk result (λ back. vec_len back.seats + more ≤ vec_capacity back.seats) }
-    ensures journal { result ≡ Err NotKeptInSession → OneKnows K.failed }
-    ensures port { result ≡ Err NoClient → FewerCome (P.coming port) (vec_len sittings) }
+    ensures served { result.fault ≡ None → AreParted K.kept (P.coming port) sittings.items
+        result.parted.seats.items result.parted.pens.items (map C.parting result.parted.gone.items) }
+    ensures stands { StandsConnected K.kept (P.coming port) (P.coming (at_close result.port)) sittings.items
+        result.parted.pens.items (map C.parting result.parted.gone.items) result.fault }
+    ensures room { result.fault ≡ None → vec_len result.parted.seats + more ≤ vec_capacity result.parted.seats }
+    ensures journal { result.fault ≡ Some NotKeptInSession → OneKnows K.failed result.parted.pens.items }
 {
-    let room = Parted {
-        seats: Vec::with_capacity(alloc, sittings.len() + more)?,
-        pens: Vec::with_capacity(alloc, sittings.len())?,
-        gone: Vec::with_capacity(alloc, sittings.len())?,
+    let room = room_for(alloc, sittings.len(), more);
+    let Ok(Room { visits, parted }) = room else {
+        return none_connected(alloc, port);
     };
-    let visits = visit_all(rt, alloc, port, counter, sittings)?;
-    if any_failed(visits.as_slice()) {
-        return Err(ConnectFault::Journal);
+    let Visited {
+        visits,
+        fault,
+        port,
+    } = visit_all(rt, alloc, port, counter, sittings, visits);
+    let fault = fault_of(fault, visits.as_slice());
+    Connected {
+        parted: part_all(visits, parted),
+        fault,
+        port,
     }
-    Ok(part_all(visits, room))
 }

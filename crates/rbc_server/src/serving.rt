@@ -1,24 +1,25 @@
 //! A centre that serves connections.
 
-ghost use Rattle.std.specs.Prelude.{◌≡◌, ◌↔◌, ◌+◌, ◌<◌, ◌≤◌, [], List, All, false, take, map, length, vec_len, vec_capacity, IsTrue, IfOk, IfErr, OnOk, Err};
+ghost use Rattle.std.specs.Prelude.{◌≡◌, ◌≢◌, ◌↔◌, ◌+◌, ◌<◌, ◌≤◌, [], List, Option, All, false, take, map, length, vec_len, vec_capacity, IsTrue, IsErrAnd, IfOk, IfErr, OnOk, Err};
 ghost use Rattle.std.specs.Io.KnownBytes.{Appends};
 ghost use Rattle.rbc_model.specs.Histories.{IsLegal};
-ghost use Rattle.rbc_port.specs.Clients.{FewerCome};
+ghost use Rattle.rbc_port.specs.Clients.{Coming, FewerCome, Parting, at_close};
 ghost use Rattle.rbc_sessions.specs.Later.{IsLater};
 ghost use Rattle.rbc_sessions.specs.Outcomes.{IsToldToOne};
 ghost use Rattle.rbc_sessions.specs.Records.{HistoryOnTrack};
 ghost use Rattle.rbc_sessions.specs.Seats.{Seated};
 ghost use Rattle.rbc_sessions.specs.declared.keeping.KeepFault.TheVariants.{Journal as KeeperFailed};
-ghost use Rattle.rbc_server.specs.Connections.{OneKnows};
-ghost use Rattle.rbc_server.specs.Serving.{closed_line, AreKept, IsAttended, IsClosed, IsCloseFault, IsServed, IsServeFault};
+ghost use Rattle.rbc_server.specs.Connections.{AreParted, OneKnows};
+ghost use Rattle.rbc_server.specs.Serving.{closed_line, AreKept, GoOn, IsAttended, IsClosed, IsCloseFault, IsCutOff, IsServed, IsServeFault, IsSweepFault};
 ghost use Rattle.rbc_server.specs.declared.serving.ServeFault.TheVariants.{Port as PortFault, Write as WriteFault, Memory as NoMemory, Journal as JournalFault};
+ghost use Rattle.rbc_server.specs.declared.staff.Staff.{Staff as Serving};
 
 use crate::bringing::{bring, bring_all};
-use crate::connections::{ConnectFault, Parted, connect};
+use crate::connections::{ConnectFault, Connected, Parted, connect};
 use crate::outcomes::{print_closed, print_outcomes};
 use crate::{Counter, KeepFault, Keeper, Staff};
 use rbc_model::Memory;
-use rbc_port::{Client, Clients};
+use rbc_port::{Client, Clients, Closed};
 use rbc_sessions::{CloseFault, Desk, DeskName, OpenGate, Outcome, Record, Seat, Sight, sweep};
 use rbc_streams::{Sink, Source, WriteFailed};
 use std::alloc::{AllocError, Global};
@@ -142,7 +143,8 @@ fn keep_swept<'a, L: DeskName, K: Keeper<L>, G, R: Wait>(
     requires told { (before : List Seated) × All (IsToldToOne before swept.now) outcomes.now }
     ensures kept { OnOk result (AreKept K.kept swept.now visited.old.seats.items visited.old.pens.items outcomes.now
         visited.new.seats.items visited.new.pens.items) }
-    ensures journal { result ≡ Err KeeperFailed → OneKnows K.failed }
+    ensures journal { result ≡ Err KeeperFailed → OneKnows K.failed visited.new.pens.items }
+    ensures pens { GoOn K.kept visited.old.pens.items visited.new.pens.items }
     ensures room { vec_capacity visited.new.seats ≡ vec_capacity visited.old.seats }
     ensures gone { visited.new.gone.items ≡ visited.old.gone.items }
 {
@@ -161,9 +163,102 @@ fn first_sight<L: DeskName>(seats: &[Seat<L>]) -> Sight
     seats[0].sight()
 }
 
-/// Serves a client from each of the sittings. Once all sessions have ended the workers are told what these were told, and
-/// serve a sweep. What it granted is kept, and its outcomes are printed. Gives all seats back, in their order, with the pens
-/// and what is left of the clients.
+/// Behind sessions the workers are told what these were told, and serve a sweep. What it granted is kept, and its outcomes are
+/// printed. The workers' seats join those of the sessions.
+///
+/// # Errors
+///
+/// The first of these:
+/// - `Memory`: the allocator refused it; nothing was printed,
+/// - `Journal`: a request could not be kept; nothing was printed,
+/// - `Write`: the writer failed.
+#[tactic(auto, using(crate::proofs::ServingLemmas::go_on_same))]
+fn sweep_behind<'a, L: DeskName + Send + Sync, K: Keeper<L>, G, W: Sink, T: Threads + Wait + Sync>(
+    rt: &T,
+    alloc: Global,
+    counter: &Counter<'a, L, K, OpenGate, T>,
+    visited: &mut Parted<L, K::Pen, G>,
+    workers: Vec<Seat<L>>,
+    writer: &mut W,
+) -> Result<(), ServeFault>
+    requires going { W.failed writer.old ≡ false }
+    requires some { 1 ≤ vec_len visited.old.seats }
+    requires one_each { vec_len visited.old.pens ≡ vec_len visited.old.seats }
+    requires workers { 1 ≤ vec_len workers }
+    requires few { vec_len workers ≤ 16 }
+    requires room { vec_len visited.old.seats + vec_len workers ≤ vec_capacity visited.old.seats }
+    ensures attended { OnOk result ((coming : Option (List Coming)) (partings : List Parting) (staff : Serving L K.Pen) → staff.workers.items ≡ workers.items
+        → AreParted K.kept coming staff.sittings.items visited.old.seats.items visited.old.pens.items partings
+        → IsAttended K.kept L.opened.track coming partings staff visited.new.seats.items visited.new.pens.items (W.written writer.old) (W.written writer.new)) }
+    ensures cut_off { result ≡ Err WriteFault → (coming : Option (List Coming)) (partings : List Parting) (staff : Serving L K.Pen) → staff.workers.items ≡ workers.items
+        → AreParted K.kept coming staff.sittings.items visited.old.seats.items visited.old.pens.items partings
+        → IsCutOff K.kept L.opened.track coming partings staff visited.new.pens.items (W.written writer.old) (W.written writer.new) }
+    ensures pens { GoOn K.kept visited.old.pens.items visited.new.pens.items }
+    ensures gone { visited.new.gone.items ≡ visited.old.gone.items }
+    ensures unwritten { IfErr result (λ fault. fault ≢ WriteFault → writer.new ≡ writer.old) }
+    ensures journal_failed { result ≡ Err JournalFault → OneKnows K.failed visited.new.pens.items }
+    ensures write { (result ≡ Err WriteFault) ↔ IsTrue (W.failed writer.new) }
+    ensures which { IfErr result IsSweepFault }
+{
+    // The track is sound, so what stands beyond an end, or in the way, is of the track.
+    counter.track.known();
+    let workers = bring_all(workers, visited.seats.as_slice());
+    are_on_track(workers.as_slice());
+    let (mut workers, outcomes) = sweep(rt, alloc, counter.desk, workers, &OpenGate);
+    let outcomes = outcomes?;
+    keep_swept(
+        alloc,
+        counter,
+        visited,
+        workers.as_slice(),
+        outcomes.as_slice(),
+    )?;
+    print_outcomes(counter.track, outcomes.as_slice(), writer)?;
+    visited.seats.append(&mut workers)?;
+    Ok(())
+}
+
+/// Where serving clients ended with a fault: the fault, and what stands.
+#[derive(Drop)]
+pub struct Unserved<P, Q, G> {
+    /// The fault.
+    pub fault: ServeFault,
+    /// The pens of the connections that there were, in order, as the fault left them.
+    pub pens: Vec<Q>,
+    /// What is left of each client that was served, in order.
+    pub clients: Vec<G>,
+    /// No more clients are accepted.
+    pub port: Closed<P>,
+}
+
+/// The same of connections whose seats are let go.
+fn faulted<L: DeskName, P, Q, G>(
+    fault: ServeFault,
+    visited: Parted<L, Q, G>,
+    port: Closed<P>,
+) -> Unserved<P, Q, G>
+    ensures { result ≡ record {
+      fault = fault;
+      pens = visited.pens;
+      clients = visited.gone;
+      port = port;
+    } }
+{
+    let Parted {
+        pens,
+        gone: clients,
+        ..
+    } = visited;
+    Unserved {
+        fault,
+        pens,
+        clients,
+        port,
+    }
+}
+
+/// Serves a client from each of the sittings. Once all sessions have ended a sweep is made with the workers' seats. Gives all
+/// seats back, in their order, with the pens and what is left of the clients.
 ///
 /// # Errors
 ///
@@ -188,40 +283,32 @@ fn attend<
     counter: &Counter<'a, L, K, OpenGate, T>,
     staff: Staff<L, Q>,
     writer: &mut W,
-) -> Result<Parted<L, Q, G>, ServeFault>
+) -> Result<(Parted<L, Q, G>, Closed<P>), Unserved<P, Q, G>>
     requires going { W.failed writer.old ≡ false }
     requires some { 1 ≤ vec_len staff.sittings }
     requires workers { 1 ≤ vec_len staff.workers }
     requires few { vec_len staff.sittings + vec_len staff.workers ≤ 16 }
-    ensures attended { IfOk result (λ back. IsAttended K.kept L.opened.track (P.coming port) (map C.parting back.gone.items)
-        staff back.seats.items back.pens.items (W.written writer.old) (W.written writer.new)) }
-    ensures port { result ≡ Err PortFault → writer.new ≡ writer.old }
-    ensures no_client { result ≡ Err PortFault → FewerCome (P.coming port) (vec_len staff.sittings) }
-    ensures memory { result ≡ Err NoMemory → writer.new ≡ writer.old }
-    ensures journal { result ≡ Err JournalFault → writer.new ≡ writer.old }
-    ensures journal_failed { result ≡ Err JournalFault → OneKnows K.failed }
-    ensures write { (result ≡ Err WriteFault) ↔ IsTrue (W.failed writer.new) }
-    ensures fault { IfErr result (IsServeFault K.kept L.opened (P.coming port) L.parts staff
-        (W.written writer.old) (W.written writer.new)) }
+    ensures attended { IfOk result (λ back. IsAttended K.kept L.opened.track (P.coming port) (map C.parting back.0.gone.items)
+        staff back.0.seats.items back.0.pens.items (W.written writer.old) (W.written writer.new)) }
+    ensures unwritten { IfErr result (λ unserved. unserved.fault ≢ WriteFault → writer.new ≡ writer.old) }
+    ensures journal_failed { IfErr result (λ unserved. unserved.fault ≡ JournalFault → OneKnows K.failed unserved.pens.items) }
+    ensures write { IsErrAnd result (λ unserved. unserved.fault ≡ WriteFault) ↔ IsTrue (W.failed writer.new) }
+    ensures fault { IfErr result (λ unserved. IsServeFault K.kept L.opened (P.coming port) (P.coming (at_close unserved.port)) L.parts
+        (map C.parting unserved.clients.items) staff unserved.pens.items (W.written writer.old) (W.written writer.new) unserved.fault) }
 {
-    // The track is sound, so what stands beyond an end, or in the way, is of the track.
-    counter.track.known();
     let Staff { sittings, workers } = staff;
-    let mut visited = connect(rt, alloc, port, counter, sittings, workers.len())?;
-    let workers = bring_all(workers, visited.seats.as_slice());
-    are_on_track(workers.as_slice());
-    let (mut workers, outcomes) = sweep(rt, alloc, counter.desk, workers, &OpenGate);
-    let outcomes = outcomes?;
-    keep_swept(
-        alloc,
-        counter,
-        &mut visited,
-        workers.as_slice(),
-        outcomes.as_slice(),
-    )?;
-    print_outcomes(counter.track, outcomes.as_slice(), writer)?;
-    visited.seats.append(&mut workers)?;
-    Ok(visited)
+    let Connected {
+        parted: mut visited,
+        fault,
+        port,
+    } = connect(rt, alloc, port, counter, sittings, workers.len());
+    if let Some(fault) = fault {
+        return Err(faulted(ServeFault::from(fault), visited, port));
+    }
+    match sweep_behind(rt, alloc, counter, &mut visited, workers, writer) {
+        Ok(()) => Ok((visited, port)),
+        Err(fault) => Err(faulted(fault, visited, port)),
+    }
 }
 
 /// Closes the desk, and prints how many entries the record has.
@@ -275,7 +362,8 @@ pub struct Served<Q, G> {
 ///
 /// # Errors
 ///
-/// The first of these. The sessions that were begun have ended then.
+/// The first of these. The sessions that were begun have ended then; the pens come back, and what is left of each client that
+/// was served.
 /// - `Port`: a client could not be accepted; nothing was printed,
 /// - `Memory`: the allocator refused it, or no thread could be started for a connection; nothing was printed,
 /// - `Journal`: a request could not be kept, in a session or behind the sweep; nothing was printed,
@@ -301,7 +389,7 @@ pub fn serve<
     desk: Desk<L>,
     staff: Staff<L, Q>,
     writer: &mut W,
-) -> Result<Served<Q, G>, ServeFault>
+) -> Result<Served<Q, G>, Unserved<P, Q, G>>
     requires going { W.failed writer.old ≡ false }
     requires some { 1 ≤ vec_len staff.sittings }
     requires workers { 1 ≤ vec_len staff.workers }
@@ -327,16 +415,19 @@ pub fn serve<
 
     // Where a client could not be had, memory was refused or a request could not be kept, nothing is written; and where it is
     // known who comes, fewer come than are to be served. That a request could not be kept is told only where a pen knows that
-    // keeping has failed. A write fault is answered exactly where the writer failed; then a
-    // part of the text is written, from its start. Where the desk can't be closed the outcomes are told.
-    ensures port { result ≡ Err PortFault → writer.new ≡ writer.old }
-    ensures no_client { result ≡ Err PortFault → FewerCome (P.coming port) (vec_len staff.sittings) }
-    ensures memory { result ≡ Err NoMemory → writer.new ≡ writer.old }
-    ensures journal { result ≡ Err JournalFault → writer.new ≡ writer.old }
-    ensures journal_failed { result ≡ Err JournalFault → OneKnows K.failed }
-    ensures write { (result ≡ Err WriteFault) ↔ IsTrue (W.failed writer.new) }
-    ensures fault { IfErr result (IsServeFault K.kept L.opened (P.coming port) L.parts staff
-        (W.written writer.old) (W.written writer.new)) }
+    // keeping has failed. A write fault is answered exactly where the writer failed.
+    ensures port { IfErr result (λ unserved. unserved.fault ≡ PortFault → writer.new ≡ writer.old) }
+    ensures no_client { IfErr result (λ unserved. unserved.fault ≡ PortFault → FewerCome (P.coming port) (vec_len staff.sittings)) }
+    ensures memory { IfErr result (λ unserved. unserved.fault ≡ NoMemory → writer.new ≡ writer.old) }
+    ensures journal { IfErr result (λ unserved. unserved.fault ≡ JournalFault → writer.new ≡ writer.old) }
+    ensures journal_failed { IfErr result (λ unserved. unserved.fault ≡ JournalFault → OneKnows K.failed unserved.pens.items) }
+    ensures write { IsErrAnd result (λ unserved. unserved.fault ≡ WriteFault) ↔ IsTrue (W.failed writer.new) }
+
+    // What stands behind a fault: of the clients that came, in order, all were served as above, but maybe the last one where
+    // memory was refused. The pens come back, and what is left of these clients. Behind a write fault a part of the text is
+    // written, from its start. Where the desk can't be closed the outcomes are told.
+    ensures fault { IfErr result (λ unserved. IsServeFault K.kept L.opened (P.coming port) (P.coming (at_close unserved.port)) L.parts
+        (map C.parting unserved.clients.items) staff unserved.pens.items (W.written writer.old) (W.written writer.new) unserved.fault) }
 {
     let attended = attend(
         rt,
@@ -347,13 +438,12 @@ pub fn serve<
         writer,
     );
     match attended {
-        Ok(
-            Parted {
+        Ok((visited, port)) => {
+            let Parted {
                 seats,
                 pens,
                 gone: clients,
-            },
-        ) => {
+            } = visited;
             let told = first_sight(seats.as_slice());
             match close_desk(rt, desk, seats, writer) {
                 Ok(record) => Ok(Served {
@@ -362,12 +452,17 @@ pub fn serve<
                     pens,
                     clients,
                 }),
-                Err(fault) => Err(fault),
+                Err(fault) => Err(Unserved {
+                    fault,
+                    pens,
+                    clients,
+                    port,
+                }),
             }
         }
-        Err(fault) => {
+        Err(unserved) => {
             desk.end(rt);
-            Err(fault)
+            Err(unserved)
         }
     }
 }

@@ -16,7 +16,21 @@ scoped-requires g c = record {
       search rules,
       search rules,
       search rules,
+      search rules,
+      search rules,
     ),
-    search rules,
+    (
+      search rules,
+      search rules,
+      search rules,
+      search rules,
+      search rules,
+      search rules,
+      search rules,
+      search rules,
+      search rules,
+      search rules,
+      search rules,
+    ),
   );
 }

@@ -2,7 +2,7 @@ use Rattle.std.proofs.Common.{◌<◌, length, arith}
 use Rattle.std.proofs.lemmas.List.{get_or_read}
 use Rattle.std.proofs.lemmas.Result.{on_ok_weaker}
 use Rattle.rbc_server.proofs.BringingLemmas.{all_told}
-use Rattle.rbc_server.proofs.ServingLemmas.{swept_kept}
+use Rattle.rbc_server.proofs.ServingLemmas.{first_knows, go_on_first, swept_kept}
 use Rattle.rbc_server.proofs.serving.keep_swept.Goals as goal
 
 pub keep_grants-requires : goal.keep_grants-requires
@@ -19,3 +19,15 @@ returns-clause-kept g c =
     c.keep_grants.new.pen some one (get_or_read visited.seats.items 0 _ some c.index_mut-first.ensures.value c.index_mut-first.result.now)
     (get_or_read visited.pens.items 0 _ one c.index_mut.ensures.value c.index_mut.result.now) c.bring.ensures c.keep_grants.ensures.stays granted_kept)
     c.keep_grants.ensures.kept
+
+pub returns-clause-journal : goal.returns-clause-journal
+returns-clause-journal g c = λ broken.
+    let visited = c.args.visited.now in
+    let one : 0 < length visited.pens.items = omega (arith, visited.pens.ok.0, visited.seats.ok.0, c.requires.some, c.requires.one_each) in
+    first_knows g.K.Keeper.failed visited.pens.items c.keep_grants.new.pen one (c.keep_grants.ensures.journal broken)
+
+pub returns-clause-pens : goal.returns-clause-pens
+returns-clause-pens g c =
+    let visited = c.args.visited.now in
+    let one : 0 < length visited.pens.items = omega (arith, visited.pens.ok.0, visited.seats.ok.0, c.requires.some, c.requires.one_each) in
+    go_on_first g.K.Keeper.kept visited.pens.items c.index_mut.result.now c.keep_grants.new.pen one (get_or_read visited.pens.items 0 _ one c.index_mut.ensures.value c.index_mut.result.now) c.keep_grants.ensures.stays

@@ -1,19 +1,17 @@
-use Rattle.std.proofs.Common.{◌≡◌, Bool, true, false, Result, Err, refl, ap, ◌∙◌, subst, sym}
-use Rattle.std.specs.Prelude.{All}
+use Rattle.std.proofs.Common.{◌≡◌, Bool, true, false, length, refl, map, sym, subst, arith}
+use Rattle.std.specs.Prelude.{All, vec_len}
+use Rattle.rbc_port.specs.Clients.{FewerCome, at_close}
 use Rattle.rbc_sessions.specs.Later.{IsLater}
 use Rattle.rbc_sessions.specs.Seats.{Seated}
-use Rattle.rbc_server.proofs.ServingLemmas.{fault_told}
+use Rattle.rbc_server.proofs.ServingLemmas.{fewer_told, unclosed_told}
 use Rattle.rbc_server.proofs.serving.serve.Goals as goal
 
 not_true : (b : Bool) → (b ≡ true → ⊥) → b ≡ false
 not_true true f = absurd (f refl)
 not_true false f = refl
 
-the_fault : {A E : Type 0} (x y : E) (r : Result A E) → r ≡ Err x → r ≡ Err y → x ≡ y
-the_fault x y r one two = cc (one, two)
-
 pub close_desk-requires : goal.close_desk-requires
-close_desk-requires g c = not_true (g.W.Sink.failed c.attend-attended.new.writer) (λ failed. absurd (cc (c.in-Ok.is, c.attend-attended.ensures.write.1 failed)))
+close_desk-requires g c = not_true (g.W.Sink.failed c.attend-attended.new.writer) (λ failed. c.in-Ok.ensures.write.1 failed)
 
 pub returns-in-Ok-close_desk-clause-told : goal.returns-in-Ok-close_desk-clause-told
 returns-in-Ok-close_desk-clause-told g c =
@@ -23,8 +21,15 @@ returns-in-Ok-close_desk-clause-told g c =
 
 pub returns-in-Err-close_desk-clause-fault : goal.returns-in-Err-close_desk-clause-fault
 returns-in-Err-close_desk-clause-fault g c =
-    fault_told {L = g.row.L.Denot} {P = g.row.Q.Denot} {T = Unit {0}} g.K.Keeper.kept (Err c.in-Err-close_desk.fault) g.L.DeskName.opened (g.P.Clients.coming c.args.port) _ g.L.Ledger.parts
-    c.args.staff _ _ _ _ (g.W.Sink.written c.close_desk.new.writer) c.in-Ok.ensures.attended c.in-Err-close_desk.ensures.fault
+    unclosed_told g.K.Keeper.kept g.L.DeskName.opened (g.P.Clients.coming c.args.port) _ g.L.Ledger.parts _
+    c.args.staff _ (g.W.Sink.written c.close_desk.new.writer) _ _ _ c.in-Err-close_desk.fault c.in-Ok.ensures.attended c.in-Err-close_desk.ensures.fault
 
-pub returns-in-Err-clause-journal_failed : goal.returns-in-Err-clause-journal_failed
-returns-in-Err-clause-journal_failed g c = λ e. c.attend-attended.ensures.journal_failed (c.in-Err.is ∙ ap Err (the_fault c.in-Err.fault _ _ refl e))
+pub returns-in-Err-clause-no_client : goal.returns-in-Err-clause-no_client
+returns-in-Err-clause-no_client g c = λ is.
+    let sittings = c.args.staff.sittings in
+    let coming = g.P.Clients.coming c.args.port in
+    let unserved = c.in-Err.unserved in
+    let as_many : length sittings.items ≡ vec_len sittings = omega (arith, sittings.ok.0) in
+    subst (FewerCome coming) as_many
+    (fewer_told g.K.Keeper.kept g.L.DeskName.opened coming (g.P.Clients.coming (at_close unserved.port)) g.L.Ledger.parts (map g.C.Client.parting unserved.clients.items) c.args.staff
+    (g.W.Sink.written c.args.writer.now) (g.W.Sink.written c.attend-attended.new.writer) unserved.pens.items unserved.fault c.in-Err.ensures.fault is)
