@@ -4,5 +4,5 @@
 /// of the logic that proves them.
 pub(crate) const VERSION: &str = "\
 0.1.0
-sources 02d6c9839ac2a998031700e2f7ad722d5be76fc1e7449a72f6aa40ed374ecc59
+sources ebeaa5fc0ff313657b2a2a978651691409f3eceeb468627eed457036bde8688c
 logic dac8208d650f15bf";

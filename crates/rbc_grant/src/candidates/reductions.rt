@@ -15,7 +15,7 @@ use std::thread::Threads;
 const MANY_RUNS: usize = 400;
 
 /// As many runs are reduced in threads already, each of both tables in all of them.
-const MOST_RUNS: usize = 1_024;
+const MOST_RUNS: usize = 2_048;
 
 /// The chosen profile of the speeds that a view shows.
 fn reduced_speeds(
