@@ -48,8 +48,9 @@ pub fn run<R: Source, W: Sink, D: Device>(
     ensures memory { result ≡ Err (Ended NoMemory)
         → (reader.new ≡ reader.old) × (writer.new ≡ writer.old) × (kept.new ≡ kept.old) }
 
-    // Ok is answered at the end of the input.
+    // Ok is answered at the end of the input, which the last read found.
     ensures end { OnOk result (IsAtEnd (R.left reader.new)) }
+    ensures ended { OnOk result (R.ended reader.new ≡ true) }
 
     // The journal tells the record, unless it failed.
     ensures ready { kept.new.has_failed ≡ false → IsReady D.seen D.may_leave kept.new }

@@ -1,4 +1,4 @@
-use Rattle.std.proofs.Common.{◌∙◌, sym}
+use Rattle.std.proofs.Common.{◌≡◌, ◌∙◌, true, sym}
 use Rattle.std.specs.Io.KnownBytes.{IsAtEnd}
 use Rattle.rbc_server.specs.Answered.{AnswersAll}
 use Rattle.rbc_kept.proofs.EndLemmas.{read_told, write_told, journal_told, broken_told, memory_told, ok_told, handed_told}
@@ -31,6 +31,10 @@ returns-clause-memory g c told = c.converse-ended.ensures.memory (memory_told c.
 pub returns-clause-end : goal.returns-clause-end
 returns-clause-end g c =
     rw c.run_end.ensures (ok_told c.converse-ended.result c.converse-ended.new.answerer.has_failed (IsAtEnd (g.R.Source.left c.converse-ended.new.reader)) (λ whole. c.converse-ended.ensures.end))
+
+pub returns-clause-ended : goal.returns-clause-ended
+returns-clause-ended g c =
+    rw c.run_end.ensures (ok_told c.converse-ended.result c.converse-ended.new.answerer.has_failed (g.R.Source.ended c.converse-ended.new.reader ≡ true) (λ whole. c.converse-ended.ensures.ended))
 
 pub returns-clause-ready : goal.returns-clause-ready
 returns-clause-ready g c whole =
