@@ -185,6 +185,7 @@ fn show_lines<R: Source, W: Sink>(
     ensures going { OnOk result (W.failed writer.new ≡ false) }
     ensures whole { OnOk result (showing.new.lost ≡ false) }
     ensures end { OnOk result (IsAtEnd (R.left reader.new)) }
+    ensures ended { OnOk result (R.ended reader.new ≡ true) }
     ensures talk { (input : List ℕ) × Consumes (R.left reader.old) (R.left reader.new) input
         × OnOk result (IsTalk LONGEST_LINE ShowsLine showing.old showing.new input (W.written writer.old) (W.written writer.new) (Ok tt)) }
 {
@@ -239,8 +240,9 @@ pub fn show<R: Source, W: Sink>(
     ensures read { (result ≡ Err Read) ↔ IsTrue (R.failed reader.new) }
     ensures write { result ≡ Err Write → IsTrue (W.failed writer.new) }
 
-    // Ok is answered at the end of the input, and all was written and handed on.
+    // Ok is answered at the end of the input, which the last read found, and all was written and handed on.
     ensures end { OnOk result (IsAtEnd (R.left reader.new)) }
+    ensures ended { OnOk result (R.ended reader.new ≡ true) }
     ensures handed_on { OnOk result (W.held_back writer.new ≡ []) }
 
     // What was written is the page of what was read.
