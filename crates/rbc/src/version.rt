@@ -4,5 +4,5 @@
 /// of the logic that proves them.
 pub(crate) const VERSION: &str = "\
 0.1.0
-sources ebeaa5fc0ff313657b2a2a978651691409f3eceeb468627eed457036bde8688c
+sources 506e872a0e865a6fe3dba447267330e8ef1d0b922674824957c07b9ca97c95f3
 logic dac8208d650f15bf";
