@@ -1,0 +1,23 @@
+# Completions of rbc for bash.
+_rbc() {
+  local word=${COMP_WORDS[COMP_CWORD]} before=${COMP_WORDS[COMP_CWORD - 1]}
+  if [ "$COMP_CWORD" -eq 1 ]; then
+    COMPREPLY=($(compgen -W "steps check decode draw run show serve help --help --version" -- "$word"))
+    return
+  fi
+  case $before in
+    --history | --journal) compopt -o default; return ;;
+    --port | --connections | --workers | --patience) return ;;
+  esac
+  case ${COMP_WORDS[1]} in
+    steps) COMPREPLY=($(compgen -W "--help" -- "$word")) ;;
+    check) COMPREPLY=($(compgen -W "--help" -- "$word")) ;;
+    decode) COMPREPLY=($(compgen -W "--json --help" -- "$word")) ;;
+    draw) COMPREPLY=($(compgen -W "--help" -- "$word")) ;;
+    run) COMPREPLY=($(compgen -W "--history --journal --help" -- "$word")); compopt -o default ;;
+    show) COMPREPLY=($(compgen -W "--each --help" -- "$word")); compopt -o default ;;
+    serve) COMPREPLY=($(compgen -W "--port --connections --workers --patience --log --journal --help" -- "$word")); compopt -o default ;;
+    help) COMPREPLY=($(compgen -W "steps check decode draw run show serve help" -- "$word")) ;;
+  esac
+}
+complete -F _rbc rbc
