@@ -5,7 +5,7 @@ use Rattle.rbc_costs.specs.Sums.{IsCheapest, price_up_to, row_in}
 
 -- ---- the least price so far
 
-lesser : (a b : ℕ) → ((min a b ≡ a) × (a ≤ b)) ⊎ ((min a b ≡ b) × (b ≤ a))
+pub lesser : (a b : ℕ) → ((min a b ≡ a) × (a ≤ b)) ⊎ ((min a b ≡ b) × (b ≤ a))
 lesser a b = grind arith
 
 pub last_or_before : (i to : ℕ) → i < to + 1 → (i ≡ to) ⊎ (i < to)

@@ -1,26 +1,26 @@
 //! The least of many sums.
-ghost use Rattle.std.specs.Prelude.{◌≡◌, ℕ, ◌+◌, ◌<◌, ◌≤◌, map, length, slice_index};
+ghost use Rattle.std.specs.Prelude.{◌≡◌, ℕ, ◌+◌, ◌-◌, ◌<◌, ◌≤◌, map, length, slice_index};
 ghost use Rattle.rbc_costs.specs.Sums.{IsCheapest, price_up_to};
 
 use crate::total::Total;
 
-/// The least price with one step more than those `before` have, where that step costs so much from each break, and the
-/// least one from the breaks below `from` is known. There is no way out of the loop before its end: a processor takes
-/// several breaks at once.
-pub fn cheapest_from<N: Total>(known: N, before: &[N], costs: &[N], from: usize) -> N
+/// The least price with one step more than those `before` have, where the least one from the breaks below `from` is known.
+/// What that step costs from each break from there on stands in `costs`, `cut` places before the break's number. There is no
+/// way out of the loop before its end: a processor takes several breaks at once.
+pub fn cheapest_from<N: Total>(known: N, before: &[N], costs: &[N], from: usize, cut: usize) -> N
     requires some { 0 < from }
-    requires inside { from ≤ length costs.now }
-    requires room { length costs.now ≤ length before.now + 1 }
+    requires low { cut ≤ from }
+    requires inside { from ≤ cut + length costs.now }
+    requires room { cut + length costs.now ≤ length before.now + 1 }
     requires small { (i : ℕ) → slice_index (map N.number before.now) i ≤ N.most }
     requires small_costs { (i : ℕ) → slice_index (map N.number costs.now) i ≤ N.most }
-    requires known { IsCheapest (price_up_to (map N.number before.now)) (slice_index (map N.number costs.now))
-        from (N.number known) }
-    ensures { IsCheapest (price_up_to (map N.number before.now)) (slice_index (map N.number costs.now))
-        (length costs.now) (N.number result) }
+    ensures { (cost : ℕ → ℕ) → ((i : ℕ) → from ≤ i → i < cut + length costs.now → slice_index (map N.number costs.now) (i - cut) ≡ cost i)
+        → IsCheapest (price_up_to (map N.number before.now)) cost from (N.number known)
+        → IsCheapest (price_up_to (map N.number before.now)) cost (cut + length costs.now) (N.number result) }
 {
     let mut price = known;
-    for i in from..costs.len() {
-        price = price.least(before[i - 1].plus(costs[i]));
+    for i in from - cut..costs.len() {
+        price = price.least(before[cut + i - 1].plus(costs[i]));
     }
     price
 }
@@ -34,7 +34,7 @@ pub fn cheapest<N: Total>(before: &[N], costs: &[N]) -> N
     ensures { IsCheapest (price_up_to (map N.number before.now)) (slice_index (map N.number costs.now))
         (length costs.now) (N.number result) }
 {
-    cheapest_from(costs[0], before, costs, 1)
+    cheapest_from(costs[0], before, costs, 1, 0)
 }
 
 /// Four totals.

@@ -8,8 +8,10 @@ ghost use Rattle.rbc_table_laws.specs.Stretches.{cost_of_step};
 ghost use Rattle.rbc_reduce.specs.Rows.{AreFilled, AreSmall, price_in, row_at, row_in};
 ghost use Rattle.rbc_costs.specs.Stretches.{AreLowFrom, AreStretches};
 
+use crate::parts::fill_in_threads;
 use crate::table::{add_column, empty_rows};
-use crate::tiles::fill_in_tiles;
+use crate::tiles::fill_by_fours;
+use rayon::current_num_threads;
 use rbc_costs::{Priced, Stretch, Total, low_from, next_costs};
 use rbc_model::Memory;
 use rbc_steps::{Level, Runs};
@@ -19,6 +21,10 @@ use std::thread::Threads;
 /// With at most this number of stretches a table is filled in totals of 64 bits: narrower ones would save less than it
 /// takes to widen them. And what one step costs from each of their breaks is kept in place.
 const FEW: usize = 16;
+
+/// From this number of stretches on a table is filled in threads, where there is more than one processor. Below, they save
+/// less than wide tiles take longer to finish.
+const WIDE: usize = 2_048;
 
 /// The numbers of totals.
 fn numbers_of<N: Total>(alloc: Global, totals: &[N]) -> Result<Vec<u64>, Memory>
@@ -96,6 +102,29 @@ fn fill_rows<V: Level>(
     Ok(())
 }
 
+/// Fills rows, which are empty, with the prices up to each break but the first, in threads where that pays.
+fn fill_table<V: Level, N: Total>(
+    rt: &(impl Threads + Sync),
+    alloc: Global,
+    track: &Runs<V>,
+    stretches: &[(Stretch, V)],
+    rows: &mut Vec<Vec<N>>,
+) -> Result<(), Memory>
+    requires stretches { AreStretches V.levels (unit_of track.now.end) track.now stretches.now }
+    requires some { 0 < length rows.old.items }
+    requires empty { (j : ℕ) → row_in N.number rows.old.items j ≡ [] }
+    requires small { (i to : ℕ) → i < to → to ≤ length stretches.now
+        → cost_of_step V.levels (unit_of track.now.end) track.now i to ≤ N.most }
+    ensures size { length rows.new.items ≡ length rows.old.items }
+    ensures filled { OnOk result (AreFilled (cost_of_step V.levels (unit_of track.now.end) track.now)
+        (length rows.old.items) (row_in N.number rows.new.items) (length stretches.now)) }
+{
+    if stretches.len() < WIDE || current_num_threads(rt) == 1 {
+        return fill_by_fours(alloc, track, stretches, rows);
+    }
+    fill_in_threads(rt, alloc, track, stretches, rows)
+}
+
 /// `count` rows of prices up to each break but the first.
 fn filled<V: Level, N: Total>(
     rt: &(impl Threads + Sync),
@@ -113,7 +142,7 @@ fn filled<V: Level, N: Total>(
         (row_in N.number rows.items) (length stretches.now)) }
 {
     let mut rows = empty_rows(alloc, count, stretches.len())?;
-    fill_in_tiles(rt, alloc, track, stretches, &mut rows)?;
+    fill_table(rt, alloc, track, stretches, &mut rows)?;
     Ok(rows)
 }
 

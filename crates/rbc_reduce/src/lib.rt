@@ -8,6 +8,7 @@
 #![tactic(auto)]
 
 mod fill;
+mod parts;
 mod reduction;
 mod table;
 mod tiles;

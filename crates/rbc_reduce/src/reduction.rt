@@ -33,8 +33,9 @@ pub struct Reduced<V: Level> {
 ///
 /// The table is filled four breaks at a time, and what one step costs is held up to those alone. So it holds 12 bytes for
 /// each price of the table while it works, and some 50 bytes for each run: 1.4 MB for 3,100 runs and 31 steps, and up to
-/// twice as much where it cuts at tens. A wide table is filled in threads, tile by tile: then what one step costs is held up to
-/// as many breaks as a tile has, which takes 1 kB more for each stretch.
+/// twice as much where it cuts at tens. A wide table is filled in threads, tile by tile, where there is more than one processor:
+/// then each thread holds what one step costs up to four breaks of its own, some 30 bytes for each stretch, and a tile takes
+/// 0.2 MB.
 ///
 /// # Errors
 /// `Memory` is the only one.

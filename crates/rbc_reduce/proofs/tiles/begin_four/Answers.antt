@@ -16,23 +16,23 @@ use Rattle.rbc_reduce.proofs.tiles.begin_four.Goals.{After-as_slice}
 
 -- ---- the columns
 
-first_there : (g : Over) (c : After-as_slice g) → slice_get c.args.columns.now c.args.first ≡ Some c.index-columns-first.result
-first_there g c = slice_get-get_or c.args.columns.now c.args.first c.index-columns-first.result c.requires.inside ∙ ap Some (sym c.index-columns-first.is)
+first_there : (g : Over) (c : After-as_slice g) → slice_get c.args.columns.now 1 ≡ Some c.index-columns-1.result
+first_there g c = slice_get-get_or c.args.columns.now 1 c.index-columns-1.result c.requires.inside ∙ ap Some (sym c.index-columns-1.is)
 
 second_there : (g : Over) (c : After-as_slice g) → slice_get c.args.columns.now c.min.result ≡ Some c.index-columns-min.result
-second_there g c = slice_get-get_or c.args.columns.now c.min.result c.index-columns-min.result (let high = min_high (length c.args.columns.now - 1) (c.args.first + 1) in omega (arith, c.min.ensures, high, c.requires.inside)) ∙ ap Some (sym c.index-columns-min.is)
+second_there g c = slice_get-get_or c.args.columns.now c.min.result c.index-columns-min.result (let high = min_high (length c.args.columns.now - 1) (1 + 1) in omega (arith, c.min.ensures, high, c.requires.inside)) ∙ ap Some (sym c.index-columns-min.is)
 
 third_there : (g : Over) (c : After-as_slice g) → slice_get c.args.columns.now c.min-2.result ≡ Some c.index-columns-min-2.result
-third_there g c = slice_get-get_or c.args.columns.now c.min-2.result c.index-columns-min-2.result (let high = min_high (length c.args.columns.now - 1) (c.args.first + 2) in omega (arith, c.min-2.ensures, high, c.requires.inside)) ∙ ap Some (sym c.index-columns-min-2.is)
+third_there g c = slice_get-get_or c.args.columns.now c.min-2.result c.index-columns-min-2.result (let high = min_high (length c.args.columns.now - 1) (1 + 2) in omega (arith, c.min-2.ensures, high, c.requires.inside)) ∙ ap Some (sym c.index-columns-min-2.is)
 
 fourth_there : (g : Over) (c : After-as_slice g) → slice_get c.args.columns.now c.min-3.result ≡ Some c.index-columns-min-3.result
-fourth_there g c = slice_get-get_or c.args.columns.now c.min-3.result c.index-columns-min-3.result (let high = min_high (length c.args.columns.now - 1) (c.args.first + 3) in omega (arith, c.min-3.ensures, high, c.requires.inside)) ∙ ap Some (sym c.index-columns-min-3.is)
+fourth_there g c = slice_get-get_or c.args.columns.now c.min-3.result c.index-columns-min-3.result (let high = min_high (length c.args.columns.now - 1) (1 + 3) in omega (arith, c.min-3.ensures, high, c.requires.inside)) ∙ ap Some (sym c.index-columns-min-3.is)
 
 -- the row
 seen : (g : Over) (c : After-as_slice g) → map g.N.Total.number c.as_slice-before.result.now ≡ row_in g.N.Total.number c.args.rows.now c.loop-row.row
 seen g c = ap (map g.N.Total.number) c.as_slice-before.ensures.value ∙ row_is g.N.Total.number c.args.rows.now c.loop-row.row _ c.index-rows-row.is (omega (arith, c.loop-row-test.true))
 
-room : (g : Over) (c : After-as_slice g) (q : ℕ) (column : Vec g.row.N.Denot) → c.args.first ≤ q → slice_get c.args.columns.now q ≡ Some column → length c.as_slice-before.result.now < length column.items
+room : (g : Over) (c : After-as_slice g) (q : ℕ) (column : Vec g.row.N.Denot) → 1 ≤ q → slice_get c.args.columns.now q ≡ Some column → length c.as_slice-before.result.now < length column.items
 room g c q column low there =
     let wide = c.requires.wide c.loop-row.row q column (omega (arith, c.loop-row-test.true)) low there in
     let is = ap length (seen g c) in
@@ -43,10 +43,10 @@ pub cheapest_four-requires-clause-rooms : goal.cheapest_four-requires-clause-roo
 cheapest_four-requires-clause-rooms g c κs within =
     let at = (goal.at.cheapest_four-requires-clause-rooms g c).After-as_slice in
     let low = c.requires.inside in (
-      (let h = room g at c.args.first _ (omega arith) (first_there g at) in omega (arith, h, ap length c.as_slice.ensures.value)),
-      (let h = room g at c.min.result _ (let up = min_low (length c.args.columns.now - 1) (c.args.first + 1) c.args.first (omega arith) (omega arith) in omega (arith, c.min.ensures, up)) (second_there g at) in omega (arith, h, ap length c.as_slice-second.ensures.value)),
-      (let h = room g at c.min-2.result _ (let up = min_low (length c.args.columns.now - 1) (c.args.first + 2) c.args.first (omega arith) (omega arith) in omega (arith, c.min-2.ensures, up)) (third_there g at) in omega (arith, h, ap length c.as_slice-third.ensures.value)),
-      (let h = room g at c.min-3.result _ (let up = min_low (length c.args.columns.now - 1) (c.args.first + 3) c.args.first (omega arith) (omega arith) in omega (arith, c.min-3.ensures, up)) (fourth_there g at) in omega (arith, h, ap length c.as_slice-fourth.ensures.value)),
+      (let h = room g at 1 _ (omega arith) (first_there g at) in omega (arith, h, ap length c.as_slice.ensures.value)),
+      (let h = room g at c.min.result _ (let up = min_low (length c.args.columns.now - 1) (1 + 1) 1 (omega arith) (omega arith) in omega (arith, c.min.ensures, up)) (second_there g at) in omega (arith, h, ap length c.as_slice-second.ensures.value)),
+      (let h = room g at c.min-2.result _ (let up = min_low (length c.args.columns.now - 1) (1 + 2) 1 (omega arith) (omega arith) in omega (arith, c.min-2.ensures, up)) (third_there g at) in omega (arith, h, ap length c.as_slice-third.ensures.value)),
+      (let h = room g at c.min-3.result _ (let up = min_low (length c.args.columns.now - 1) (1 + 3) 1 (omega arith) (omega arith) in omega (arith, c.min-3.ensures, up)) (fourth_there g at) in omega (arith, h, ap length c.as_slice-fourth.ensures.value)),
     )
 
 pub cheapest_four-requires-clause-small : goal.cheapest_four-requires-clause-small
@@ -55,7 +55,7 @@ cheapest_four-requires-clause-small g c κs within = λ i.
 
 pub cheapest_four-requires-clause-small_first : goal.cheapest_four-requires-clause-small_first
 cheapest_four-requires-clause-small_first g c κs within = λ i.
-    subst (λ xs. get_or (map g.N.Total.number xs) i 0 ≤ g.N.Total.most) (sym c.as_slice.ensures.value) (c.requires.small_costs c.args.first i _ (first_there g (goal.at.cheapest_four-requires-clause-small_first g c).After-as_slice))
+    subst (λ xs. get_or (map g.N.Total.number xs) i 0 ≤ g.N.Total.most) (sym c.as_slice.ensures.value) (c.requires.small_costs 1 i _ (first_there g (goal.at.cheapest_four-requires-clause-small_first g c).After-as_slice))
 
 pub cheapest_four-requires-clause-small_second : goal.cheapest_four-requires-clause-small_second
 cheapest_four-requires-clause-small_second g c κs within = λ i.
@@ -85,29 +85,29 @@ loop-row-preserved g c =
     let items = c.in_ok-push.ensures.items in
     let count = c.loop-row.invariant.count in
     let row = row_in number c.args.rows.now c.loop-row.row in
-    let least : ℕ → Type 0 = λ k. (column : Vec g.row.N.Denot) → slice_get c.args.columns.now (c.args.first + k) ≡ Some column
+    let least : ℕ → Type 0 = λ k. (column : Vec g.row.N.Denot) → slice_get c.args.columns.now (1 + k) ≡ Some column
     → IsCheapest (price_up_to row) (λ i. get_or (map number column.items) i 0) (length row + 1) (number (nth_of c.cheapest_four.result k)) in
     let first : least 0 = λ column there.
-    let same = one_there c.args.columns.now c.args.first _ _ (first_there g at) (subst (λ q. slice_get c.args.columns.now q ≡ Some column) (let e : c.args.first + 0 ≡ c.args.first = omega arith in e) there) in
+    let same = one_there c.args.columns.now 1 _ _ (first_there g at) (subst (λ q. slice_get c.args.columns.now q ≡ Some column) (let e : 1 + 0 ≡ 1 = omega arith in e) there) in
     cheapest_at number c.as_slice-before.result.now c.as_slice.result.now row column (number c.cheapest_four.result.first) (seen g at) (c.as_slice.ensures.value ∙ ap (λ v. v.items) same) c.cheapest_four.ensures.first in
     let second : least 1 = λ column there.
-    let inside = some_inside c.args.columns.now (c.args.first + 1) column there in
-    let place : c.min.result ≡ c.args.first + 1 = c.min.ensures ∙ min_is (length c.args.columns.now - 1) (c.args.first + 1) (omega arith) in
-    let same = one_there c.args.columns.now (c.args.first + 1) _ _ (subst (λ q. slice_get c.args.columns.now q ≡ Some c.index-columns-min.result) place (second_there g at)) there in
+    let inside = some_inside c.args.columns.now (1 + 1) column there in
+    let place : c.min.result ≡ 1 + 1 = c.min.ensures ∙ min_is (length c.args.columns.now - 1) (1 + 1) (omega arith) in
+    let same = one_there c.args.columns.now (1 + 1) _ _ (subst (λ q. slice_get c.args.columns.now q ≡ Some c.index-columns-min.result) place (second_there g at)) there in
     cheapest_at number c.as_slice-before.result.now c.as_slice-second.result.now row column (number c.cheapest_four.result.second) (seen g at) (c.as_slice-second.ensures.value ∙ ap (λ v. v.items) same) c.cheapest_four.ensures.second in
     let third : least 2 = λ column there.
-    let inside = some_inside c.args.columns.now (c.args.first + 2) column there in
-    let place : c.min-2.result ≡ c.args.first + 2 = c.min-2.ensures ∙ min_is (length c.args.columns.now - 1) (c.args.first + 2) (omega arith) in
-    let same = one_there c.args.columns.now (c.args.first + 2) _ _ (subst (λ q. slice_get c.args.columns.now q ≡ Some c.index-columns-min-2.result) place (third_there g at)) there in
+    let inside = some_inside c.args.columns.now (1 + 2) column there in
+    let place : c.min-2.result ≡ 1 + 2 = c.min-2.ensures ∙ min_is (length c.args.columns.now - 1) (1 + 2) (omega arith) in
+    let same = one_there c.args.columns.now (1 + 2) _ _ (subst (λ q. slice_get c.args.columns.now q ≡ Some c.index-columns-min-2.result) place (third_there g at)) there in
     cheapest_at number c.as_slice-before.result.now c.as_slice-third.result.now row column (number c.cheapest_four.result.third) (seen g at) (c.as_slice-third.ensures.value ∙ ap (λ v. v.items) same) c.cheapest_four.ensures.third in
     let fourth : least 3 = λ column there.
-    let inside = some_inside c.args.columns.now (c.args.first + 3) column there in
-    let place : c.min-3.result ≡ c.args.first + 3 = c.min-3.ensures ∙ min_is (length c.args.columns.now - 1) (c.args.first + 3) (omega arith) in
-    let same = one_there c.args.columns.now (c.args.first + 3) _ _ (subst (λ q. slice_get c.args.columns.now q ≡ Some c.index-columns-min-3.result) place (fourth_there g at)) there in
+    let inside = some_inside c.args.columns.now (1 + 3) column there in
+    let place : c.min-3.result ≡ 1 + 3 = c.min-3.ensures ∙ min_is (length c.args.columns.now - 1) (1 + 3) (omega arith) in
+    let same = one_there c.args.columns.now (1 + 3) _ _ (subst (λ q. slice_get c.args.columns.now q ≡ Some c.index-columns-min-3.result) place (fourth_there g at)) there in
     cheapest_at number c.as_slice-before.result.now c.as_slice-fourth.result.now row column (number c.cheapest_four.result.fourth) (seen g at) (c.as_slice-fourth.ensures.value ∙ ap (λ v. v.items) same) c.cheapest_four.ensures.fourth in
     record {
       count = ap length items ∙ length-append c.loop-row.group.items (c.cheapest_four.result ∷ []) ∙ (omega arith);
-      prices = λ k column h there. subst (λ xs. ArePricesOf number c.args.rows.now c.args.columns.now column.items k xs) (sym items)
+      prices = λ k column h there. subst (λ xs. ArePricesOf number c.args.rows.now column.items k xs) (sym items)
           (each_more (λ j (four : Four g.row.N.Denot). IsCheapest (price_up_to (row_in number c.args.rows.now j)) (λ i. get_or (map number column.items) i 0) (length (row_in number c.args.rows.now j) + 1) (number (nth_of four k)))
           c.loop-row.group.items c.cheapest_four.result (c.loop-row.invariant.prices k column h there)
           (subst (λ j. IsCheapest (price_up_to (row_in number c.args.rows.now j)) (λ i. get_or (map number column.items) i 0) (length (row_in number c.args.rows.now j) + 1) (number (nth_of c.cheapest_four.result k))) (sym count) (of_four least first second third fourth k h column there)));

@@ -8,5 +8,5 @@ abbrev pub invariant-loop-row : goal.invariant-loop-row
 invariant-loop-row g l =
     record {
       count : length l.group.items ≡ l.row;
-      prices : (k : ℕ) (column : Vec g.row.N.Denot) → k < 4 → slice_get l.columns (l.first + k) ≡ Some column → ArePricesOf g.N.Total.number l.rows l.columns column.items k l.group.items;
+      prices : (k : ℕ) (column : Vec g.row.N.Denot) → k < 4 → slice_get l.columns (1 + k) ≡ Some column → ArePricesOf g.N.Total.number l.rows column.items k l.group.items;
     }

@@ -3,7 +3,7 @@ use Rattle.rbc_model.specs.Scales.{unit_of}
 use Rattle.rbc_table_laws.specs.Stretches.{cost_of_step}
 use Rattle.rbc_reduce.specs.Rows.{AreFilled, row_in}
 use Rattle.rbc_costs.specs.Stretches.{AreCosts}
-use Rattle.rbc_reduce.proofs.tiles.fill_in_tiles.Given as goal
+use Rattle.rbc_reduce.proofs.tiles.fill_by_fours.Given as goal
 
 abbrev pub invariant-loop-alloc : goal.invariant-loop-alloc
 invariant-loop-alloc g l =
