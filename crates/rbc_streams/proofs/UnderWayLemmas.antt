@@ -28,7 +28,7 @@ splits_now ended input pending treated splits =
     ∙ ap (λ bytes. treated ++ lines_of bytes) (append-nil pending)
 
 -- the line that was given is the first of what was pending, with whatever comes unless the input has ended
-front_with : (pending more : List ℕ) (lines : LineReading) → GivesLine pending lines → (lines.ended ≡ true → more ≡ [])
+pub front_with : (pending more : List ℕ) (lines : LineReading) → GivesLine pending lines → (lines.ended ≡ true → more ≡ [])
     → lines_of (pending ++ more) ≡ lines.line ∷ lines_of (lines.pending ++ more)
 front_with pending more lines gives over = elim gives.rest [
   | inl fed ↦ ap (λ bytes. lines_of (bytes ++ more)) fed

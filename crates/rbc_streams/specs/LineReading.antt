@@ -7,16 +7,18 @@ use Rattle.rbc_model.specs.declared.sessions.SessionFault.TheVariants.{Read as R
 use Rattle.rbc_streams.specs.declared.line_reader.Advance.{Advance}
 use Rattle.rbc_streams.specs.declared.line_reader.Advance.TheVariants.{Line, Overlong, End}
 
--- the line read last, the bytes that came and were not yet given as a line, how many bytes a line may have, and whether the input was seen to end
+-- the line read last, the bytes that its step took of the input, the bytes that came and were not yet given as a line, how many bytes a line may have, and
+-- whether the input was seen to end
 pub record LineReading : Type 0 where
   pub line : List ℕ
+  pub taken : List ℕ
   pub pending : List ℕ
   pub longest : ℕ
   pub ended : Bool
 
 -- before anything is read
 abbrev pub at_start : ℕ → LineReading
-at_start longest = record { line = []; pending = []; longest = longest; ended = false }
+at_start longest = record { line = []; taken = []; pending = []; longest = longest; ended = false }
 
 -- no byte is a line feed
 abbrev pub HasNoLineFeed : List ℕ → Type 0
@@ -33,11 +35,12 @@ pub record IsLastLine (input : List ℕ) (now : LineReading) : Type 0 where
   pub over : now.ended ≡ true
   pub none_left : now.pending ≡ []
 
--- The first line of the input was read. It ends with a line feed, which is no part of it, or with the input.
+-- The first line of the input was read. It ends with a line feed, which is no part of it, or with the input. What was taken and what is pending are the input.
 pub record GivesLine (input : List ℕ) (now : LineReading) : Type 0 where
   pub one_line : HasNoLineFeed now.line
   pub within : length now.line ≤ now.longest
   pub rest : (input ≡ now.line ++ 10 ∷ now.pending) ⊎ IsLastLine input now
+  pub cut : input ≡ now.taken ++ now.pending
 
 -- no line was read, and all of the input is pending
 pub record KeepsInput (input : List ℕ) (now : LineReading) : Type 0 where
@@ -75,6 +78,7 @@ KnowsEnd now left is_end = now.ended ≡ true → IsAtEnd left × (is_end ≡ tr
 -- how the line and the pending bytes lie in a buffer of this size
 pub record IsInOrder (size line_start line_end start end longest : ℕ) : Type 0 where
   pub line_ordered : line_start ≤ line_end
+  pub line_before : line_end ≤ start
   pub line_within : line_end ≤ size
   pub ordered : start ≤ end
   pub within : end ≤ size

@@ -14,7 +14,7 @@ pub use answers::Answers;
 pub use line_reader::{Advance, LineReader};
 pub use rbc_model::{Memory, SessionFault};
 pub use retried::{LastCall, Retried};
-pub use session::{answer_lines, converse};
+pub use session::{answer_lines, converse, next_line};
 pub use stream::{Buffered, Stream};
 pub use streams::{ReadFailed, Sink, Source, WriteFailed, put};
 pub use whole::{WholeFault, read_whole};

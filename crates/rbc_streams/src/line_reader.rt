@@ -47,6 +47,7 @@ impl Model for LineReader {
 
     ghost view = { λ r. record {
       line = slice_range r.buffer.items r.line_start r.line_end;
+      taken = slice_range r.buffer.items r.line_start r.start;
       pending = slice_range r.buffer.items r.start r.end;
       longest = r.longest;
       ended = r.ended;
@@ -82,6 +83,13 @@ impl LineReader {
         ensures { result.now ≡ self.now.line }
     {
         &self.buffer[self.line_start..self.line_end]
+    }
+
+    /// What the last step took of the input: the line, with the line feed that ended it. The last line may have none.
+    pub fn taken(&self) -> &[u8]
+        ensures { result.now ≡ self.now.taken }
+    {
+        &self.buffer[self.line_start..self.start]
     }
 
     /// Whether a further byte comes. Reads only if no byte is pending, and lets the last line go then. An input that
@@ -166,6 +174,7 @@ impl LineReader {
         requires line { count ≤ taken }
         requires within { taken ≤ length self.old.pending }
         ensures line { self.new.line ≡ take count self.old.pending }
+        ensures taken { self.new.taken ≡ take taken self.old.pending }
         ensures pending { self.new.pending ≡ drop taken self.old.pending }
         ensures longest { self.new.longest ≡ self.old.longest }
         ensures ended { self.new.ended ≡ self.old.ended }

@@ -123,7 +123,10 @@ pub fn answer_lines<C, A: Answers<C>, R: Source, W: Sink>(
 
 /// Goes on to the next line. Where the bytes that came don't tell it, the replies to the lines before it are handed on,
 /// if there are any, and then the reader is read.
-fn next_line<R: Source, W: Sink>(
+///
+/// # Errors
+/// `Write` where that can't be handed on, and then nothing is read; `Read` where the reader fails.
+pub fn next_line<R: Source, W: Sink>(
     lines: &mut LineReader,
     reader: &mut R,
     writer: &mut W,

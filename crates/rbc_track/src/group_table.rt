@@ -96,6 +96,13 @@ impl Groups {
         Ok(Groups { groups, names })
     }
 
+    /// The groups in order.
+    pub(crate) fn as_slice(&self) -> &[BaliseGroup]
+        ensures { result.now ≡ self.now }
+    {
+        self.groups.as_slice()
+    }
+
     /// The group of this identity.
     pub(crate) fn find(&self, name: GroupName) -> Option<BaliseGroup>
         ensures { result ≡ find (λ group. group_name_eq group.name name) self.now }

@@ -1,8 +1,7 @@
 //! Keys in order, each found by a look-up.
 
 ghost use Rattle.std.specs.Prelude.{◌≡◌, [], ◌∷◌, ◌++◌, not, false, position, IfOk, OnErr, if◌then◌else◌};
-ghost use Rattle.std.specs.List.{list_any, remove};
-ghost use Rattle.std.specs.Option.{option_map_or};
+ghost use Rattle.std.specs.List.{list_any};
 
 use rbc_model::Memory;
 use std::alloc::Global;
@@ -64,33 +63,5 @@ impl<K: Copy + Eq + Hash + Drop> Keys<K> {
         self.places.insert(key, self.keys.len())?;
         self.keys.push_reserved(key);
         Ok(true)
-    }
-
-    /// The same keys.
-    ///
-    /// # Errors
-    ///
-    /// `Memory`, where the allocator refuses room for them.
-    pub fn copy(&self, alloc: Global) -> Result<Keys<K>, Memory>
-        ensures { IfOk result (λ copy. copy ≡ self.now) }
-    {
-        let mut copy = Keys::new(alloc);
-        for key in self.keys.iter() {
-            copy.insert(*key)?;
-        }
-        Ok(copy)
-    }
-
-    /// Takes out a key. Those behind it move up by a place each.
-    pub fn remove(&mut self, key: K) -> Option<usize>
-        ensures place { result ≡ position (K.eq key) self.old }
-        ensures keys { self.new ≡ option_map_or (remove self.old) (position (K.eq key) self.old) self.old }
-    {
-        let place = self.places.remove(&key)?;
-        self.keys.remove(place);
-        for later in place..self.keys.len() {
-            *self.places.get_mut(&self.keys[later]).unwrap() = later;
-        }
-        Some(place)
     }
 }

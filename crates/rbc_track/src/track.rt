@@ -21,7 +21,9 @@ use crate::section_table::{Sections, names_of};
 use crate::sizes::judge_sizes;
 use crate::{GroupPart, LegName, LinkPart, Name, Parts, Route, RoutePart, Section};
 use rbc_model::scales::farthest;
-use rbc_model::{BaliseGroup, Format, GroupName, Leg, OrMemory, RouteId, SectionId, TrackRefusal};
+use rbc_model::{
+    BaliseGroup, Format, GroupName, Leg, Link, OrMemory, RouteId, SectionId, TrackRefusal,
+};
 use std::alloc::Global;
 use std::marker::Model;
 
@@ -190,6 +192,34 @@ impl Track {
         ensures count { result ≡ length self.now.routes }
     {
         self.routes.len()
+    }
+
+    /// The sections in order.
+    pub fn sections(&self) -> &[Section]
+        ensures { result.now ≡ self.now.sections }
+    {
+        self.sections.as_slice()
+    }
+
+    /// The links in order.
+    pub fn links(&self) -> &[Link]
+        ensures { result.now ≡ self.now.links }
+    {
+        self.links.as_slice()
+    }
+
+    /// The balise groups in order.
+    pub fn groups(&self) -> &[BaliseGroup]
+        ensures { result.now ≡ self.now.groups }
+    {
+        self.groups.as_slice()
+    }
+
+    /// The routes in order.
+    pub fn routes(&self) -> &[Route]
+        ensures { result.now ≡ self.now.routes }
+    {
+        self.routes.as_slice()
     }
 
     /// The section of this name.

@@ -1,4 +1,4 @@
-use Rattle.std.proofs.Common.{length, refl, sym, subst, ap, arith, inl}
+use Rattle.std.proofs.Common.{◌+◌, length, refl, sym, subst, ap, arith, inl, take-append-drop}
 use Rattle.std.proofs.lemmas.List.{length-take}
 use Rattle.rbc_streams.specs.LineReading.{HasNoLineFeed, KeepsInput, IsAhead}
 use Rattle.rbc_streams.proofs.LineFeedLemmas.{none_in_fewer, none_ahead, at_feed}
@@ -37,4 +37,5 @@ returns-clause-some c =
       one_line = subst HasNoLineFeed (sym did.line) ahead.none_yet;
       within = omega (arith, ap length did.line, length-take c.self.inside.ahead pending, longest, did.longest, short);
       rest = inl (rw (did.line, did.pending) (at_feed pending c.self.inside.ahead ahead (omega (arith, ahead.within, count, some))));
+      cut = rw (did.taken, did.pending) (sym (take-append-drop (c.self.inside.ahead + 1) pending));
     }
