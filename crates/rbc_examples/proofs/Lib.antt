@@ -22,5 +22,6 @@ pub mod ReceiptExamples
 pub mod SessionExamples
 pub mod RequestExamples
 pub mod ReplyExamples
+pub mod TrackLineExamples
 pub mod StepFunctionExamples
 mod AnswerExamples

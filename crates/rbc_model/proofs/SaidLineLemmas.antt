@@ -43,13 +43,13 @@ name_byte_visible byte h =
         let to = leb-true byte high b.1 in
         visible_is byte (omega arith) (omega arith)
 
-name_visible : (text : List ℕ) → list_all is_name_byte text ≡ true → list_all is_visible text ≡ true
+pub name_visible : (text : List ℕ) → list_all is_name_byte text ≡ true → list_all is_visible text ≡ true
 name_visible [] h = refl
 name_visible (byte ∷ text) h =
     let b = both_of (is_name_byte byte) (list_all is_name_byte text) h in
     and_from (is_visible byte) (list_all is_visible text) (name_byte_visible byte b.0) (name_visible text b.1)
 
-name_is_word : (name : List ℕ) → is_name name ≡ true → IsWord name
+pub name_is_word : (name : List ℕ) → is_name name ≡ true → IsWord name
 name_is_word name h =
     let b = both_of (is_from_to 1 16 (length name)) (list_all is_name_byte name) h in
     let size = both_of (nat_le 1 (length name)) (nat_le (length name) 16) b.0 in
@@ -57,7 +57,7 @@ name_is_word name h =
     let short = leb-true (length name) 16 size.1 in
     record { some = omega arith; short = omega arith; visible = name_visible name b.1 }
 
-slash_is_word : (front back : List ℕ) → IsWord front → IsWord back → length front ≤ 10 → length back ≤ 10 → IsWord (front ++ 47 ∷ back)
+pub slash_is_word : (front back : List ℕ) → IsWord front → IsWord back → length front ≤ 10 → length back ≤ 10 → IsWord (front ++ 47 ∷ back)
 slash_is_word front back a b short next =
     let some = a.some in
     let sum = length-append front (47 ∷ back) in
@@ -74,7 +74,7 @@ module _ (group : GroupName) (fits : IsGroupName group) where
   number_small : group.number < 10 ^ 10
   number_small = let high = fits.number in omega arith
 
-  group_is_word : IsWord (group_word group)
+  pub group_is_word : IsWord (group_word group)
   group_is_word =
       slash_is_word (decimal group.country) (decimal group.number) (number_is_word group.country country_small) (number_is_word group.number number_small)
       (number_short group.country country_small) (number_short group.number number_small)
@@ -89,7 +89,7 @@ module _ (group : GroupName) (fits : IsGroupName group) where
   group_from country number = country >>= (λ country. number >>= (λ number. Ok (made_group country number)))
 
   -- a group is read back
-  group_read : (i : ℕ) → group_at i (group_word group) ≡ Ok group
+  pub group_read : (i : ℕ) → group_at i (group_word group) ≡ Ok group
   group_read i =
       let slashless = no_slash group.country country_small in
       let country = allowed_value (is_from_to 0 LAST_COUNTRY) (Name i) in

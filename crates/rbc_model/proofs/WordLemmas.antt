@@ -1,11 +1,12 @@
 -- Words that are joined to a line are its words, and the numbers among them are read back.
 use Rattle.std.proofs.Common.{◌≡◌, ℕ, zero, suc, ◌+◌, ◌-◌, ◌*◌, ◌^◌, ◌<◌, ◌≤◌, Bool, true, false, not, ◌&&◌, cond, List, [], ◌∷◌, ◌++◌, length, take, drop, Option, Some, None, Result, Ok, Err, refl, ap, ◌∙◌, arith, nat_le, nat_lt, lit<}
-use Rattle.std.specs.Prelude.{◌==◌, All, decimal, filter, slice_index}
+use Rattle.std.specs.Prelude.{◌==◌, All, decimal, filter, slice_index, option_map, ℤ, pos, negsuc, neg_ℤ, nat_abs}
+use Rattle.std.specs.Fmt.{signed_decimal}
 use Rattle.std.specs.Char.{is_ascii_digit}
 use Rattle.std.specs.List.{AllByRecursion, list_all, join_with_byte, slice_split, position_or_len, before_first, after_first}
 use Rattle.std.specs.Str.Parse.{digits_value}
 use Rattle.std.proofs.Math.Seq.{take-append_seam, drop-append-add}
-use Rattle.std.proofs.lemmas.Bool.{le-leb, leb-true, and_from}
+use Rattle.std.proofs.lemmas.Bool.{le-leb, leb-true, and_from, not-true}
 use Rattle.std.proofs.lemmas.Fmt.{digits_decimal, digits_value-decimal, decimal_nonempty, length-decimal-le}
 use Rattle.std.proofs.lemmas.List.{length-append}
 use Rattle.std.proofs.lemmas.List.Elements.{All-nil, All-cons}
@@ -16,7 +17,7 @@ use Rattle.rbc_model.specs.declared.limits.TheConstants.{LONGEST_LINE}
 use Rattle.rbc_model.specs.declared.refusals.LineFault.{LineFault}
 use Rattle.rbc_model.specs.declared.refusals.LineFault.TheVariants.{Overlong, NotText}
 use Rattle.rbc_model.specs.Results.{is_from_to, allowed_value}
-use Rattle.rbc_model.specs.Words.{without_return, words_of, is_blank, is_text, is_numeral, number_in}
+use Rattle.rbc_model.specs.Words.{without_return, words_of, is_blank, is_text, is_numeral, number_in, integer_in}
 use Rattle.rbc_model.specs.RequestText.{request_words}
 use Rattle.rbc_model.proofs.CountingLemmas.{both_of}
 
@@ -88,7 +89,8 @@ kept_words (word ∷ words) are =
     with_word : (length word == 0) ≡ false → filter has_letters (word ∷ words) ≡ word ∷ filter has_letters words
     with_word e = rw e refl
 
-words_of_joined : (word : List ℕ) (words : List (List ℕ)) → AllByRecursion IsWord (word ∷ words) → words_of (joined word words) ≡ word ∷ words
+-- and these are its words
+pub words_of_joined : (word : List ℕ) (words : List (List ℕ)) → AllByRecursion IsWord (word ∷ words) → words_of (joined word words) ≡ word ∷ words
 words_of_joined word words are = ap (filter has_letters) (split_of_joined word words are) ∙ kept_words (word ∷ words) are
 
 -- the line is text
@@ -165,6 +167,27 @@ visible_digits (byte ∷ text) h =
     let high = leb-true byte 57 r.1 in
     and_from (is_visible byte) (list_all is_visible text) (visible_is byte (omega arith) (omega arith)) (visible_digits text b.1)
 
+-- a byte that is no digit is not among digits
+digits_without : (mark : ℕ) → ((byte : ℕ) → 48 ≤ byte → byte ≤ 57 → (byte == mark) ≡ false) → (text : List ℕ) → AreDigits text → list_all (λ byte. not (byte == mark)) text ≡ true
+digits_without mark other [] h = refl
+digits_without mark other (byte ∷ text) h =
+    let b = both_of (is_ascii_digit byte) (list_all is_ascii_digit text) h in
+    let r = both_of (nat_le 48 byte) (nat_le byte 57) b.0 in
+    and_from (not (byte == mark)) (list_all (λ byte. not (byte == mark)) text) (ap not (other byte (leb-true 48 byte r.0) (leb-true byte 57 r.1))) (digits_without mark other text b.1)
+
+not_slash : (byte : ℕ) → 48 ≤ byte → byte ≤ 57 → (byte == 47) ≡ false
+not_slash byte low high = grind arith
+
+not_colon : (byte : ℕ) → 48 ≤ byte → byte ≤ 57 → (byte == 58) ≡ false
+not_colon byte low high = grind arith
+
+not_minus : (byte : ℕ) → 48 ≤ byte → byte ≤ 57 → (byte == 45) ≡ false
+not_minus byte low high = grind arith
+
+first_without : (mark : ℕ) (text : List ℕ) → 0 < length text → list_all (λ byte. not (byte == mark)) text ≡ true → (slice_index text 0 == mark) ≡ false
+first_without mark [] some h = absurd (omega arith)
+first_without mark (byte ∷ text) some h = not-true (byte == mark) (both_of (not (byte == mark)) (list_all (λ byte. not (byte == mark)) text) h).0
+
 module _ (n : ℕ) (small : n < 10 ^ 10) where
   fits : n < 2 ^ 64
   fits = omega arith
@@ -192,17 +215,33 @@ module _ (n : ℕ) (small : n < 10 ^ 10) where
   pub number_in-decimal : number_in (decimal n) ≡ Some n
   number_in-decimal = ap (λ b. cond b (Some (digits_value 10 (decimal n))) None) numeral ∙ ap Some (digits_value-decimal numerals n fits)
 
-  -- no digit is a slash
+  -- no digit is a slash, a colon or a minus
   pub no_slash : list_all (λ byte. not (byte == 47)) (decimal n) ≡ true
-  no_slash = among (decimal n) digits
-    where
-      among : (text : List ℕ) → AreDigits text → list_all (λ byte. not (byte == 47)) text ≡ true
-      among [] h = refl
-      among (byte ∷ text) h =
-          let b = both_of (is_ascii_digit byte) (list_all is_ascii_digit text) h in
-          let low = leb-true 48 byte (both_of (nat_le 48 byte) (nat_le byte 57) b.0).0 in
-          let e : (byte == 47) ≡ false = grind arith in
-          and_from (not (byte == 47)) (list_all (λ byte. not (byte == 47)) text) (ap not e) (among text b.1)
+  no_slash = digits_without 47 not_slash (decimal n) digits
+
+  pub no_colon : list_all (λ byte. not (byte == 58)) (decimal n) ≡ true
+  no_colon = digits_without 58 not_colon (decimal n) digits
+
+  no_minus : (slice_index (decimal n) 0 == 45) ≡ false
+  no_minus = first_without 45 (decimal n) (decimal_nonempty n fits) (digits_without 45 not_minus (decimal n) digits)
+
+-- a whole number of up to ten digits is read back, with its sign
+pub integer_in-signed : (z : ℤ) → nat_abs z < 10 ^ 10 → integer_in (signed_decimal z) ≡ Some z
+integer_in-signed (pos n) small =
+    ap (λ minus. cond minus (option_map (λ n. neg_ℤ (pos n)) (number_in (drop 1 (decimal n)))) (option_map pos (number_in (decimal n)))) (no_minus n small)
+    ∙ ap (option_map pos) (number_in-decimal n small)
+integer_in-signed (negsuc n) small = ap (option_map (λ n. neg_ℤ (pos n))) (number_in-decimal (suc n) small)
+
+-- and is a word
+pub signed_short : (z : ℤ) → nat_abs z < 10 ^ 10 → length (signed_decimal z) ≤ 11
+signed_short (pos n) small = let short = number_short n small in omega arith
+signed_short (negsuc n) small = let short = number_short (suc n) small in omega arith
+
+pub signed_is_word : (z : ℤ) → nat_abs z < 10 ^ 10 → IsWord (signed_decimal z)
+signed_is_word (pos n) small = number_is_word n small
+signed_is_word (negsuc n) small =
+    let short = number_short (suc n) small in
+    record { some = omega arith; short = omega arith; visible = (number_is_word (suc n) small).visible }
 
 -- a number in a range is read back where that range is asked for
 pub allowed-decimal : {E : Type 0} (low high n : ℕ) (e : E) → low ≤ n → n ≤ high → high < 10 ^ 10 → allowed_value (is_from_to low high) e (number_in (decimal n)) ≡ Ok n

@@ -73,6 +73,9 @@ pub const MOST_ROUTES: usize = 4_096;
 /// How many legs a route may have.
 pub const MOST_LEGS: usize = 64;
 
+/// How many legs of a train's line a line of text tells. With names of up to 16 bytes it has fewer than 1,200 bytes.
+pub const LEGS_A_LINE: usize = 64;
+
 /// How many trains a scene may have.
 pub const MOST_TRAINS: usize = 1_024;
 

@@ -27,7 +27,7 @@ use Rattle.rbc_scene_laws.proofs.ReportingLemmas.{good_after_report}
 
 -- ---- the empty scene
 
-no_row : (sections : List Section) (s : ℕ) (lock : Lock) → option_flatten (slice_get (map (λ (section : Section). let none : Option Lock = None in none) sections) s) ≡ Some lock → ⊥
+pub no_row : (sections : List Section) (s : ℕ) (lock : Lock) → option_flatten (slice_get (map (λ (section : Section). let none : Option Lock = None in none) sections) s) ≡ Some lock → ⊥
 no_row [] s lock h = cc
 no_row (section ∷ sections) zero lock h = cc
 no_row (section ∷ sections) (suc s) lock h = no_row sections s lock h

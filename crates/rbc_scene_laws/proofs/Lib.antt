@@ -22,3 +22,4 @@ pub mod LegLemmas
 pub mod BookLemmas
 pub mod BoundLemmas
 pub mod ShrinkLemmas
+pub mod NamedStopLemmas

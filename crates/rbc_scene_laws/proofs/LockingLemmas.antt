@@ -226,11 +226,11 @@ record IsLockedFrom (track : Track) (before after : Locks) : Type 0 where
   good : IsGoodLocks track after
   kept : (s : ℕ) (lock : Lock) → row before s ≡ Some lock → row after s ≡ Some lock
 
-unless_none : {A E F : Type 0} (f : F → E) (o : Option F) (r : Result A E) (a : A) → unless (option_map f o) r ≡ Ok a → (o ≡ None) × (r ≡ Ok a)
+pub unless_none : {A E F : Type 0} (f : F → E) (o : Option F) (r : Result A E) (a : A) → unless (option_map f o) r ≡ Ok a → (o ≡ None) × (r ≡ Ok a)
 unless_none f None r a h = (refl, h)
 unless_none f (Some x) r a h = cc
 
-the_ok : {A E : Type 0} (a b : A) → ◌≡◌ {A = Result A E} (Ok a) (Ok b) → a ≡ b
+pub the_ok : {A E : Type 0} (a b : A) → ◌≡◌ {A = Result A E} (Ok a) (Ok b) → a ≡ b
 the_ok a b h = cc
 
 locked_from : (track : Track) (number : ℕ) (locks after : Locks) (o : Option Route) → IsSound track → IsGoodLocks track locks → slice_get track.routes number ≡ o

@@ -1,0 +1,6 @@
+mod RowReadLemmas
+mod SceneReadLemmas
+mod TrainReadLemmas
+mod NextRowLemmas
+mod ReadBackLemmas
+mod TellableLemmas

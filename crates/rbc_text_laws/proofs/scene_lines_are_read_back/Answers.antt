@@ -1,0 +1,12 @@
+use Rattle.rbc_text_laws.proofs.ReadBackLemmas.{scene_lines_are_read_back}
+use Rattle.rbc_text_laws.proofs.TellableLemmas.{next_is_what_is_shown, scenes_of_histories_are_read_back}
+use Rattle.rbc_text_laws.proofs.scene_lines_are_read_back.Goals as goal
+
+pub returns-clause-scene : goal.returns-clause-scene
+returns-clause-scene c = scene_lines_are_read_back
+
+pub returns-clause-history : goal.returns-clause-history
+returns-clause-history c = scenes_of_histories_are_read_back
+
+pub returns-clause-next : goal.returns-clause-next
+returns-clause-next c = next_is_what_is_shown
