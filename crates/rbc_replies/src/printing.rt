@@ -95,8 +95,12 @@ fn print_message<W: Sink>(message: &[u8], writer: &mut W) -> Result<(), WriteFai
     put(writer, b"\n")
 }
 
-/// Writes a line that ends with an obstacle: its first word, others behind it, and the obstacle.
-fn print_stopped<W: Sink>(
+/// Writes a line that ends with an obstacle: its first word, others behind it, and the obstacle. It takes no memory.
+///
+/// # Errors
+///
+/// `WriteFailed`, where the writer fails. Then a part of the line stands, from its start.
+pub fn print_stopped<W: Sink>(
     track: &Track,
     first: &[u8],
     words: &[Word],

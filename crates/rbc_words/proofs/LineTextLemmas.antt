@@ -22,7 +22,7 @@ abbrev spaced : List ℕ → List ℕ
 spaced word = 32 ∷ word
 
 -- runs as words behind spaces
-spaced_runs : {V : Type 0} (kind : Kind V) (runs : List (ℕ × V)) → flat_map spaced (run_words kind runs) ≡ runs_text kind runs
+pub spaced_runs : {V : Type 0} (kind : Kind V) (runs : List (ℕ × V)) → flat_map spaced (run_words kind runs) ≡ runs_text kind runs
 spaced_runs kind [] = refl
 spaced_runs kind ((start, value) ∷ runs) = ap (λ l. 32 ∷ ((decimal start ++ 58 ∷ kind.print value) ++ l)) (spaced_runs kind runs)
 

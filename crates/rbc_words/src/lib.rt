@@ -17,10 +17,12 @@ pub use line_words::{Word, leg_word, print_line, print_words, section_word};
 pub use printing::{print_hex, print_number, print_signed};
 pub use rbc_model::{LineFault, OrMemory, StepsRefusal};
 pub use rbc_streams::{Advance, LineReader, SessionFault, Sink, Source, Stream, WriteFailed};
-pub use session_line::{print_request, told_request};
+pub use session_line::{print_report, print_request, told_request};
 pub use session_request::{Request, parse};
 pub use spelled::Spelled;
-pub use steps_reply::{Basis, print_certificate, print_certified, print_last, print_refusal};
+pub use steps_reply::{
+    Basis, print_certificate, print_certified, print_last, print_refusal, print_runs,
+};
 pub use steps_request::{StepsLine, StepsRequest, parse_steps, request_in};
 pub use words::{
     around, integer, is_blank, is_text, next_word, number, number_at, number_from_to, only_word,

@@ -1,8 +1,8 @@
 //! A request, written as a line of a session.
 
-ghost use Rattle.std.specs.Prelude.{◌≡◌, false, Ok};
+ghost use Rattle.std.specs.Prelude.{◌≡◌, ◌∷◌, false, Ok};
 ghost use Rattle.rbc_model.specs.HistoryText.{told_request, IsToldOfTrack};
-ghost use Rattle.rbc_model.specs.SessionText.{Report as SaidReport};
+ghost use Rattle.rbc_model.specs.SceneLines.{report_words};
 ghost use Rattle.rbc_model.specs.SessionText.{nominal_word, parse_session, said_line, said_words, IsSayable};
 ghost use Rattle.rbc_model.specs.Sessions.{Prints};
 ghost use Rattle.rbc_model.specs.Words.{line_of};
@@ -42,7 +42,7 @@ pub fn print_request<W: Sink>(request: &Request, writer: &mut W) -> Result<(), W
 {
     match request {
         Request::Blank => put(writer, b"\n"),
-        Request::Report(report) => print_report(report, writer),
+        Request::Report(report) => print_report(b"report", report, writer),
         Request::Lock(name) => print_line(b"lock", &[Word::Name(*name)], writer),
         Request::Free(name) => print_line(b"free", &[Word::Name(*name)], writer),
         Request::Leave(train) => print_line(b"leave", &[Word::Number(train.number())], writer),
@@ -57,11 +57,19 @@ pub fn print_request<W: Sink>(request: &Request, writer: &mut W) -> Result<(), W
     }
 }
 
-/// Writes the line of a report.
-fn print_report<W: Sink>(report: &Report, writer: &mut W) -> Result<(), WriteFailed>
+/// Writes a line that tells a report: its first word, and the words of the report behind it. It takes no memory.
+///
+/// # Errors
+///
+/// `WriteFailed`, where the writer fails. Then a part of the line stands, from its start.
+pub fn print_report<W: Sink>(
+    first: &[u8],
+    report: &Report,
+    writer: &mut W,
+) -> Result<(), WriteFailed>
     requires { W.failed writer.old ≡ false }
     ensures { Prints (W.written writer.old) (W.written writer.new) (W.failed writer.new)
-        (line_of (said_words (SaidReport report.now))) result }
+        (line_of (first.now ∷ report_words report.now)) result }
 {
     let words = [
         Word::Number(report.train().number()),
@@ -73,7 +81,7 @@ fn print_report<W: Sink>(report: &Report, writer: &mut W) -> Result<(), WriteFai
         Word::Number(u32::from(report.length())),
         Word::Number(report.time()),
     ];
-    print_line(b"report", &words, writer)
+    print_line(first, &words, writer)
 }
 
 /// The direction of a train as a word.

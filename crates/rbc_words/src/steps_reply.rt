@@ -253,7 +253,11 @@ fn print_packet<W: Sink>(packet: &[u8], writer: &mut W) -> Result<(), WriteFaile
 const PIECE: usize = 5;
 
 /// Writes runs or steps (start, value), each behind a space.
-fn print_runs<V: Spelled, W: Sink>(runs: &[(u32, V)], writer: &mut W) -> Result<(), WriteFailed>
+///
+/// # Errors
+///
+/// `WriteFailed`, where the writer fails. Then a part of the text stands, from its start.
+pub fn print_runs<V: Spelled, W: Sink>(runs: &[(u32, V)], writer: &mut W) -> Result<(), WriteFailed>
     requires { W.failed writer.old ≡ false }
     ensures { Prints (W.written writer.old) (W.written writer.new) (W.failed writer.new)
         (runs_text V.kind runs.now) result }

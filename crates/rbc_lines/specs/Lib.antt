@@ -1,0 +1,5 @@
+pub mod Faults
+pub mod Nexts
+pub mod Pieces
+pub mod TrackLaws
+pub mod TrackText
