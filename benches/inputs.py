@@ -66,6 +66,19 @@ def ten_trains(reports, seed=2):
     return track, "".join(f"{line}\n" for line in lines).encode()
 
 
+def forty_trains(reports, seed=5):
+    """A track of four lines, and a session in which the ten trains of each, one behind the other, report in turn."""
+    chance = random.Random(seed)
+    routes, names = routes_of(4, 5)
+    track = "\n".join(track_of(4, 5, 2_000, chance, (0, 700)) + routes) + "\n"
+    lines = [f"lock {name}" for name in names]
+    for count in range(reports):
+        train, turn = count % 40, count // 40
+        line, place = train % 4 + 1, train // 4
+        lines.append(f"report {train + 1} 5/{line} nominal {9_500 - 900 * place + turn} 5 5 200 {turn}")
+    return track, "".join(f"{line}\n" for line in lines).encode()
+
+
 def messages(replies, count=10_000):
     """So many messages of those among the replies of `rbc run`, which come again and again."""
     lines = [line for line in replies.splitlines(True) if line.startswith(b"message ")]

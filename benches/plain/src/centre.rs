@@ -1,10 +1,12 @@
-//! `run`: a centre on a track.
+//! A centre on a track.
+
+mod scene;
 
 use std::collections::HashMap;
 use std::str;
 
 use crate::reduce::{FARTHEST_IN_METRES, Kind, Reduced, Runs, reduce, unit_of};
-use crate::text::{Bits, number_to, print_certificate, print_hex, print_next, print_word, put_profile, words};
+use crate::text::{Bits, is_name, number_to, print_certificate, print_hex, print_next, print_word, put_profile, words};
 use crate::track::{Leg, Track};
 
 const MOST_TRAINS: usize = 1_024;
@@ -15,6 +17,7 @@ const RUNS_WORTH_A_THREAD: usize = 400;
 #[derive(Clone, Copy)]
 struct Lock {
     rising: bool,
+    route: usize,
     before: Option<Leg>,
 }
 
@@ -114,6 +117,7 @@ impl Centre {
                 let Some(report) = report_of(train, group, way, [distance, over, under, length, time]) else { return false };
                 self.full().and_then(|_| self.report(report))
             }
+            [b"lock" | b"free", name] if !is_name(name) => return false,
             [b"lock", name] => self.full().and_then(|_| self.lock(name)),
             [b"free", name] => self.full().and_then(|_| self.free(name)),
             [b"leave", train] => {
@@ -148,6 +152,11 @@ impl Centre {
         true
     }
 
+    /// How many entries there are.
+    pub fn version(&self) -> usize {
+        self.entries
+    }
+
     fn full(&self) -> Result<(), Refusal> {
         if self.entries < MOST_ENTRIES { Ok(()) } else { Err(Refusal::Full) }
     }
@@ -171,7 +180,7 @@ impl Centre {
         }
         let mut before = route.after;
         for leg in &route.legs {
-            self.locks[leg.section as usize] = Some(Lock { rising: leg.rising, before });
+            self.locks[leg.section as usize] = Some(Lock { rising: leg.rising, route: number, before });
             if let Some(before) = before {
                 self.next[slot(before)] = Some(*leg);
             }
@@ -531,8 +540,7 @@ impl Centre {
     }
 
     fn print_leg(&self, out: &mut Vec<u8>, leg: Leg) {
-        print_word(out, self.section_name(leg.section));
-        out.push(if leg.rising { b'+' } else { b'-' });
+        self.track.print_leg(out, leg);
     }
 
     fn print_obstacle(&self, out: &mut Vec<u8>, obstacle: Obstacle) {

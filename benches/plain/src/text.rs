@@ -26,6 +26,11 @@ pub fn number_to(word: &[u8], first: u64, last: u64) -> Option<u32> {
     number(word).filter(|value| (first..=last).contains(value)).map(|value| value as u32)
 }
 
+/// 1 to 16 letters, digits and `_`.
+pub fn is_name(word: &[u8]) -> bool {
+    (1..=16).contains(&word.len()) && word.iter().all(|byte| byte.is_ascii_alphanumeric() || *byte == b'_')
+}
+
 /// A start and a value, with a colon between them.
 pub fn run(kind: Kind, word: &[u8]) -> Option<(u32, i32)> {
     let colon = word.iter().position(|byte| *byte == b':')?;
@@ -81,7 +86,7 @@ pub fn print_next(out: &mut Vec<u8>, value: i64) {
     print_signed(out, value);
 }
 
-fn print_rows(out: &mut Vec<u8>, rows: &[(u32, i32)]) {
+pub fn print_rows(out: &mut Vec<u8>, rows: &[(u32, i32)]) {
     for (start, value) in rows {
         print_next(out, i64::from(*start));
         out.push(b':');

@@ -1,5 +1,7 @@
 //! Track files, as far as the benchmarks' tracks use TOML.
 
+mod lines;
+
 use std::collections::HashMap;
 
 #[derive(Clone, Copy, PartialEq, Eq)]
@@ -15,6 +17,9 @@ pub struct Section {
     pub grades: Vec<(u32, i32)>,
 }
 
+/// A group of a country and a number there.
+pub type GroupName = (u32, u32);
+
 pub struct Group {
     pub section: u32,
     pub offset: u32,
@@ -22,17 +27,22 @@ pub struct Group {
 }
 
 pub struct Route {
+    pub name: String,
     pub after: Option<Leg>,
     pub legs: Vec<Leg>,
 }
 
+/// A track: sections, links, groups and routes in the order of its file.
 pub struct Track {
+    pub format: u32,
     pub farthest: u32,
     pub speed_steps: usize,
     pub grade_steps: usize,
     pub sections: Vec<Section>,
     pub section_names: HashMap<String, u32>,
-    pub groups: HashMap<(u32, u32), Group>,
+    pub links: Vec<(Leg, Leg)>,
+    pub groups: HashMap<GroupName, Group>,
+    pub group_names: Vec<GroupName>,
     pub routes: Vec<Route>,
     pub route_names: HashMap<String, usize>,
 }
@@ -73,7 +83,8 @@ impl Track {
     fn add(&mut self, kind: &str, table: &Table) -> Option<()> {
         match kind {
             "" => {
-                self.farthest = if number(table, "format")? == 1 { 32_000 } else { 80_000 };
+                self.format = number(table, "format")?;
+                self.farthest = if self.format == 1 { 32_000 } else { 80_000 };
                 self.speed_steps = number(table, "speed_steps").unwrap_or(31) as usize;
                 self.grade_steps = number(table, "grade_steps").unwrap_or(31) as usize;
             }
@@ -83,15 +94,13 @@ impl Track {
                 let (length, speeds, grades) = (number(table, "length")?, pairs(table, "speeds")?, pairs(table, "grades")?);
                 self.sections.push(Section { name, length, speeds, grades });
             }
-            "link" => {
-                self.leg(&text(table, "from")?)?;
-                self.leg(&text(table, "to")?)?;
-            }
+            "link" => self.links.push((self.leg(&text(table, "from")?)?, self.leg(&text(table, "to")?)?)),
             "group" => {
-                let key = (number(table, "country")?, number(table, "number")?);
+                let name = (number(table, "country")?, number(table, "number")?);
                 let section = *self.section_names.get(&text(table, "section")?)?;
                 let group = Group { section, offset: number(table, "offset")?, rising: text(table, "nominal")? == "+" };
-                self.groups.insert(key, group);
+                self.group_names.push(name);
+                self.groups.insert(name, group);
             }
             "route" => {
                 let after = match text(table, "after") {
@@ -100,8 +109,9 @@ impl Track {
                 };
                 let list = table.get("legs")?.strip_prefix('[')?.strip_suffix(']')?;
                 let legs = list.split(',').map(|word| self.leg(word.trim().trim_matches('"'))).collect::<Option<_>>()?;
-                self.route_names.insert(text(table, "name")?, self.routes.len());
-                self.routes.push(Route { after, legs });
+                let name = text(table, "name")?;
+                self.route_names.insert(name.clone(), self.routes.len());
+                self.routes.push(Route { name, after, legs });
             }
             _ => return None,
         }
@@ -110,12 +120,15 @@ impl Track {
 
     pub fn read(text: &str) -> Option<Track> {
         let mut track = Track {
+            format: 0,
             farthest: 0,
             speed_steps: 0,
             grade_steps: 0,
             sections: Vec::new(),
             section_names: HashMap::new(),
+            links: Vec::new(),
             groups: HashMap::new(),
+            group_names: Vec::new(),
             routes: Vec::new(),
             route_names: HashMap::new(),
         };

@@ -1,12 +1,16 @@
 -- The exit statuses of the program.
-use Rattle.std.specs.Prelude.{ℕ, Bool, true, false, Result, Ok, Err}
+use Rattle.std.specs.Prelude.{ℕ, Bool, true, false, ◌&&◌, ◌==◌, not, if◌then◌else◌, Result, Ok, Err}
+use Rattle.std.specs.IoError.{error_kind}
+use Rattle.std.specs.declared.io.Error.{Error}
+use Rattle.std.specs.declared.io.ErrorKind.{ErrorKind as WriteErrorKind}
+use Rattle.std.specs.declared.io.ErrorKind.TheVariants.{BrokenPipe}
 use Rattle.clap.specs.Values.{kind_of}
 use Rattle.clap.specs.declared.error.kind.ErrorKind.{ErrorKind}
 use Rattle.clap.specs.declared.error.kind.ErrorKind.TheVariants.{DisplayHelp, DisplayVersion}
 use Rattle.rbc_model.specs.declared.sessions.SessionFault.{SessionFault}
 use Rattle.rbc_model.specs.declared.sessions.SessionFault.TheVariants.{Memory, Write}
-use Rattle.rbc_pages.specs.ServeFault.{ServeFault}
-use Rattle.rbc_pages.specs.ServeFault.TheVariants.{Memory as NoServeMemory, Close, Write as ServeWrite}
+use Rattle.rbc_show.specs.ServeFault.{ServeFault}
+use Rattle.rbc_show.specs.ServeFault.TheVariants.{Memory as NoServeMemory, Close, Write as ServeWrite}
 use Rattle.rbc.specs.declared.journal.JournalFault.{JournalFault}
 use Rattle.rbc.specs.declared.journal.JournalFault.TheVariants.{Foreign}
 use Rattle.rbc_trackfile.specs.declared.loading.LoadFault.{LoadFault}
@@ -59,3 +63,20 @@ abbrev pub is_output_fault : Result (Unit {0}) Failure → Bool
 is_output_fault (Err (Session Write)) = true
 is_output_fault (Err (Serve ServeWrite)) = true
 is_output_fault _ = false
+
+-- whether a write failed since the reader has gone
+abbrev pub is_pipe_broken : WriteErrorKind → Bool
+is_pipe_broken BrokenPipe = true
+is_pipe_broken _ = false
+
+abbrev pub is_reader_gone : Error → Bool
+is_reader_gone error = is_pipe_broken (error_kind error)
+
+-- whether help that is asked for could not be printed, though there is a reader
+abbrev pub is_help_lost : ℕ → Result (Unit {0}) Error → Bool
+is_help_lost status (Ok tt) = false
+is_help_lost status (Err error) = status == 0 && not (is_reader_gone error)
+
+-- how a command ends, where it is known whether the reader of the standard output has gone: then nobody wants the rest
+abbrev pub end_of : Result (Unit {0}) Failure → Bool → Result (Unit {0}) Failure
+end_of outcome is_unread = if is_output_fault outcome && is_unread then Ok tt else outcome

@@ -1,15 +1,18 @@
 //! How the program ends where it could not do all that it was asked for.
 
-ghost use Rattle.std.specs.Prelude.{◌≡◌, ◌≢◌};
-ghost use Rattle.rbc.specs.Statuses.{status_of};
+ghost use Rattle.std.specs.Prelude.{◌≡◌, ◌≢◌, ◌⊎◌};
+ghost use Rattle.rbc_model.specs.declared.sessions.SessionFault.TheVariants.{Write};
+ghost use Rattle.rbc.specs.Statuses.{is_help_lost, status_of};
+ghost use Rattle.rbc.specs.declared.failure.Failure.TheVariants.{Session};
 
 use crate::journal::JournalFault;
+use crate::output::is_reader_gone;
 use clap::error::ErrorKind;
 use rbc_journal_file::OpenFault;
 use rbc_model::Memory;
-use rbc_pages::kept::server::{ServeFault, Unserved};
-use rbc_pages::kept::{KeptFault, RunFault};
-use rbc_pages::{SessionFault, WriteFailed};
+use rbc_show::kept::server::{ServeFault, Unserved};
+use rbc_show::kept::{KeptFault, RunFault};
+use rbc_show::{SessionFault, WriteFailed};
 use rbc_trackfile::LoadFault;
 use std::alloc::AllocError;
 use std::io;
@@ -86,14 +89,24 @@ impl Failure {
     /// can't be printed, unless its reader has gone. There is nobody to tell where a fault can't be printed.
     pub fn told(self, rt: &(impl Print + Eprint)) -> Failure
         ensures fault { status_of self ≢ 0 → result ≡ self }
+        ensures help { (result ≡ self) ⊎ (result ≡ Session Write) }
     {
-        match (self.tell(rt), self.status()) {
-            (Err(error), 0) if error.kind() != io::ErrorKind::BrokenPipe => {
-                let unprinted = Failure::Session(SessionFault::Write);
-                let _ = unprinted.tell(rt);
-                unprinted
-            }
-            _ => self,
+        let printed = self.tell(rt);
+        if !self.is_help_lost(&printed) {
+            return self;
+        }
+        let unprinted = Failure::Session(SessionFault::Write);
+        let _ = unprinted.tell(rt);
+        unprinted
+    }
+
+    /// Whether help that is asked for could not be printed, though there is a reader.
+    fn is_help_lost(&self, printed: &io::Result<()>) -> bool
+        ensures { result ≡ is_help_lost (status_of self.now) printed.now }
+    {
+        match printed {
+            Ok(()) => false,
+            Err(error) => self.status() == 0 && !is_reader_gone(error),
         }
     }
 

@@ -1,10 +1,10 @@
 //! The file of a centre's history.
 
-ghost use Rattle.rbc_pages.specs.Retelling.{IsRetold};
+ghost use Rattle.rbc_show.specs.Retelling.{IsRetold};
 
 use crate::failure::Failure;
-use rbc_pages::Stream;
-use rbc_pages::kept::server::{Record, print_history};
+use rbc_show::Stream;
+use rbc_show::kept::server::{Record, print_history};
 use std::fs;
 use std::fs::Files;
 

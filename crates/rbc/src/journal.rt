@@ -2,7 +2,7 @@
 
 ghost use Rattle.std.specs.Prelude.{◌≡◌, [], IfOk};
 ghost use Rattle.rbc_journal_file.specs.Device.{Only};
-ghost use Rattle.rbc_pages.specs.Kept.{IsReady};
+ghost use Rattle.rbc_show.specs.Kept.{IsReady};
 
 use crate::failure::Failure;
 use crate::history::write_history;
@@ -10,9 +10,9 @@ use crate::output::{ended, standard_output};
 use crate::serve::open_port;
 use crate::serve_kept::serve_kept;
 use rbc_command_line::Service;
-use rbc_pages::Stream;
-use rbc_pages::kept::server::Record;
-use rbc_pages::kept::{self, Device, Kept};
+use rbc_show::Stream;
+use rbc_show::kept::server::Record;
+use rbc_show::kept::{self, Device, Kept};
 use rbc_trackfile::Track;
 use std::alloc::Global;
 use std::fs::{File, Files};

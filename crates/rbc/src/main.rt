@@ -15,14 +15,16 @@ pub use journal::JournalFault;
 use journal::{run_kept, serve_with};
 use output::{ended, standard_output};
 pub use rbc_certifier::steps;
-use rbc_command_line::{Centre, Printing, Service, Shown, Task};
+pub use rbc_checks::check;
+use rbc_command_line::{Centre, Listed, Printing, Service, Shown, Task};
 pub use rbc_fields::{Form, Json, Plain, decode};
 use rbc_model::Memory;
-use rbc_pages::Stream;
-use rbc_pages::kept::server::{self, Record};
-pub use rbc_pages::{check, draw, show};
+use rbc_show::Stream;
+use rbc_show::kept::server::{self, Record};
+pub use rbc_show::{list, show, show_each};
 use rbc_trackfile::Track;
 pub use rbc_trackfile::{LoadFault, load};
+pub use rbc_viewer::draw;
 use serve::{open_port, serve};
 use std::env::Env;
 use std::fs::{File, Files};
@@ -69,6 +71,7 @@ fn run(
         Task::Draw => draw_input(rt),
         Task::Run(centre) => run_centre(rt, &centre),
         Task::Show(shown) => show_session(rt, &shown),
+        Task::Track(listed) => list_track(rt, &listed),
         Task::Serve(service) => serve_centre(rt, &service),
     }
 }
@@ -101,15 +104,10 @@ fn check_input(rt: &(impl Input + Print + AllocGlobal + Threads + Sync)) -> Resu
     ended(output, outcome)
 }
 
-/// Draws the certificates of the standard input.
-fn draw_input(rt: &(impl Input + Print + AllocGlobal + Threads + Sync)) -> Result<(), Failure> {
+/// Writes the page of the standard input, with the verdicts on its certificates.
+fn draw_input(rt: &(impl Input + Print + AllocGlobal)) -> Result<(), Failure> {
     let mut output = standard_output(rt)?;
-    let outcome = match draw(
-        rt,
-        rt.alloc(),
-        &mut Stream::reader(rt.reader()),
-        &mut output,
-    ) {
+    let outcome = match draw(rt.alloc(), &mut Stream::reader(rt.reader()), &mut output) {
         Ok(true) => Ok(()),
         Ok(false) => Err(Failure::NotCertified),
         Err(fault) => Err(Failure::Session(fault)),
@@ -155,7 +153,7 @@ fn run_centre(
     kept
 }
 
-/// Shows what the lines of the standard input lead to, on the track of a file, as a page.
+/// Shows what the lines of the standard input lead to, on the track of a file, as lines.
 fn show_session(
     rt: &(impl Files + Input + Print + AllocGlobal + Threads + Sync),
     shown: &Shown,
@@ -165,8 +163,23 @@ fn show_session(
     let record = Record::new(alloc, track)?;
     let mut output = standard_output(rt)?;
     let reader = &mut Stream::reader(rt.reader());
-    let answered = show(rt, alloc, shown.each, record, reader, &mut output);
+    let answered = if shown.each {
+        show_each(rt, alloc, record, reader, &mut output)
+    } else {
+        show(rt, alloc, record, reader, &mut output)
+    };
     ended(output, answered.map_err(Failure::from))
+}
+
+/// Reads the track of a file, and writes it as lines, if that is asked for.
+fn list_track(rt: &(impl Files + Print + AllocGlobal), listed: &Listed) -> Result<(), Failure> {
+    let track = read_track(rt, listed.track)?;
+    if !listed.lines {
+        return Ok(());
+    }
+    let mut output = standard_output(rt)?;
+    let written = list(&track, &mut output);
+    ended(output, written.map_err(Failure::from))
 }
 
 /// Serves connections on a port, on the track of a file.

@@ -1,13 +1,14 @@
 //! The standard output, whose reader may want no more.
 
-ghost use Rattle.std.specs.Prelude.{◌≡◌, ◌⊎◌, false, [], Ok, IfOk};
-ghost use Rattle.std.specs.Io.Buffered.{writer_buffer};
-ghost use Rattle.rbc.specs.Statuses.{is_output_fault};
+ghost use Rattle.std.specs.Prelude.{◌≡◌, false, [], Err, IfOk, OnOk};
+ghost use Rattle.std.specs.Io.Buffered.{writer_buffer, writer_inner};
+ghost use Rattle.std.specs.declared.io.Error.{Error};
+ghost use Rattle.rbc.specs.Statuses.{end_of, is_reader_gone};
 
 use crate::failure::Failure;
 use rbc_model::Memory;
-use rbc_pages::kept::server::ServeFault;
-use rbc_pages::{Buffered, SessionFault, Stream};
+use rbc_show::kept::server::ServeFault;
+use rbc_show::{Buffered, SessionFault, Stream};
 use std::io::{self, ErrorKind, Printer, Write};
 
 /// A writer that notes whether its reader has gone, as that of `rbc steps | head -1` has after a line.
@@ -41,10 +42,12 @@ pub(crate) fn standard_output<P: Print + AllocGlobal>(
 impl<W> Output<W> {
     /// Notes of an answer of the writer whether its reader has gone.
     fn note<V>(&mut self, answer: &io::Result<V>)
-        ensures { self.new.writer ≡ self.old.writer }
+        ensures writer { self.new.writer ≡ self.old.writer }
+        ensures written { OnOk answer.now (self.new.is_unread ≡ self.old.is_unread) }
+        ensures unwritten { (error : Error) → answer.now ≡ Err error → self.new.is_unread ≡ is_reader_gone error }
     {
         if let Err(error) = answer {
-            self.is_unread = error.kind() == ErrorKind::BrokenPipe;
+            self.is_unread = is_reader_gone(error);
         }
     }
 }
@@ -65,14 +68,19 @@ impl<W: Write> Write for Output<W> {
     }
 }
 
+/// Whether a write failed since its reader has gone.
+pub(crate) fn is_reader_gone(error: &io::Error) -> bool
+    ensures { result ≡ is_reader_gone error.now }
+{
+    matches!(error.kind(), ErrorKind::BrokenPipe)
+}
+
 /// How a command ended. That the output can't be written is no fault where its reader has gone: nobody wants the rest.
 pub(crate) fn ended<W: Write + Drop>(
     output: Stream<Buffered<Output<W>>>,
     outcome: Result<(), Failure>,
 ) -> Result<(), Failure>
-    // Any other outcome stays, and this one too unless the reader has gone.
-    ensures kept { is_output_fault outcome ≡ false → result ≡ outcome }
-    ensures told { (result ≡ outcome) ⊎ (result ≡ Ok tt) }
+    ensures { result ≡ end_of outcome (writer_inner output.inner.writer).inner.is_unread }
 {
     let is_fault = matches!(
         &outcome,

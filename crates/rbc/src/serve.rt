@@ -6,11 +6,11 @@ ghost use Rattle.rbc.specs.Listening.{listening_line};
 
 use crate::failure::Failure;
 use rbc_command_line::Service;
-use rbc_pages::kept::server::{
+use rbc_show::kept::server::{
     self, Blank, Client, Clients, Desk, DeskName, NoJournal, Port, Record, ServeFault, Staff,
     no_pens,
 };
-use rbc_pages::{Sink, Source, Word, WriteFailed, print_line};
+use rbc_show::{Sink, Source, Word, WriteFailed, print_line};
 use rbc_trackfile::Track;
 use std::alloc::Global;
 use std::io::Eprint;

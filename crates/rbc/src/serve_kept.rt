@@ -1,15 +1,15 @@
 //! A centre that serves connections, and keeps its history in a journal.
 
 ghost use Rattle.std.specs.Prelude.{◌≡◌, ◌<◌, ◌≤◌, false};
-ghost use Rattle.rbc_pages.specs.Kept.{IsReady};
+ghost use Rattle.rbc_show.specs.Kept.{IsReady};
 
 use crate::failure::Failure;
 use crate::serve::Opening;
 use rbc_command_line::Service;
-use rbc_pages::kept::scribe::{self, ScribeName};
-use rbc_pages::kept::server::{Client, Clients, DeskName, Served, Staff, serve};
-use rbc_pages::kept::{self, DeskJournal, Device, Kept, Opened, SeatTold, close};
-use rbc_pages::{Sink, Source};
+use rbc_show::kept::scribe::{self, ScribeName};
+use rbc_show::kept::server::{Client, Clients, DeskName, Served, Staff, serve};
+use rbc_show::kept::{self, DeskJournal, Device, Kept, Opened, SeatTold, close};
+use rbc_show::{Sink, Source};
 use std::alloc::Global;
 use std::io::Eprint;
 use std::marker::Brand;

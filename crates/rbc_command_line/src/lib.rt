@@ -23,6 +23,8 @@ pub enum Task<'a> {
     Run(Centre<'a>),
     /// Show what a session leads to.
     Show(Shown<'a>),
+    /// Read a track.
+    Track(Listed<'a>),
     /// Serve connections.
     Serve(Service<'a>),
 }
@@ -52,8 +54,17 @@ pub struct Centre<'a> {
 pub struct Shown<'a> {
     /// The track file.
     pub track: &'a str,
-    /// Whether the scene is drawn after each line that changes it; else at the end alone.
+    /// Whether each line is told with its reply and the scene that it leads to; else the last scene alone.
     pub each: bool,
+}
+
+/// How a track is read.
+#[derive(Clone, Copy, Debug, PartialEq, Eq)]
+pub struct Listed<'a> {
+    /// The track file.
+    pub track: &'a str,
+    /// Whether it is written as lines.
+    pub lines: bool,
 }
 
 /// How a centre serves.
@@ -125,12 +136,23 @@ Exit status:
 /// What stands behind the help of `show`.
 const SHOW: &str = "\
 Example:
-  rbc show station.toml < morning.txt > scene.html
+  rbc show station.toml --each < morning.txt > morning.lines
 
 Exit status:
   0  Each line was answered
   3  The track file can't be read, or is refused
   4  A read or write fault, a line over 4,096 bytes, or more than 1,000,000 lines
+  5  No memory";
+
+/// What stands behind the help of `track`.
+const TRACK: &str = "\
+Example:
+  rbc track station.toml --lines
+
+Exit status:
+  0  The track file has a track
+  3  The track file can't be read, or is refused
+  4  A write fault
   5  No memory";
 
 /// What stands behind the help of `run`.
@@ -189,6 +211,7 @@ pub fn read<'a>(alloc: Global, version: &'a str, words: &'a [String]) -> Result<
         .subcommand(draw(alloc))?
         .subcommand(run(alloc)?)?
         .subcommand(show(alloc)?)?
+        .subcommand(track(alloc)?)?
         .subcommand(serve(alloc)?)?;
     let matches = command.try_get_matches_from(words)?;
     Ok(task_in(&matches))
@@ -207,6 +230,12 @@ fn task_in<'a>(matches: &ArgMatches<'a>) -> Task<'a> {
         return Task::Show(Shown {
             track: show.get_str("TRACK").unwrap_or(""),
             each: show.get_flag("each"),
+        });
+    }
+    if let Some(track) = matches.subcommand_matches("track") {
+        return Task::Track(Listed {
+            track: track.get_str("TRACK").unwrap_or(""),
+            lines: track.get_flag("lines"),
         });
     }
     if let Some(serve) = matches.subcommand_matches("serve") {
@@ -279,15 +308,28 @@ fn run<'a>(alloc: Global) -> Result<Command<'a>, AllocError> {
 fn show<'a>(alloc: Global) -> Result<Command<'a>, AllocError> {
     let each = Arg::new(alloc, "each")
         .long("each")
-        .help("Draws the scene after each line that changes it")
+        .help("Writes each line with its number, its reply and the scene that it leads to")
         .action(ArgAction::SetTrue);
     Command::new(alloc, "show")
         .about(
-            "Draws the scene that the requests on standard input lead to, on the track of a file, as one page of HTML",
+            "Writes as lines the track of a file, and the scene that the requests on standard input lead to",
         )
         .after_help(SHOW)
         .arg(track_file(alloc))?
         .arg(each)
+}
+
+/// The command that reads a track.
+fn track<'a>(alloc: Global) -> Result<Command<'a>, AllocError> {
+    let lines = Arg::new(alloc, "lines")
+        .long("lines")
+        .help("Writes the track as lines")
+        .action(ArgAction::SetTrue);
+    Command::new(alloc, "track")
+        .about("Reads a track file, and tells why it is refused, if it is")
+        .after_help(TRACK)
+        .arg(track_file(alloc))?
+        .arg(lines)
 }
 
 /// The track file of a centre.

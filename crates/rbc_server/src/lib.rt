@@ -10,9 +10,10 @@ mod staff;
 
 pub use rbc_port::{Client, Clients, Closed, Ends, Port, PortFailed, Terms};
 pub use rbc_sessions::{
-    Blank, Candidate, Counter, Desk, DeskName, KeepFault, Keeper, NoJournal, NotKept, Receipt,
-    Record, Seat, SessionEnd, SessionFault, Sight, Sitting, View, candidate, commit, demand_in,
-    in_vain, looked_up, print_history, replies, run, session, stopped, tell, words,
+    Blank, Candidate, Centre, Counter, Desk, DeskName, KeepFault, Keeper, NoJournal, NotKept,
+    Nowhere, Receipt, Record, Seat, SessionEnd, SessionFault, Sight, Sitting, View, candidate,
+    commit, demand_in, in_vain, looked_up, print_history, replies, run, session, stopped, tell,
+    words,
 };
 pub use serving::{ServeFault, Served, Unserved, serve};
 pub use staff::{Staff, no_pens};

@@ -14,7 +14,7 @@ use std::thread::Threads;
 
 /// The centre: what is told to it and asked of it, line by line, is answered by a record.
 #[derive(Drop)]
-pub(crate) struct Centre;
+pub struct Centre;
 
 impl Answers<Centre> for Record {
     type State = Record;

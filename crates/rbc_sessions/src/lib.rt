@@ -17,10 +17,12 @@ mod sitting;
 mod telling;
 
 pub use asking::{commit, stopped, told_of};
+pub use centre::Centre;
 pub use counter::Counter;
 pub use demand::{demand_in, looked_up};
 pub use histories::print_history;
 pub use keeping::{KeepFault, Keeper, NoJournal, NotKept};
+pub use nowhere::Nowhere;
 pub use rbc_replies as replies;
 pub use rbc_replies::words;
 pub use rbc_streams::SessionFault;

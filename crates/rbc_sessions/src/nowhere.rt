@@ -2,9 +2,9 @@
 
 use rbc_streams::{Sink, WriteFailed};
 
-/// Takes all bytes, and keeps none: for replies to a client that is gone.
+/// Takes all bytes, and keeps none: for replies to a client that is gone, or whose writer failed.
 #[derive(Drop)]
-pub(crate) struct Nowhere;
+pub struct Nowhere;
 
 impl Sink for Nowhere {
     ghost use Rattle.std.specs.Prelude.{[], false, None};

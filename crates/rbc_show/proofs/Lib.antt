@@ -1,5 +1,4 @@
-mod FigureLemmas
-mod MetreLemmas
-mod StairLemmas
-mod WayLemmas
-pub use Rattle.rbc_draw.proofs.ShowLemmas
+mod EndLemmas
+mod WritingLemmas
+mod FollowingLemmas
+mod TellingLemmas

@@ -1,8 +1,4 @@
-pub mod Figures
-pub mod Held
-pub mod Marks
-pub mod Pages
-pub mod Pieces
-pub mod Stairs
-pub mod Strips
-pub mod Words
+pub mod Showing
+pub use Rattle.rbc_kept.specs.Kept
+pub use Rattle.rbc_kept.specs.Retelling
+pub use Rattle.rbc_kept.specs.ServeFault

@@ -1,18 +1,14 @@
-//! A scene, shown: a page with a figure for each train.
+//! A session that is shown: its track, and the scenes that its lines lead to, as lines.
 #![tactic(auto)]
 
-mod bars;
-mod figure;
-mod marks;
-mod page;
-mod parts;
-mod phrases;
-mod pieces;
-mod stairs;
-mod strip;
-mod way;
-mod words;
+mod each;
+mod last;
+mod listing;
+mod scene;
 
-pub use page::{ShowFault, print_foot, print_head, show_scene};
-pub use rbc_draw::{check, draw};
-pub use rbc_scene::Scene;
+pub use each::show_each;
+pub use last::show;
+pub use listing::list;
+pub use rbc_kept as kept;
+pub use rbc_kept::server::words::{Word, print_line};
+pub use rbc_streams::{Buffered, SessionFault, Sink, Source, Stream, WriteFailed};

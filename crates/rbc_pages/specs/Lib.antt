@@ -1,4 +1,0 @@
-pub mod Showing
-pub use Rattle.rbc_kept.specs.Kept
-pub use Rattle.rbc_kept.specs.Retelling
-pub use Rattle.rbc_kept.specs.ServeFault

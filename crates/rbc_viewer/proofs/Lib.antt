@@ -1,0 +1,3 @@
+pub mod EscapeLemmas
+mod JudgedLemmas
+mod DrawingLemmas
