@@ -1,7 +1,7 @@
 -- A commit, device call by device call.
 use Rattle.std.proofs.Common.{◌≡◌, inl, ℕ, ◌+◌, ◌≤◌, List, [], ◌∷◌, ◌++◌, length, ◌∙◌, ap, subst, arith}
 use Rattle.rbc_journal.specs.Device.{Holds, Torn, Follows, Only, Elapses, LeavesOnly}
-use Rattle.rbc_journal.specs.Journal.{recovered, at_rest, staged_in, IsBeforeOrAfter}
+use Rattle.rbc_journal.specs.Gates.{counted, at_rest, staged_in, CountsBeforeOrAfter}
 use Rattle.rbc_journal.specs.Settled.{Waits}
 use Rattle.rbc_journal.proofs.LineLemmas.{are_lines}
 use Rattle.rbc_journal.proofs.MomentLemmas.{started, goes_on}
@@ -11,13 +11,13 @@ module _ {D : Type 0} (seen : D → List ℕ) (may_leave : D → List ℕ → Ty
     (only_now : (file : D) (c : List ℕ) → left_since file (moment file) c → may_leave file c)
     (old : D) (gate : ℕ) (bytes : List ℕ) (waits : Waits seen may_leave old gate bytes) where
   abbrev lines : List (List ℕ)
-  lines = recovered (seen old)
+  lines = counted (seen old)
 
   abbrev more : List (List ℕ)
   more = staged_in bytes
 
   abbrev P : List ℕ → Type 0
-  P = IsBeforeOrAfter lines more
+  P = CountsBeforeOrAfter lines more
 
   abbrev Goes : D → D → Type 0
   Goes one other = Elapses (moment one) (moment other) (left_since one) (left_since other) (may_leave other)
@@ -26,7 +26,7 @@ module _ {D : Type 0} (seen : D → List ℕ) (may_leave : D → List ℕ → Ty
   begins_within = omega (arith, ap length waits.file, length-at_rest lines gate waits.at (are_lines (seen old)))
 
   at_start : LeavesOnly moment left_since old old P
-  at_start = started moment left_since old P (λ c left. inl (ap recovered (waits.durable c (only_now old c left))))
+  at_start = started moment left_since old P (λ c left. inl (ap counted (waits.durable c (only_now old c left))))
 
   -- the first write leaves the lines as they were
   module _ (written : D) (tears : Follows (Torn (gate + 1) (length bytes)) (may_leave old) (may_leave written)) (goes : Goes old written) where

@@ -3,10 +3,10 @@ use Rattle.std.proofs.Common.{◌≡◌, ℕ, ◌+◌, ◌^◌, ◌<◌, ◌≤�
 use Rattle.std.proofs.lemmas.List.Elements.{All-append}
 use Rattle.std.specs.Result.{OnOk}
 use Rattle.rbc_journal.specs.Device.{Only}
-use Rattle.rbc_journal.specs.Journal.{recovered, text, at_rest, behind, staged_in, IsLine}
+use Rattle.rbc_journal.specs.Gates.{counted, text, at_rest, behind, staged_in, IsLine}
 use Rattle.rbc_journal.specs.Settled.{IsSettled, staged}
 use Rattle.rbc_journal.specs.declared.journal.Journal.{Journal}
-use Rattle.rbc_journal.proofs.LineLemmas.{are_lines, recovered-at_rest}
+use Rattle.rbc_journal.proofs.LineLemmas.{are_lines, counted-at_rest}
 use Rattle.rbc_journal.proofs.CrashLemmas.{all_open}
 
 pub on_ok : {T E P : Type 0} (r : Result T E) → P → OnOk r P
@@ -15,7 +15,7 @@ on_ok (Err e) p = tt
 
 module _ {D : Type 0} (seen : D → List ℕ) (may_leave : D → List ℕ → Type 0) (old new : Journal D) where
   abbrev lines : List (List ℕ)
-  lines = recovered (seen old.device)
+  lines = counted (seen old.device)
 
   abbrev more : List (List ℕ)
   more = staged old
@@ -24,8 +24,8 @@ module _ {D : Type 0} (seen : D → List ℕ) (may_leave : D → List ℕ → Ty
     are : All IsLine (lines ++ more)
     are = All-append IsLine lines more (are_lines (seen old.device)) (are_lines (32 ∷ old.pending.items))
 
-    pub all_there : recovered (seen new.device) ≡ lines ++ more
-    all_there = ap recovered is ∙ recovered-at_rest (lines ++ more) are
+    pub all_there : counted (seen new.device) ≡ lines ++ more
+    all_there = ap counted is ∙ counted-at_rest (lines ++ more) are
 
     pub is_settled : Only (seen new.device) (may_leave new.device) → 0 < length old.pending.items → new.gate ≡ old.gate + length old.pending.items
         → new.gate ≤ 2 ^ 60 → new.pending.items ≡ [] → vec_len new.pending ≡ 0 → IsSettled seen may_leave new

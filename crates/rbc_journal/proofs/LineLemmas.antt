@@ -4,7 +4,7 @@ use Rattle.std.proofs.lemmas.List.{append-nil, take_more, drop_more}
 use Rattle.std.proofs.lemmas.List.Elements.{All-nil, All-head, All-tail, All-cons, All-append}
 use Rattle.std.proofs.lemmas.Bool.{cases_eq}
 use Rattle.std.proofs.lemmas.Bool.Decides.{nat_tests}
-use Rattle.rbc_journal.specs.Journal.{lines_from, recovered, text, at_rest, IsLine}
+use Rattle.rbc_journal.specs.Gates.{lines_from, counted, text, at_rest, IsLine}
 
 abbrev NotFeed : ℕ → Type 0
 NotFeed byte = byte ≢ 10
@@ -16,17 +16,17 @@ text-append (line ∷ a) b =
 
 -- ---- inside a line
 
-feed : (line rest : List ℕ) → lines_from (Some line) (10 ∷ rest) ≡ line ∷ recovered rest
+feed : (line rest : List ℕ) → lines_from (Some line) (10 ∷ rest) ≡ line ∷ counted rest
 feed line rest = refl
 
 no_feed : (line rest : List ℕ) (byte : ℕ) → byte ≢ 10 → lines_from (Some line) (byte ∷ rest) ≡ lines_from (Some (line ++ byte ∷ [])) rest
 no_feed line rest byte differs = grind (arith, nat_tests)
 
-pub lines_inside : (front line rest : List ℕ) → IsLine line → lines_from (Some front) (line ++ 10 ∷ rest) ≡ (front ++ line) ∷ recovered rest
-lines_inside front [] rest is = ap (λ (l : List ℕ). l ∷ recovered rest) (sym (append-nil front))
+pub lines_inside : (front line rest : List ℕ) → IsLine line → lines_from (Some front) (line ++ 10 ∷ rest) ≡ (front ++ line) ∷ counted rest
+lines_inside front [] rest is = ap (λ (l : List ℕ). l ∷ counted rest) (sym (append-nil front))
 lines_inside front (byte ∷ line) rest is =
     no_feed front (line ++ 10 ∷ rest) byte (All-head NotFeed byte line is) ∙ lines_inside (front ++ byte ∷ []) line rest (All-tail NotFeed byte line is)
-    ∙ ap (λ (l : List ℕ). l ∷ recovered rest) (append_assoc front (byte ∷ []) line)
+    ∙ ap (λ (l : List ℕ). l ∷ counted rest) (append_assoc front (byte ∷ []) line)
 
 pub unfinished : (front line : List ℕ) → IsLine line → lines_from (Some front) line ≡ []
 unfinished front [] is = refl
@@ -35,31 +35,31 @@ unfinished front (byte ∷ line) is = no_feed front line byte (All-head NotFeed 
 -- ---- from a gate on
 
 -- a closed gate ends them, whatever stands behind it
-pub closed : (gate : ℕ) (rest : List ℕ) → gate ≢ 32 → recovered (gate ∷ rest) ≡ []
+pub closed : (gate : ℕ) (rest : List ℕ) → gate ≢ 32 → counted (gate ∷ rest) ≡ []
 closed gate rest shut = grind (arith, nat_tests)
 
-pub recovered-line : (line rest : List ℕ) → IsLine line → recovered (32 ∷ line ++ 10 ∷ rest) ≡ line ∷ recovered rest
-recovered-line line rest is = lines_inside [] line rest is
+pub counted-line : (line rest : List ℕ) → IsLine line → counted (32 ∷ line ++ 10 ∷ rest) ≡ line ∷ counted rest
+counted-line line rest is = lines_inside [] line rest is
 
-pub recovered-text : (lines : List (List ℕ)) (rest : List ℕ) → All IsLine lines → recovered (text lines ++ rest) ≡ lines ++ recovered rest
-recovered-text [] rest are = refl
-recovered-text (line ∷ lines) rest are =
-    ap (λ (l : List ℕ). recovered (32 ∷ l)) (append_assoc line (10 ∷ text lines) rest)
-    ∙ recovered-line line (text lines ++ rest) (All-head IsLine line lines are)
-    ∙ ap (λ (ls : List (List ℕ)). line ∷ ls) (recovered-text lines rest (All-tail IsLine line lines are))
+pub counted-text : (lines : List (List ℕ)) (rest : List ℕ) → All IsLine lines → counted (text lines ++ rest) ≡ lines ++ counted rest
+counted-text [] rest are = refl
+counted-text (line ∷ lines) rest are =
+    ap (λ (l : List ℕ). counted (32 ∷ l)) (append_assoc line (10 ∷ text lines) rest)
+    ∙ counted-line line (text lines ++ rest) (All-head IsLine line lines are)
+    ∙ ap (λ (ls : List (List ℕ)). line ∷ ls) (counted-text lines rest (All-tail IsLine line lines are))
 
 -- lines, and behind them what stands for none
-pub stands_for : (lines : List (List ℕ)) (rest : List ℕ) → All IsLine lines → recovered rest ≡ [] → recovered (text lines ++ rest) ≡ lines
-stands_for lines rest are none = recovered-text lines rest are ∙ ap (λ (ls : List (List ℕ)). lines ++ ls) none ∙ append-nil lines
+pub stands_for : (lines : List (List ℕ)) (rest : List ℕ) → All IsLine lines → counted rest ≡ [] → counted (text lines ++ rest) ≡ lines
+stands_for lines rest are none = counted-text lines rest are ∙ ap (λ (ls : List (List ℕ)). lines ++ ls) none ∙ append-nil lines
 
-pub recovered-at_rest : (lines : List (List ℕ)) → All IsLine lines → recovered (at_rest lines) ≡ lines
-recovered-at_rest lines are = stands_for lines (35 ∷ []) are refl
+pub counted-at_rest : (lines : List (List ℕ)) → All IsLine lines → counted (at_rest lines) ≡ lines
+counted-at_rest lines are = stands_for lines (35 ∷ []) are refl
 
 -- one byte is no line
-pub short_nothing : (bytes : List ℕ) → length bytes ≤ 1 → recovered bytes ≡ []
+pub short_nothing : (bytes : List ℕ) → length bytes ≤ 1 → counted bytes ≡ []
 short_nothing [] short = refl
 short_nothing (gate ∷ []) short = elim (cases_eq gate 32) [
-  | inl is ↦ ap (λ (g : ℕ). recovered (g ∷ [])) is
+  | inl is ↦ ap (λ (g : ℕ). counted (g ∷ [])) is
   | inr shut ↦ closed gate [] shut
 ]
 short_nothing (a ∷ b ∷ bytes) short = absurd (omega arith)
@@ -77,22 +77,22 @@ SoFar (Some front) = IsLine front
 are_from : (so_far : Option (List ℕ)) (file : List ℕ) → SoFar so_far → All IsLine (lines_from so_far file)
 are_from None [] is = All-nil IsLine
 are_from None (gate ∷ file) is = elim (cases_eq gate 32) [
-  | inl is_open ↦ subst (λ (g : ℕ). All IsLine (recovered (g ∷ file))) (sym is_open) (are_from (Some []) file (All-nil NotFeed))
+  | inl is_open ↦ subst (λ (g : ℕ). All IsLine (counted (g ∷ file))) (sym is_open) (are_from (Some []) file (All-nil NotFeed))
   | inr shut ↦ subst (All IsLine) (sym (closed gate file shut)) (All-nil IsLine)
 ]
 are_from (Some front) [] is = All-nil IsLine
 are_from (Some front) (byte ∷ file) is = elim (cases_eq byte 10) [
-  | inl ends ↦ subst (λ (b : ℕ). All IsLine (lines_from (Some front) (b ∷ file))) (sym ends) (All-cons IsLine front (recovered file) is (are_from None file tt))
+  | inl ends ↦ subst (λ (b : ℕ). All IsLine (lines_from (Some front) (b ∷ file))) (sym ends) (All-cons IsLine front (counted file) is (are_from None file tt))
   | inr differs ↦ subst (All IsLine) (sym (no_feed front file byte differs)) (are_from (Some (front ++ byte ∷ [])) file (snoc_line front byte is differs))
 ]
 
-pub are_lines : (file : List ℕ) → All IsLine (recovered file)
+pub are_lines : (file : List ℕ) → All IsLine (counted file)
 are_lines file = are_from None file tt
 
 -- ---- one byte after the other
 
 module _ (bytes : List ℕ) (at : ℕ) (within : at < length bytes) where
-  pub feed_at : get_or bytes at 0 ≡ 10 → lines_from (Some (take at bytes)) (drop at bytes) ≡ take at bytes ∷ recovered (drop (at + 1) bytes)
+  pub feed_at : get_or bytes at 0 ≡ 10 → lines_from (Some (take at bytes)) (drop at bytes) ≡ take at bytes ∷ counted (drop (at + 1) bytes)
   feed_at is = ap (λ (l : List ℕ). lines_from (Some (take at bytes)) l) (drop_more bytes at 0 within ∙ ap (λ (b : ℕ). b ∷ drop (at + 1) bytes) is)
 
   pub more_at : get_or bytes at 0 ≢ 10 → lines_from (Some (take at bytes)) (drop at bytes) ≡ lines_from (Some (take (at + 1) bytes)) (drop (at + 1) bytes)

@@ -4,8 +4,8 @@ use Rattle.std.proofs.lemmas.Bool.{cases_eq}
 use Rattle.std.proofs.lemmas.List.{append-nil, take_at, take_all, drop_all}
 use Rattle.std.proofs.lemmas.List.Elements.{All-nil, All-head, All-tail, All-cons}
 use Rattle.rbc_journal.specs.Device.{Holds, Torn, Cut, Only, Follows, Elapses, LeavesOnly}
-use Rattle.rbc_journal.specs.Journal.{recovered, text, at_rest, IsLine}
-use Rattle.rbc_journal.proofs.LineLemmas.{recovered-line, unfinished, stands_for, closed, short_nothing, are_lines, recovered-at_rest}
+use Rattle.rbc_journal.specs.Gates.{counted, text, at_rest, IsLine}
+use Rattle.rbc_journal.proofs.LineLemmas.{counted-line, unfinished, stands_for, closed, short_nothing, are_lines, counted-at_rest}
 use Rattle.rbc_journal.proofs.MomentLemmas.{started, goes_on}
 
 abbrev NotFeed : ℕ → Type 0
@@ -37,18 +37,18 @@ front_line (suc n) (byte ∷ line) is = All-cons NotFeed byte (take n line) (All
 -- a file is its lines, and an end of which no front stands for a line
 pub record Parts (file : List ℕ) : Type 0 where
   pub end : List ℕ
-  pub split : file ≡ text (recovered file) ++ end
-  pub nothing : (n : ℕ) → recovered (take n end) ≡ []
+  pub split : file ≡ text (counted file) ++ end
+  pub nothing : (n : ℕ) → counted (take n end) ≡ []
 
-none_shut : (gate : ℕ) (rest : List ℕ) → gate ≢ 32 → (n : ℕ) → recovered (take n (gate ∷ rest)) ≡ []
+none_shut : (gate : ℕ) (rest : List ℕ) → gate ≢ 32 → (n : ℕ) → counted (take n (gate ∷ rest)) ≡ []
 none_shut gate rest shut zero = refl
 none_shut gate rest shut (suc n) = closed gate (take n rest) shut
 
-none_unfinished : (rest : List ℕ) → IsLine rest → (n : ℕ) → recovered (take n (32 ∷ rest)) ≡ []
+none_unfinished : (rest : List ℕ) → IsLine rest → (n : ℕ) → counted (take n (32 ∷ rest)) ≡ []
 none_unfinished rest is zero = refl
 none_unfinished rest is (suc n) = unfinished [] (take n rest) (front_line n rest is)
 
-empty_nothing : (n : ℕ) → recovered (take n []) ≡ []
+empty_nothing : (n : ℕ) → counted (take n []) ≡ []
 empty_nothing zero = refl
 empty_nothing (suc n) = refl
 
@@ -68,11 +68,11 @@ shut_part gate rest shut = record {
 
 line_part : (rest : List ℕ) (f : Feed rest) → Parts f.rest → Parts (32 ∷ rest)
 line_part rest f further =
-    let lines : recovered (32 ∷ rest) ≡ f.line ∷ recovered f.rest = ap (λ (l : List ℕ). recovered (32 ∷ l)) f.is ∙ recovered-line f.line f.rest f.form in
+    let lines : counted (32 ∷ rest) ≡ f.line ∷ counted f.rest = ap (λ (l : List ℕ). counted (32 ∷ l)) f.is ∙ counted-line f.line f.rest f.form in
     record {
       end = further.end;
       split =
-          ap (λ (l : List ℕ). 32 ∷ l) (f.is ∙ ap (λ (l : List ℕ). f.line ++ 10 ∷ l) further.split ∙ sym (append_assoc f.line (10 ∷ text (recovered f.rest)) further.end))
+          ap (λ (l : List ℕ). 32 ∷ l) (f.is ∙ ap (λ (l : List ℕ). f.line ++ 10 ∷ l) further.split ∙ sym (append_assoc f.line (10 ∷ text (counted f.rest)) further.end))
           ∙ ap (λ (ls : List (List ℕ)). text ls ++ further.end) (sym lines);
       nothing = further.nothing;
     }
@@ -96,28 +96,28 @@ take_past [] ys m n is = let same : m ≡ n = omega arith in ap (λ (k : ℕ). t
 take_past (x ∷ xs) ys zero n is = absurd (omega arith)
 take_past (x ∷ xs) ys (suc m) n is = ap (λ (l : List ℕ). x ∷ l) (take_past xs ys m n (omega arith))
 
-module _ (file : List ℕ) (end : ℕ) (at : end ≡ length (text (recovered file))) where
+module _ (file : List ℕ) (end : ℕ) (at : end ≡ length (text (counted file))) where
   abbrev lines : List (List ℕ)
-  lines = recovered file
+  lines = counted file
 
   -- any cut keeps the lines
-  cut_keeps : (c : List ℕ) → Cut end file c → recovered c ≡ lines
+  cut_keeps : (c : List ℕ) → Cut end file c → counted c ≡ lines
   cut_keeps c cut =
       let size : length file ≡ length (text lines) + length (parts file).end = ap length (parts file).split ∙ length-append (text lines) (parts file).end in
       let whole : c ≡ take (length c) (text lines ++ (parts file).end) = sym cut.front ∙ ap (λ (l : List ℕ). take (length c) l) (parts file).split in
       let n = length c - length (text lines) in
       let cut_end : c ≡ text lines ++ take n (parts file).end = whole ∙ take_past (text lines) (parts file).end (length c) n (omega (arith, cut.no_shorter, at, size)) in
-      ap recovered cut_end ∙ stands_for lines (take n (parts file).end) (are_lines file) ((parts file).nothing n)
+      ap counted cut_end ∙ stands_for lines (take n (parts file).end) (are_lines file) ((parts file).nothing n)
 
   pub cut_done : take end file ≡ text lines
   cut_done = ap (λ (l : List ℕ). take end l) (parts file).split ∙ take_at (text lines) (parts file).end end (sym at)
 
   -- one byte behind the lines is no line
-  torn_end : (c : List ℕ) → Torn end 1 (text lines) c → recovered c ≡ lines
+  torn_end : (c : List ℕ) → Torn end 1 (text lines) c → counted c ≡ lines
   torn_end c torn =
       let front : take end c ≡ text lines = torn.before ∙ take_all end (text lines) (omega (arith, at)) in
       let whole : c ≡ text lines ++ drop end c = sym (take-append-drop end c) ∙ ap (λ (l : List ℕ). l ++ drop end c) front in
-      ap recovered whole ∙ stands_for lines (drop end c) (are_lines file) (short_nothing (drop end c) (omega (arith, length-drop end c, at, torn.no_longer)))
+      ap counted whole ∙ stands_for lines (drop end c) (are_lines file) (short_nothing (drop end c) (omega (arith, length-drop end c, at, torn.no_longer)))
 
   written_end : (c : List ℕ) → Holds (text lines) end (35 ∷ []) c → c ≡ at_rest lines
   written_end c holds =
@@ -129,9 +129,9 @@ module _ (file : List ℕ) (end : ℕ) (at : end ≡ length (text (recovered fil
 -- A repair, device call by device call.
 module _ {D : Type 0} (seen : D → List ℕ) (may_leave : D → List ℕ → Type 0) (moment : D → ℕ) (left_since : D → ℕ → List ℕ → Type 0)
     (only_now : (file : D) (c : List ℕ) → left_since file (moment file) c → may_leave file c)
-    (old : D) (bytes : List ℕ) (read : seen old ≡ bytes) (durable : Only (seen old) (may_leave old)) (end : ℕ) (at : end ≡ length (text (recovered bytes))) where
+    (old : D) (bytes : List ℕ) (read : seen old ≡ bytes) (durable : Only (seen old) (may_leave old)) (end : ℕ) (at : end ≡ length (text (counted bytes))) where
   abbrev P : List ℕ → Type 0
-  P c = recovered c ≡ recovered bytes
+  P c = counted c ≡ counted bytes
 
   abbrev Goes : D → D → Type 0
   Goes one other = Elapses (moment one) (moment other) (left_since one) (left_since other) (may_leave other)
@@ -140,7 +140,7 @@ module _ {D : Type 0} (seen : D → List ℕ) (may_leave : D → List ℕ → Ty
   only = subst (λ f. Only f (may_leave old)) read durable
 
   pub at_start : LeavesOnly moment left_since old old P
-  at_start = started moment left_since old P (λ c left. ap recovered (only c (only_now old c left)))
+  at_start = started moment left_since old P (λ c left. ap counted (only c (only_now old c left)))
 
   module _ (shorter : D) (cuts : Follows (Cut end) (may_leave old) (may_leave shorter)) (goes : Goes old shorter) where
     first : (c : List ℕ) → may_leave shorter c → P c
@@ -154,7 +154,7 @@ module _ {D : Type 0} (seen : D → List ℕ) (may_leave : D → List ℕ → Ty
       after_sync = goes_on moment left_since old shorter kept P _ after_cut on (λ c left. first c (stays c left))
 
       module _ (is_cut : seen shorter ≡ take end (seen old)) (same : seen kept ≡ seen shorter) (durable_cut : Only (seen shorter) (may_leave kept)) where
-        is_text : seen shorter ≡ text (recovered bytes)
+        is_text : seen shorter ≡ text (counted bytes)
         is_text = is_cut ∙ ap (λ (l : List ℕ). take end l) read ∙ cut_done bytes end at
 
         pub end_within : end ≤ length (seen kept)
@@ -172,9 +172,9 @@ module _ {D : Type 0} (seen : D → List ℕ) (may_leave : D → List ℕ → Ty
           pub after_all : (new : D) → ((c : List ℕ) → may_leave new c → may_leave written c) → Goes written new → LeavesOnly moment left_since old new P
           after_all new stays_so last = goes_on moment left_since old written new P _ after_write last (λ c left. second c (stays_so c left))
 
-          pub ends_at_rest : (new : D) → seen new ≡ seen written → Holds (seen kept) end (35 ∷ []) (seen written) → seen new ≡ at_rest (recovered bytes)
+          pub ends_at_rest : (new : D) → seen new ≡ seen written → Holds (seen kept) end (35 ∷ []) (seen written) → seen new ≡ at_rest (counted bytes)
           ends_at_rest new unchanged holds =
               unchanged ∙ written_end bytes end at (seen written) (subst (λ f. Holds f end (35 ∷ []) (seen written)) (same ∙ is_text) holds)
 
-pub same_lines : {file : List ℕ} (bytes : List ℕ) → file ≡ at_rest (recovered bytes) → recovered file ≡ recovered bytes
-same_lines bytes is = ap recovered is ∙ recovered-at_rest (recovered bytes) (are_lines bytes)
+pub same_lines : {file : List ℕ} (bytes : List ℕ) → file ≡ at_rest (counted bytes) → counted file ≡ counted bytes
+same_lines bytes is = ap counted is ∙ counted-at_rest (counted bytes) (are_lines bytes)

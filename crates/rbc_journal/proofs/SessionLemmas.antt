@@ -2,7 +2,7 @@
 use Rattle.std.proofs.Common.{◌≡◌, ◌≢◌, ℕ, List, [], ◌∷◌, ◌++◌, All, map, refl, ◌∙◌, ap, arith, append_assoc}
 use Rattle.std.proofs.lemmas.Bool.Decides.{nat_tests}
 use Rattle.std.proofs.lemmas.List.Elements.{All-head, All-tail}
-use Rattle.rbc_journal.specs.Journal.{IsLine, text, at_rest}
+use Rattle.rbc_journal.specs.Gates.{IsLine, text, at_rest}
 use Rattle.rbc_journal.specs.Sessions.{with_front, lines_of}
 
 abbrev NotFeed : ℕ → Type 0

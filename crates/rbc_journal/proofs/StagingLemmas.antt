@@ -2,14 +2,14 @@
 use Rattle.std.proofs.Common.{◌≡◌, ℕ, ◌-◌, ◌<◌, List, [], ◌∷◌, ◌++◌, length, All, take, refl, sym, ◌∙◌, ap, arith, append_assoc, length-append}
 use Rattle.std.proofs.lemmas.List.{take_at}
 use Rattle.std.proofs.lemmas.List.Elements.{All-nil, All-cons, All-append}
-use Rattle.rbc_journal.specs.Journal.{recovered, text, at_rest, behind, staged_in, IsLine}
-use Rattle.rbc_journal.proofs.LineLemmas.{text-append, are_lines, recovered-at_rest}
+use Rattle.rbc_journal.specs.Gates.{counted, text, at_rest, behind, staged_in, IsLine}
+use Rattle.rbc_journal.proofs.LineLemmas.{text-append, are_lines, counted-at_rest}
 use Rattle.rbc_journal.proofs.CrashLemmas.{gate_behind}
 
 -- what is staged for lines stands for just these
 pub staged-behind : (lines : List (List ℕ)) → All IsLine lines → staged_in (behind lines) ≡ lines
 staged-behind [] are = refl
-staged-behind (line ∷ lines) are = ap recovered (gate_behind line lines) ∙ recovered-at_rest (line ∷ lines) are
+staged-behind (line ∷ lines) are = ap counted (gate_behind line lines) ∙ counted-at_rest (line ∷ lines) are
 
 -- the same without the closed gate at its end
 abbrev pub unfinished_behind : List ℕ → List (List ℕ) → List ℕ

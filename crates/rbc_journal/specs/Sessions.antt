@@ -1,6 +1,6 @@
 -- A file at rest as the input of a session.
 use Rattle.std.specs.Prelude.{◌≡◌, ℕ, List, [], ◌∷◌, ◌++◌, map, All, if◌then◌else◌, ◌==◌}
-use Rattle.rbc_journal.specs.Journal.{IsLine, at_rest}
+use Rattle.rbc_journal.specs.Gates.{IsLine, at_rest}
 
 -- a byte in front of the first line
 abbrev pub with_front : ℕ → List (List ℕ) → List (List ℕ)

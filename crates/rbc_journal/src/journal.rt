@@ -3,7 +3,7 @@
 
 ghost use Rattle.std.specs.Prelude.{◌≡◌, ◌+◌, ◌-◌, ◌^◌, ◌<◌, ◌≤◌, ◌++◌, [], ◌∷◌, length, take, OnOk, OnErr, IfOk, IfErr, IsErrOf, vec_len, vec_capacity};
 ghost use Rattle.rbc_journal.specs.Device.{Only, LeavesOnly};
-ghost use Rattle.rbc_journal.specs.Journal.{recovered, at_rest, staged_in, IsLine, IsBeforeOrAfter};
+ghost use Rattle.rbc_journal.specs.Gates.{counted, at_rest, staged_in, IsLine, CountsBeforeOrAfter};
 ghost use Rattle.rbc_journal.specs.Settled.{staged, IsSettled, HasRoom, HasCause, Waits};
 
 use crate::repair::{MOST_BYTES, recover};
@@ -31,14 +31,14 @@ impl<D: Device> Journal<D> {
         requires read { D.seen device ≡ bytes.now }
         requires durable { Only (D.seen device) (D.may_leave device) }
         ensures settled { IfOk result (λ journal. IsSettled D.seen D.may_leave journal) }
-        ensures same { IfOk result (λ journal. recovered (D.seen journal.device) ≡ recovered bytes.now) }
+        ensures same { IfOk result (λ journal. counted (D.seen journal.device) ≡ counted bytes.now) }
         ensures staged { IfOk result (λ journal. staged journal ≡ []) }
 
         // A crash at any moment leaves the same lines.
         ensures any_moment { IfOk result (λ journal. LeavesOnly D.moment D.left_since device journal.device
-            (λ c. recovered c ≡ recovered bytes.now)) }
+            (λ c. counted c ≡ counted bytes.now)) }
         ensures any_moment_err { IfErr result (λ e. LeavesOnly D.moment D.left_since device e.1
-            (λ c. recovered c ≡ recovered bytes.now)) }
+            (λ c. counted c ≡ counted bytes.now)) }
 
         // It does not give up by itself.
         ensures cause { IfErr result (λ e. HasCause (D.faults device) (D.faults e.1) bytes.now e.0) }
@@ -71,12 +71,12 @@ impl<D: Device> Journal<D> {
         requires line { IsLine line.now }
 
         ensures acknowledged { OnOk result (IsSettled D.seen D.may_leave self.new
-            × (recovered (D.seen self.new.device) ≡ recovered (D.seen self.old.device) ++ line.now ∷ [])
+            × (counted (D.seen self.new.device) ≡ counted (D.seen self.old.device) ++ line.now ∷ [])
             × (staged self.new ≡ [])) }
 
         // A crash at any moment of the call leaves the lines from before it, with the new one or without.
         ensures any_moment { LeavesOnly D.moment D.left_since self.old.device self.new.device
-            (IsBeforeOrAfter (recovered (D.seen self.old.device)) (line.now ∷ [])) }
+            (CountsBeforeOrAfter (counted (D.seen self.old.device)) (line.now ∷ [])) }
 
         // Unless the file failed, it goes on as it was.
         ensures refused { IfErr result (λ fault. (fault ≡ JournalFault.Device → ⊥)
@@ -137,12 +137,12 @@ impl<D: Device> Journal<D> {
         requires { IsSettled D.seen D.may_leave self.old }
 
         ensures acknowledged { OnOk result (IsSettled D.seen D.may_leave self.new
-            × (recovered (D.seen self.new.device) ≡ recovered (D.seen self.old.device) ++ staged self.old)
+            × (counted (D.seen self.new.device) ≡ counted (D.seen self.old.device) ++ staged self.old)
             × (staged self.new ≡ [])) }
 
         // A crash at any moment of the call leaves the lines from before it, with all the staged ones or with none.
         ensures any_moment { LeavesOnly D.moment D.left_since self.old.device self.new.device
-            (IsBeforeOrAfter (recovered (D.seen self.old.device)) (staged self.old)) }
+            (CountsBeforeOrAfter (counted (D.seen self.old.device)) (staged self.old)) }
 
         // It does not give up by itself.
         ensures later { D.faults self.old.device ≤ D.faults self.new.device }
@@ -191,10 +191,10 @@ fn push_line(pending: &mut Vec<u8>, line: &[u8])
 fn write_behind<D: Device>(device: &mut D, gate: usize, bytes: &[u8]) -> Result<(), DeviceFailed>
     requires waits { Waits D.seen D.may_leave device.old gate bytes.now }
     requires fits { gate + length bytes.now ≤ 2 ^ 60 }
-    ensures written { OnOk result (D.seen device.new ≡ at_rest (recovered (D.seen device.old) ++ staged_in bytes.now)) }
+    ensures written { OnOk result (D.seen device.new ≡ at_rest (counted (D.seen device.old) ++ staged_in bytes.now)) }
     ensures durable { OnOk result (Only (D.seen device.new) (D.may_leave device.new)) }
     ensures any_moment { LeavesOnly D.moment D.left_since device.old device.new
-        (IsBeforeOrAfter (recovered (D.seen device.old)) (staged_in bytes.now)) }
+        (CountsBeforeOrAfter (counted (D.seen device.old)) (staged_in bytes.now)) }
     ensures later { D.faults device.old ≤ D.faults device.new }
     ensures failed { OnErr result (D.faults device.old < D.faults device.new) }
 {

@@ -1,15 +1,15 @@
 //! The lines in the bytes of a file, read from the front.
 
 ghost use Rattle.std.specs.Prelude.{◌≡◌, ◌+◌, ◌<◌, ◌≤◌, [], ◌∷◌, length, take, drop, IsTrue, Some, IfSome, IfNone};
-ghost use Rattle.rbc_journal.specs.Journal.{lines_from, recovered, text, IsLine};
+ghost use Rattle.rbc_journal.specs.Gates.{lines_from, counted, text, IsLine};
 
 /// The first line of a part of a file that begins with a gate, and what stands behind it. None where that line does not
 /// count.
 pub fn next_line(bytes: &[u8]) -> Option<(&[u8], &[u8])>
-    ensures line { IfSome result (λ found. recovered bytes.now ≡ found.0.now ∷ recovered found.1.now) }
+    ensures line { IfSome result (λ found. counted bytes.now ≡ found.0.now ∷ counted found.1.now) }
     ensures form { IfSome result (λ found. IsLine found.0.now) }
     ensures shorter { IfSome result (λ found. length found.0.now + 2 + length found.1.now ≡ length bytes.now) }
-    ensures none { IfNone result (recovered bytes.now ≡ []) }
+    ensures none { IfNone result (counted bytes.now ≡ []) }
 {
     let [b' ', after @ ..] = bytes else {
         return None;
@@ -29,7 +29,7 @@ pub fn is_line(bytes: &[u8]) -> bool
 fn end_of_line(bytes: &[u8]) -> Option<usize>
     ensures within { IfSome result (λ at. at < length bytes.now) }
     ensures line { IfSome result (λ at. IsLine (take at bytes.now)) }
-    ensures read { IfSome result (λ at. lines_from (Some []) bytes.now ≡ take at bytes.now ∷ recovered (drop (at + 1) bytes.now)) }
+    ensures read { IfSome result (λ at. lines_from (Some []) bytes.now ≡ take at bytes.now ∷ counted (drop (at + 1) bytes.now)) }
     ensures none { IfNone result (lines_from (Some []) bytes.now ≡ []) }
     ensures form { IfNone result (IsLine bytes.now) }
 {
@@ -45,7 +45,7 @@ fn end_of_line(bytes: &[u8]) -> Option<usize>
 
 /// How many bytes at the front of a file are whole lines that count.
 pub(crate) fn whole_part(bytes: &[u8]) -> usize
-    ensures value { result ≡ length (text (recovered bytes.now)) }
+    ensures value { result ≡ length (text (counted bytes.now)) }
     ensures within { result ≤ length bytes.now }
 {
     let mut rest = bytes;

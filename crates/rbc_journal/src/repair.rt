@@ -2,7 +2,7 @@
 
 ghost use Rattle.std.specs.Prelude.{◌≡◌, ◌^◌, ◌≤◌, length, OnOk, IfOk, IfErr};
 ghost use Rattle.rbc_journal.specs.Device.{Only, LeavesOnly};
-ghost use Rattle.rbc_journal.specs.Journal.{recovered, text, at_rest};
+ghost use Rattle.rbc_journal.specs.Gates.{counted, text, at_rest};
 ghost use Rattle.rbc_journal.specs.Settled.{HasCause};
 
 use crate::lines::whole_part;
@@ -20,14 +20,14 @@ pub(crate) fn recover<D: Device>(bytes: &[u8], device: &mut D) -> Result<usize, 
     requires read { D.seen device.old ≡ bytes.now }
     requires durable { Only (D.seen device.old) (D.may_leave device.old) }
 
-    ensures gate { IfOk result (λ gate. gate ≡ length (text (recovered bytes.now))) }
+    ensures gate { IfOk result (λ gate. gate ≡ length (text (counted bytes.now))) }
     ensures fits { IfOk result (λ gate. gate ≤ 2 ^ 60) }
-    ensures at_rest { OnOk result (D.seen device.new ≡ at_rest (recovered bytes.now)) }
-    ensures same { OnOk result (recovered (D.seen device.new) ≡ recovered bytes.now) }
+    ensures at_rest { OnOk result (D.seen device.new ≡ at_rest (counted bytes.now)) }
+    ensures same { OnOk result (counted (D.seen device.new) ≡ counted bytes.now) }
     ensures durable { OnOk result (Only (D.seen device.new) (D.may_leave device.new)) }
 
     // A crash at any moment leaves the same lines.
-    ensures any_moment { LeavesOnly D.moment D.left_since device.old device.new (λ c. recovered c ≡ recovered bytes.now) }
+    ensures any_moment { LeavesOnly D.moment D.left_since device.old device.new (λ c. counted c ≡ counted bytes.now) }
 
     ensures cause { IfErr result (λ fault. HasCause (D.faults device.old) (D.faults device.new) bytes.now fault) }
 {

@@ -1,5 +1,5 @@
 use Rattle.std.proofs.Common.{◌≡◌, ◌-◌, ◌≤◌, [], length, take, drop, Some}
-use Rattle.rbc_journal.specs.Journal.{lines_from, IsLine}
+use Rattle.rbc_journal.specs.Gates.{lines_from, IsLine}
 use Rattle.rbc_journal.proofs.lines.end_of_line.Given as goal
 
 abbrev pub invariant-loop-at : goal.invariant-loop-at
