@@ -7,6 +7,7 @@ mod journal;
 mod laws;
 mod lines;
 mod repair;
+mod seal;
 
 pub use device::{Device, DeviceFailed};
 pub use fault::JournalFault;
