@@ -1,49 +1,84 @@
 -- A journal after a commit.
-use Rattle.std.proofs.Common.{◌≡◌, ℕ, ◌+◌, ◌^◌, ◌<◌, ◌≤◌, List, [], ◌∷◌, ◌++◌, length, All, Result, Ok, Err, refl, sym, ◌∙◌, ap, subst, arith, length-append, vec_len}
-use Rattle.std.proofs.lemmas.List.Elements.{All-append}
+use Rattle.std.proofs.Common.{◌≡◌, inl, inr, ⊎_elim, ℕ, ◌+◌, ◌-◌, ◌^◌, ◌<◌, ◌≤◌, List, [], ◌∷◌, ◌++◌, length, take, All, Result, Ok, Err, true, refl, sym, ◌∙◌, ap, subst, arith, length-append, vec_len}
+use Rattle.std.proofs.lemmas.List.Elements.{All-append, All-nil}
 use Rattle.std.specs.Result.{OnOk}
-use Rattle.rbc_journal.specs.Device.{Only}
-use Rattle.rbc_journal.specs.Gates.{counted, text, at_rest, behind, staged_in, IsLine}
+use Rattle.rbc_journal.specs.Device.{Only, LeavesOnly}
+use Rattle.rbc_journal.specs.Gates.{counted, text, at_rest, behind, staged_in, IsLine, CountsBeforeOrAfter}
+use Rattle.rbc_journal.specs.Journal.{recovered, IsTold, IsBeforeOrAfter}
+use Rattle.rbc_journal.specs.Seals.{AreSealed, has_seal_form, seal_line, seal_of, seal_of_bytes}
 use Rattle.rbc_journal.specs.Settled.{IsSettled, staged}
 use Rattle.rbc_journal.specs.declared.journal.Journal.{Journal}
-use Rattle.rbc_journal.proofs.LineLemmas.{are_lines, counted-at_rest}
+use Rattle.rbc_journal.proofs.ChainLemmas.{stands_for_both, stands_for_first, still_sealed}
 use Rattle.rbc_journal.proofs.CrashLemmas.{all_open}
+use Rattle.rbc_journal.proofs.LineLemmas.{are_lines, counted-at_rest}
+use Rattle.rbc_journal.proofs.StagingLemmas.{text_staged}
 
 pub on_ok : {T E P : Type 0} (r : Result T E) → P → OnOk r P
 on_ok (Ok x) p = p
 on_ok (Err e) p = tt
 
-module _ {D : Type 0} (seen : D → List ℕ) (may_leave : D → List ℕ → Type 0) (old new : Journal D) where
+-- the seal of what is staged, by its bytes
+module _ {D : Type 0} (old : Journal D) (bytes seal : List ℕ) (n : ℕ) (waiting : old.pending.items ≡ behind (staged old)) (same : bytes ≡ old.pending.items)
+    (some : 0 < length bytes) (at : n ≡ length bytes - 1) (is : seal ≡ seal_of_bytes old.seal (32 ∷ take n bytes)) where
+  pub seal_is : seal ≡ seal_of old.seal (staged old)
+  seal_is = is ∙ ap (seal_of_bytes old.seal) (text_staged (staged old) bytes n (same ∙ waiting) some at)
+
+  pub has_form : has_seal_form (seal_line seal) ≡ true → has_seal_form (seal_line (seal_of old.seal (staged old))) ≡ true
+  has_form form = ap (λ (s : List ℕ). has_seal_form (seal_line s)) (sym seal_is) ∙ form
+
+  pub pushed_is : (pushed line : List ℕ) → staged_in pushed ≡ staged old ++ line ∷ [] → line ≡ seal_line seal → staged_in pushed ≡ staged old ++ seal_line (seal_of old.seal (staged old)) ∷ []
+  pushed_is pushed line adds line_is = adds ∙ ap (λ (l : List ℕ). staged old ++ l ∷ []) (line_is ∙ ap seal_line seal_is)
+
+-- The lines that are staged, and their seal, are written behind those in the file.
+module _ {D : Type 0} (seen : D → List ℕ) (may_leave : D → List ℕ → Type 0) (old : Journal D) (bytes : List ℕ)
+    (was : IsSettled seen may_leave old)
+    (form : has_seal_form (seal_line (seal_of old.seal (staged old))) ≡ true)
+    (are : staged_in bytes ≡ staged old ++ seal_line (seal_of old.seal (staged old)) ∷ []) where
   abbrev lines : List (List ℕ)
   lines = counted (seen old.device)
 
   abbrev more : List (List ℕ)
-  more = staged old
+  more = staged_in bytes
 
-  module _ (was : IsSettled seen may_leave old) (is : seen new.device ≡ at_rest (lines ++ more)) where
-    are : All IsLine (lines ++ more)
-    are = All-append IsLine lines more (are_lines (seen old.device)) (are_lines (32 ∷ old.pending.items))
+  pub both_told : (file : List ℕ) → counted file ≡ lines ++ more → recovered file ≡ recovered (seen old.device) ++ staged old
+  both_told file is =
+      stands_for_both file lines (staged old) old.seal was.are_sealed was.told form (is ∙ ap (λ (ls : List (List ℕ)). lines ++ ls) are)
+      ∙ ap (λ (ls : List (List ℕ)). ls ++ staged old) (sym (stands_for_first (seen old.device) lines old.seal was.are_sealed refl))
+
+  pub first_told : (file : List ℕ) → counted file ≡ lines → recovered file ≡ recovered (seen old.device)
+  first_told file is = stands_for_first file lines old.seal was.are_sealed is ∙ sym (stands_for_first (seen old.device) lines old.seal was.are_sealed refl)
+
+  pub before_or_after : (file : List ℕ) → CountsBeforeOrAfter lines more file → IsBeforeOrAfter (recovered (seen old.device)) (staged old) file
+  before_or_after file is = ⊎_elim (λ first. inl (first_told file first)) (λ both. inr (both_told file both)) is
+
+  module _ (new : Journal D) (is : seen new.device ≡ at_rest (lines ++ more)) where
+    lines_are : All IsLine (lines ++ more)
+    lines_are = All-append IsLine lines more (are_lines (seen old.device)) (are_lines (32 ∷ bytes))
 
     pub all_there : counted (seen new.device) ≡ lines ++ more
-    all_there = ap counted is ∙ counted-at_rest (lines ++ more) are
+    all_there = ap counted is ∙ counted-at_rest (lines ++ more) lines_are
 
-    pub is_settled : Only (seen new.device) (may_leave new.device) → 0 < length old.pending.items → new.gate ≡ old.gate + length old.pending.items
-        → new.gate ≤ 2 ^ 60 → new.pending.items ≡ [] → vec_len new.pending ≡ 0 → IsSettled seen may_leave new
-    is_settled durable some gate fits none zero =
-        let open_all = ap length (all_open lines more old.pending.items was.waiting some) in
+    sealed_now : new.seal ≡ seal_of old.seal (staged old) → AreSealed (counted (seen new.device)) new.seal
+    sealed_now seal = subst (λ (s : List ℕ). AreSealed (counted (seen new.device)) s) (sym seal)
+        (subst (λ (ls : List (List ℕ)). AreSealed ls (seal_of old.seal (staged old))) (sym (all_there ∙ ap (λ (ls : List (List ℕ)). lines ++ ls) are))
+        (still_sealed lines (staged old) old.seal was.are_sealed was.told form))
+
+    pub is_settled : Only (seen new.device) (may_leave new.device) → bytes ≡ behind more → 0 < length bytes → new.gate ≡ old.gate + length bytes
+        → new.gate ≤ 2 ^ 60 → new.pending.items ≡ [] → vec_len new.pending ≡ 0 → new.seal ≡ seal_of old.seal (staged old) → IsSettled seen may_leave new
+    is_settled durable waits some gate fits none zero seal =
+        let open_all = ap length (all_open lines more bytes waits some) in
         let at_gate : new.gate ≡ length (text (lines ++ more)) =
-        omega (arith, gate, was.gate, open_all, length-append (text lines) (32 ∷ old.pending.items), length-append (text (lines ++ more)) (35 ∷ [])) in
+        omega (arith, gate, was.gate, open_all, length-append (text lines) (32 ∷ bytes), length-append (text (lines ++ more)) (35 ∷ [])) in
         record {
           file = is ∙ ap at_rest (sym all_there);
+          are_sealed = sealed_now seal;
           gate = at_gate ∙ ap (λ (ls : List (List ℕ)). length (text ls)) (sym all_there);
           durable = durable;
           waiting = subst (λ (l : List ℕ). l ≡ behind (staged_in l)) (sym none) refl;
+          told = subst (λ (l : List ℕ). All IsTold (staged_in l)) (sym none) (All-nil IsTold);
           fits = omega (arith, fits, zero);
+          seal_fits = λ some. absurd (omega (arith, some, ap length none));
         }
 
 pub none_staged : (pending : List ℕ) → pending ≡ [] → staged_in pending ≡ []
 none_staged pending none = ap staged_in none
-
--- what was written for these bytes was written for what was staged
-pub written_for : {file : List ℕ} (lines : List (List ℕ)) (bytes pending : List ℕ) → bytes ≡ pending → file ≡ at_rest (lines ++ staged_in bytes) → file ≡ at_rest (lines ++ staged_in pending)
-written_for lines bytes pending same is = is ∙ ap (λ (l : List ℕ). at_rest (lines ++ staged_in l)) same

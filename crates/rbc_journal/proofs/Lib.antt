@@ -2,7 +2,9 @@ mod LineLemmas
 mod MomentLemmas
 mod CrashLemmas
 pub mod SessionLemmas
+mod SealLemmas
+mod OpenLemmas
+mod ChainLemmas
 mod StagingLemmas
 mod CommitLemmas
 mod CommittedLemmas
-mod RepairLemmas

@@ -15,3 +15,11 @@ module _ {D : Type 0} (moment : D → ℕ) (left_since : D → ℕ → List ℕ 
     each = λ c left. ⊎_elim (so_far.each c) (here c) (time.nothing_else (moment old) c so_far.later left);
     before = λ t c le left. ⊎_elim (so_far.before t c le) (λ now. inr (here c now)) (time.nothing_else t c (omega (arith, le, so_far.later)) left);
   }
+
+  -- what leaves this leaves what follows from it
+  pub leaves_so : (old new : D) (P Q : List ℕ → Type 0) → LeavesOnly moment left_since old new P → ((c : List ℕ) → P c → Q c) → LeavesOnly moment left_since old new Q
+  leaves_so old new P Q leaves so = record {
+    later = leaves.later;
+    each = λ c left. so c (leaves.each c left);
+    before = λ t c le left. ⊎_elim inl (λ p. inr (so c p)) (leaves.before t c le left);
+  }

@@ -40,6 +40,12 @@ next_staged first lines line =
     ∙ append_assoc first (10 ∷ text lines) (at_rest (line ∷ []))
     ∙ ap (λ (l : List ℕ). first ++ 10 ∷ l) (sym (append_assoc (text lines) (text (line ∷ [])) (35 ∷ [])) ∙ ap (λ (l : List ℕ). l ++ 35 ∷ []) (sym (text-append lines (line ∷ []))))
 
+-- what is staged, with an open gate in front and without its closed gate
+pub text_staged : (lines : List (List ℕ)) (bytes : List ℕ) (n : ℕ) → bytes ≡ behind lines → 0 < length bytes → n ≡ length bytes - 1 → 32 ∷ take n bytes ≡ text lines
+text_staged [] bytes n is some at = absurd (omega (arith, some, ap length is))
+text_staged (line ∷ lines) bytes n is some at =
+    ap (λ (l : List ℕ). 32 ∷ take n l) is ∙ ap (λ (l : List ℕ). 32 ∷ l) (popped line lines n (at ∙ ap (λ (l : List ℕ). length l - 1) is))
+
 -- A line is staged behind others, or as the first.
 module _ (old mid new line : List ℕ) (waiting : old ≡ behind (staged_in old))
     (none : length old ≡ 0 → mid ≡ [])

@@ -1,7 +1,7 @@
 //! A file as the journal sees it: what stands in it, and what a crash may leave of it.
 
-ghost use Rattle.std.specs.Prelude.{◌≡◌, ◌≤◌, List, ℕ, length, take, OnOk};
-ghost use Rattle.rbc_journal.specs.Device.{Only, Follows, Torn, Cut, Holds, Elapses, CountsFault};
+ghost use Rattle.std.specs.Prelude.{◌≡◌, ◌≤◌, ◌+◌, ◌++◌, ◌⊎◌, List, ℕ, length, OnOk};
+ghost use Rattle.rbc_journal.specs.Device.{Only, Follows, Torn, Holds, Elapses, CountsFault};
 
 /// The file failed. What it holds is then not known, and nothing more is asked of it.
 #[derive(Clone, Copy, Debug, PartialEq, Eq)]
@@ -24,6 +24,9 @@ pub trait Device {
     /// How often the file has failed.
     ghost faults: { Self → ℕ };
 
+    /// How often all that stands in it was put on the disk.
+    ghost syncs: { Self → ℕ };
+
     /// Writes over what is there, and past the end. Until a sync, a crash may leave any bytes in the range.
     ///
     /// # Errors
@@ -32,17 +35,18 @@ pub trait Device {
         requires { at ≤ length (seen self.old) }
         ensures written { OnOk result (Holds (seen self.old) at bytes.now (seen self.new)) }
         ensures crash { Follows (Torn at (length bytes.now)) (may_leave self.old) (may_leave self.new) }
+        ensures syncs { syncs self.new ≡ syncs self.old }
         ensures time { Elapses (moment self.old) (moment self.new) (left_since self.old) (left_since self.new) (may_leave self.new) }
         ensures cause { CountsFault result (faults self.old) (faults self.new) };
 
-    /// Cuts the file to a length.
+    /// Puts a new file with these bytes, in two parts, in place of the file, and on the disk. A crash leaves the one or the other.
     ///
     /// # Errors
     /// As above.
-    fn cut(&mut self, len: usize) -> Result<(), DeviceFailed>
-        requires { len ≤ length (seen self.old) }
-        ensures cut { OnOk result (seen self.new ≡ take len (seen self.old)) }
-        ensures crash { Follows (Cut len) (may_leave self.old) (may_leave self.new) }
+    fn replace(&mut self, front: &[u8], rest: &[u8]) -> Result<(), DeviceFailed>
+        ensures replaced { OnOk result (seen self.new ≡ front.now ++ rest.now) }
+        ensures durable { OnOk result (Only (front.now ++ rest.now) (may_leave self.new)) }
+        ensures crash { Follows (λ old new. (new ≡ old) ⊎ (new ≡ front.now ++ rest.now)) (may_leave self.old) (may_leave self.new) }
         ensures time { Elapses (moment self.old) (moment self.new) (left_since self.old) (left_since self.new) (may_leave self.new) }
         ensures cause { CountsFault result (faults self.old) (faults self.new) };
 
@@ -52,6 +56,7 @@ pub trait Device {
     /// As above.
     fn sync(&mut self) -> Result<(), DeviceFailed>
         ensures durable { OnOk result (Only (seen self.old) (may_leave self.new)) }
+        ensures syncs { OnOk result (syncs self.new ≡ syncs self.old + 1) }
         ensures seen { seen self.new ≡ seen self.old }
         ensures crash { (c : List ℕ) → may_leave self.new c → may_leave self.old c }
         ensures time { Elapses (moment self.old) (moment self.new) (left_since self.old) (left_since self.new) (may_leave self.new) }

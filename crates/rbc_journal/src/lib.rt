@@ -6,11 +6,10 @@ mod fault;
 mod journal;
 mod laws;
 mod lines;
-mod repair;
 mod seal;
 
 pub use device::{Device, DeviceFailed};
 pub use fault::JournalFault;
 pub use journal::Journal;
 pub use laws::files_at_rest_are_sessions;
-pub use lines::{is_line, next_line};
+pub use lines::{is_told, next_line};

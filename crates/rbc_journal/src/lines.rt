@@ -1,7 +1,9 @@
 //! The lines in the bytes of a file, read from the front.
 
 ghost use Rattle.std.specs.Prelude.{◌≡◌, ◌+◌, ◌<◌, ◌≤◌, [], ◌∷◌, length, take, drop, IsTrue, Some, IfSome, IfNone};
-ghost use Rattle.rbc_journal.specs.Gates.{lines_from, counted, text, IsLine};
+ghost use Rattle.rbc_journal.specs.Gates.{lines_from, counted, IsLine};
+ghost use Rattle.rbc_journal.specs.Journal.{IsTold};
+ghost use Rattle.rbc_journal.specs.Seals.{is_comment};
 
 /// The first line of a part of a file that begins with a gate, and what stands behind it. None where that line does not
 /// count.
@@ -18,11 +20,18 @@ pub fn next_line(bytes: &[u8]) -> Option<(&[u8], &[u8])>
     Some((&after[..at], &after[at + 1..]))
 }
 
-/// Whether bytes may stand in a journal as one line: they have no line feed.
-pub fn is_line(bytes: &[u8]) -> bool
-    ensures { IsTrue result → IsLine bytes.now }
+/// Whether bytes may be told in a journal as one line: they have no line feed, and are no comment.
+pub fn is_told(bytes: &[u8]) -> bool
+    ensures { IsTrue result → IsTold bytes.now }
 {
-    end_of_line(bytes).is_none()
+    !is_comment(bytes) && end_of_line(bytes).is_none()
+}
+
+/// Whether a line is a comment.
+fn is_comment(line: &[u8]) -> bool
+    ensures { result ≡ is_comment line.now }
+{
+    matches!(line, [b'#', ..])
 }
 
 /// Where the first line feed stands.
@@ -41,18 +50,4 @@ fn end_of_line(bytes: &[u8]) -> Option<usize>
         at += 1;
     }
     None
-}
-
-/// How many bytes at the front of a file are whole lines that count.
-pub(crate) fn whole_part(bytes: &[u8]) -> usize
-    ensures value { result ≡ length (text (counted bytes.now)) }
-    ensures within { result ≤ length bytes.now }
-{
-    let mut rest = bytes;
-    let mut end = 0;
-    while let Some((line, after)) = next_line(rest) {
-        end += line.len() + 2;
-        rest = after;
-    }
-    end
 }

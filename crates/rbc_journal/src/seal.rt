@@ -1,13 +1,13 @@
 //! Seals, which vouch for the lines of a journal.
 
-ghost use Rattle.std.specs.Prelude.{◌≡◌, ◌++◌, take};
-ghost use Rattle.hex.specs.Hex.{encode_lower};
+ghost use Rattle.std.specs.Prelude.{◌≡◌, ◌++◌, take, is_ok, true};
+ghost use Rattle.hex.specs.Hex.{decode_sized, encode_lower};
 ghost use Rattle.rbc_journal.specs.Seals.{has_seal_form, seal_line, seal_of_bytes};
 
 use sha2::{Digest, Sha256};
 
 /// How many hex digits a seal has.
-const DIGITS: usize = 16;
+pub(crate) const DIGITS: usize = 16;
 
 /// How long its line is, in bytes.
 pub(crate) const SEAL_LINE: usize = DIGITS + 2;
@@ -15,7 +15,8 @@ pub(crate) const SEAL_LINE: usize = DIGITS + 2;
 /// The seal of some bytes, in two parts, behind an earlier seal, which is empty where there is none.
 #[tactic(auto, unfolding(crate::specs::Seals::seal_of_bytes))]
 pub(crate) fn seal_of(before: &[u8], front: &[u8], rest: &[u8]) -> [u8; DIGITS]
-    ensures { result ≡ seal_of_bytes before.now (front.now ++ rest.now) }
+    ensures value { result ≡ seal_of_bytes before.now (front.now ++ rest.now) }
+    ensures form { has_seal_form (seal_line result) ≡ true }
 {
     let mut hasher = Sha256::new();
     hasher.update(before);
@@ -26,7 +27,8 @@ pub(crate) fn seal_of(before: &[u8], front: &[u8], rest: &[u8]) -> [u8; DIGITS]
 
 /// The hex digits of the first 8 bytes of a digest.
 fn digits_of(digest: &[u8; 32]) -> [u8; DIGITS]
-    ensures { result ≡ encode_lower (take 8 digest.now) }
+    ensures value { result ≡ encode_lower (take 8 digest.now) }
+    ensures form { is_ok (decode_sized result 8) ≡ true }
 {
     let mut digits = [0; DIGITS];
     hex::encode_to_slice(&digest[..8], &mut digits).unwrap();

@@ -1,18 +1,22 @@
-use Rattle.std.proofs.Common.{arith}
-use Rattle.rbc_journal.proofs.StagingLemmas.{is_staged, still_waits}
+use Rattle.std.proofs.Common.{[], ◌∷◌, All, sym, subst, arith}
+use Rattle.std.proofs.lemmas.List.Elements.{All-append, All-cons, All-nil}
+use Rattle.rbc_journal.specs.Journal.{IsTold}
 use Rattle.rbc_journal.proofs.journal.Journal.stage.Goals as goal
-
-pub returns-clause-staged : goal.returns-clause-staged
-returns-clause-staged g c =
-    is_staged _ _ _ _ c.requires.settled.waiting c.open_last.ensures.none c.open_last.ensures.some c.push_line.ensures.items c.requires.line
 
 pub returns-clause-settled : goal.returns-clause-settled
 returns-clause-settled g c =
     let s = c.requires.settled in
+    let line = c.args.line.now in
     record {
       file = s.file;
+      are_sealed = s.are_sealed;
       gate = s.gate;
       durable = s.durable;
-      waiting = still_waits _ _ _ _ s.waiting c.open_last.ensures.none c.open_last.ensures.some c.push_line.ensures.items c.requires.line;
-      fits = omega (arith, c.requires.room.file, c.open_last.ensures.len, c.push_line.ensures.len);
+      waiting = c.push.ensures.waiting;
+      told = subst (All IsTold) (sym c.push.ensures.staged) (All-append IsTold _ (line ∷ []) s.told (All-cons IsTold line [] c.requires.line (All-nil IsTold)));
+      fits = omega (arith, c.requires.room.file, c.push.ensures.len);
+      seal_fits = λ some. record {
+        memory = omega (arith, c.requires.room.memory, c.push.ensures.len, c.push.ensures.capacity);
+        file = omega (arith, c.requires.room.file, c.push.ensures.len);
+      };
     }
