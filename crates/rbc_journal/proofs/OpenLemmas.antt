@@ -1,6 +1,6 @@
 -- A file that takes the place of another.
 use Rattle.std.proofs.Common.{◌≡◌, inl, inr, ◌⊎◌, ⊎_elim, ℕ, List, [], ◌∷◌, ◌++◌, length, All, refl, sym, ◌∙◌, ap, subst, arith}
-use Rattle.rbc_journal.specs.Device.{Follows, Only, Elapses, LeavesOnly}
+use Rattle.rbc_journal.specs.Device.{Only, Elapses, LeavesOnly}
 use Rattle.rbc_journal.specs.Gates.{counted, text, at_rest}
 use Rattle.rbc_journal.specs.Journal.{recovered, told_of}
 use Rattle.rbc_journal.specs.Seals.{AreSealed, IsWholeText, chain_of}
@@ -20,15 +20,13 @@ module _ (bytes seal : List ℕ) (whole : IsWholeText bytes seal) where
   module _ {D : Type 0} (seen : D → List ℕ) (may_leave : D → List ℕ → Type 0) (moment : D → ℕ) (left_since : D → ℕ → List ℕ → Type 0)
       (only_now : (file : D) (c : List ℕ) → left_since file (moment file) c → may_leave file c)
       (old new : D) (same : recovered (seen old) ≡ recovered bytes) (durable : Only (seen old) (may_leave old))
-      (crash : Follows (λ before after. (after ≡ before) ⊎ (after ≡ bytes ++ 35 ∷ [])) (may_leave old) (may_leave new))
+      (crash : (c : List ℕ) → may_leave new c → may_leave old c ⊎ (c ≡ bytes ++ 35 ∷ []))
       (time : Elapses (moment old) (moment new) (left_since old) (left_since new) (may_leave new)) where
     abbrev P : List ℕ → Type 0
     P c = recovered c ≡ recovered bytes
 
     left_now : (c : List ℕ) → may_leave new c → P c
-    left_now c left =
-        let from = crash c left in
-        ⊎_elim (λ stays. ap recovered (stays ∙ durable from.0 from.1) ∙ same) (λ is. ap recovered is ∙ same_told) from.2
+    left_now c left = ⊎_elim (λ stays. ap recovered (durable c stays) ∙ same) (λ is. ap recovered is ∙ same_told) (crash c left)
 
     pub after_replace : LeavesOnly moment left_since old new P
     after_replace =

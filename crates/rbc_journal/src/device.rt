@@ -46,7 +46,7 @@ pub trait Device {
     fn replace(&mut self, front: &[u8], rest: &[u8]) -> Result<(), DeviceFailed>
         ensures replaced { OnOk result (seen self.new ≡ front.now ++ rest.now) }
         ensures durable { OnOk result (Only (front.now ++ rest.now) (may_leave self.new)) }
-        ensures crash { Follows (λ old new. (new ≡ old) ⊎ (new ≡ front.now ++ rest.now)) (may_leave self.old) (may_leave self.new) }
+        ensures crash { (c : List ℕ) → may_leave self.new c → may_leave self.old c ⊎ (c ≡ front.now ++ rest.now) }
         ensures time { Elapses (moment self.old) (moment self.new) (left_since self.old) (left_since self.new) (may_leave self.new) }
         ensures cause { CountsFault result (faults self.old) (faults self.new) };
 

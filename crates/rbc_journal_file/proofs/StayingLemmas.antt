@@ -1,10 +1,10 @@
 -- What stands in a file is one of those things that a crash may leave.
-use Rattle.std.proofs.Common.{◌≡◌, ℕ, ◌+◌, ◌-◌, ◌≤◌, List, ◌++◌, length, take, drop, Bool, true, false, if◌then◌else◌, refl, sym, ◌∙◌, ap, subst, arith, length-append, length-take, length-drop, append_assoc, nat_le}
-use Rattle.std.proofs.lemmas.List.{take_at, drop_at, take_all, take_min}
+use Rattle.std.proofs.Common.{◌≡◌, inl, ℕ, ◌+◌, ◌-◌, ◌≤◌, List, ◌++◌, length, take, drop, Bool, true, false, if◌then◌else◌, refl, sym, ◌∙◌, ap, subst, arith, length-append, length-take, length-drop, append_assoc, nat_le}
+use Rattle.std.proofs.lemmas.List.{take_at, drop_at}
 use Rattle.std.proofs.lemmas.Bool.Decides.{nat_tests}
-use Rattle.rbc_journal.specs.Device.{Torn, Cut as IsCut}
+use Rattle.rbc_journal.specs.Device.{Torn}
 use Rattle.rbc_journal_file.specs.declared.past.Past.{Past}
-use Rattle.rbc_journal_file.specs.declared.past.Past.TheVariants.{Opened, Wrote', Cut', Synced'}
+use Rattle.rbc_journal_file.specs.declared.past.Past.TheVariants.{Opened, Wrote', Synced', Replaced'}
 use Rattle.rbc_journal_file.specs.Past.{listed, seen, may_leave, overwritten}
 
 torn_same : (at n : ℕ) (file : List ℕ) → Torn at n file file
@@ -23,15 +23,6 @@ torn_written at bytes file within =
       no_longer = omega (arith, size);
     }
 
-cut_same : (len : ℕ) (file : List ℕ) → IsCut len file file
-cut_same len file = record { no_shorter = omega arith; front = take_all (length file) file (omega arith) }
-
-cut_done : (len : ℕ) (file : List ℕ) → IsCut len file (take len file)
-cut_done len file = record { no_shorter = omega (arith, length-take len file); front = shorter len file }
-  where
-    shorter : (len : ℕ) (file : List ℕ) → take (length (take len file)) file ≡ take len file
-    shorter len file = ap (λ (n : ℕ). take n file) (length-take len file) ∙ take_min len file
-
 torn_seen : (is_done in_range : Bool) (at : ℕ) (bytes file : List ℕ) → nat_le at (length file) ≡ in_range
     → Torn at (length bytes) file (if is_done then overwritten file at bytes else file)
 torn_seen false in_range at bytes file is = torn_same at (length bytes) file
@@ -44,8 +35,8 @@ torn_seen true true at bytes file is =
 pub stays : (past : Past) → may_leave past (seen past)
 stays (Opened bytes) = refl
 stays (Wrote' m past at bytes is_done) = (seen past, stays past, torn_seen is_done (nat_le at (length (seen past))) at (listed bytes.value) (seen past) refl)
-stays (Cut' m past len true) = (seen past, stays past, cut_done len (seen past))
-stays (Cut' m past len false) = (seen past, stays past, cut_same len (seen past))
+stays (Replaced' m past bytes true) = refl
+stays (Replaced' m past bytes false) = inl (stays past)
 stays (Synced' m past true) = refl
 stays (Synced' m past false) = stays past
 

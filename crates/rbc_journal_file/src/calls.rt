@@ -1,8 +1,10 @@
 //! What is asked of a file. No contract says what it does.
 
-use std::fs::File;
+use crate::Place;
+use std::fs;
+use std::fs::{File, Files, OpenOptions};
 use std::io;
-use std::io::{Seek, SeekFrom, Write};
+use std::io::{Error, ErrorKind, Seek, SeekFrom, Write};
 
 /// The calls on a file that is open for writing.
 pub trait Calls {
@@ -12,41 +14,77 @@ pub trait Calls {
     /// The file failed.
     fn write(&mut self, at: u64, bytes: &[u8]) -> io::Result<()>;
 
-    /// Cuts the file to a length.
-    ///
-    /// # Errors
-    /// The file failed.
-    fn cut(&mut self, len: u64) -> io::Result<()>;
-
     /// Asks that all of it be on the disk.
     ///
     /// # Errors
     /// The file failed.
     fn sync(&mut self) -> io::Result<()>;
+
+    /// Puts a new file with these bytes, in two parts, in place of it, and on the disk.
+    ///
+    /// # Errors
+    /// The file, the new one or their folder failed.
+    fn replace(&mut self, front: &[u8], rest: &[u8]) -> io::Result<()>;
 }
 
-/// A file of the system, which keeps its lock until it is dropped.
+/// A file of the system, and where it stands. None is open as long as there is none. The one that is keeps its lock until it
+/// is dropped.
 #[derive(Drop)]
-pub struct SystemFile(File);
+pub struct SystemFile<'a, R: Files<File = File>> {
+    rt: &'a R,
+    place: Place,
+    file: Option<File>,
+}
 
-impl SystemFile {
-    /// A file that is open for writing.
-    pub fn new(file: File) -> SystemFile {
-        SystemFile(file)
+impl<'a, R: Files<File = File>> SystemFile<'a, R> {
+    /// A file that is open and locked, at this place, or none.
+    pub(crate) fn new(rt: &'a R, place: Place, file: Option<File>) -> SystemFile<'a, R> {
+        SystemFile { rt, place, file }
+    }
+
+    /// The file, where there is one.
+    fn opened(&mut self) -> io::Result<&mut File> {
+        match &mut self.file {
+            Some(file) => Ok(file),
+            None => Err(ErrorKind::NotFound.into()),
+        }
+    }
+
+    /// The new file: empty, and locked. Where another centre has one, or has put its own in place by now, it is not this
+    /// one's to write.
+    fn begin_new(&self) -> io::Result<File> {
+        let file = OpenOptions::new()
+            .read(true)
+            .write(true)
+            .create(true)
+            .open(self.rt, self.place.new_path())?;
+        if file.try_lock().is_err() || self.file.is_none() && fs::exists(self.rt, self.place.path())? {
+            return Err(ErrorKind::ResourceBusy.into());
+        }
+        file.set_len(0)?;
+        Ok(file)
     }
 }
 
-impl Calls for SystemFile {
+impl<'a, R: Files<File = File>> Calls for SystemFile<'a, R> {
     fn write(&mut self, at: u64, bytes: &[u8]) -> io::Result<()> {
-        self.0.seek(SeekFrom::Start(at))?;
-        self.0.write_all(bytes)
-    }
-
-    fn cut(&mut self, len: u64) -> io::Result<()> {
-        self.0.set_len(len)
+        let file = self.opened()?;
+        file.seek(SeekFrom::Start(at))?;
+        file.write_all(bytes)
     }
 
     fn sync(&mut self) -> io::Result<()> {
-        self.0.sync_data()
+        self.opened()?.sync_data()
+    }
+
+    fn replace(&mut self, front: &[u8], rest: &[u8]) -> io::Result<()> {
+        let mut file = self.begin_new()?;
+        file.write_all(front)?;
+        file.write_all(rest)?;
+        file.sync_all()?;
+        fs::rename(self.rt, self.place.new_path(), self.place.path())?;
+        fs::open(self.rt, self.place.folder())?.sync_all()?;
+        self.file = Some(file);
+        Ok(())
     }
 }

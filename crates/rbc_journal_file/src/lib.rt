@@ -5,9 +5,11 @@
 mod calls;
 mod opening;
 mod past;
+mod place;
 mod recorded;
 
 pub use calls::{Calls, SystemFile};
-pub use opening::{OpenFault, open};
+pub use opening::{OpenFault, keep_cut, open};
 pub use past::{Bytes, Past};
+pub use place::Place;
 pub use recorded::Recorded;

@@ -19,7 +19,14 @@ impl Bytes {
     pub fn of(bytes: &[u8]) -> Snapshot<Bytes>
         ensures { listed result.value ≡ bytes.now }
     {
-        let mut listed = Snapshot::of(&Bytes::Empty);
+        Bytes::behind(Snapshot::of(&Bytes::Empty), bytes)
+    }
+
+    /// Bytes, and then these.
+    pub fn behind(front: Snapshot<Bytes>, bytes: &[u8]) -> Snapshot<Bytes>
+        ensures { listed result.value ≡ listed front.value ++ bytes.now }
+    {
+        let mut listed = front;
         for byte in bytes {
             let next = Bytes::Then(listed, *byte);
             listed = Snapshot::of(&next);
@@ -35,8 +42,8 @@ pub enum Past {
     Opened(Snapshot<Bytes>),
     /// Bytes were written at an offset.
     Wrote(Snapshot<Past>, usize, Snapshot<Bytes>, bool),
-    /// The file was cut to a length.
-    Cut(Snapshot<Past>, usize, bool),
     /// The file was synced.
     Synced(Snapshot<Past>, bool),
+    /// A new file with these bytes took its place, and was synced.
+    Replaced(Snapshot<Past>, Snapshot<Bytes>, bool),
 }

@@ -2,7 +2,7 @@
 
 ghost use Rattle.std.specs.Prelude.{◌≡◌, is_ok};
 ghost use Rattle.rbc_journal.specs.Device.{Only};
-ghost use Rattle.rbc_journal_file.specs.Past.{seen, may_leave, moment, left_since, faults};
+ghost use Rattle.rbc_journal_file.specs.Past.{seen, may_leave, moment, left_since, faults, syncs};
 ghost use Rattle.rbc_journal_file.specs.PastLaws.{counts_now, only_now};
 
 use crate::{Bytes, Calls, Past};
@@ -76,6 +76,8 @@ impl<C: Calls> Device for Recorded<C> {
 
     ghost faults = { λ f. faults f.past.value };
 
+    ghost syncs = { λ f. syncs f.past.value };
+
     ghost counts_now = { λ f t c le now. counts_now f.past.value t c le now };
 
     ghost only_now = { λ f c left. only_now f.past.value c left };
@@ -88,17 +90,18 @@ impl<C: Calls> Device for Recorded<C> {
         outcome(is_done)
     }
 
-    fn cut(&mut self, len: usize) -> Result<(), DeviceFailed> {
-        let is_done = !self.has_failed && self.calls.cut(len as u64).is_ok();
-        self.has_failed = !is_done;
-        let next = Past::Cut(earlier(&mut self.past), len, is_done);
+    fn sync(&mut self) -> Result<(), DeviceFailed> {
+        let is_done = sync(&mut self.calls, &mut self.has_failed);
+        let next = Past::Synced(earlier(&mut self.past), is_done);
         self.past = Snapshot::of(&next);
         outcome(is_done)
     }
 
-    fn sync(&mut self) -> Result<(), DeviceFailed> {
-        let is_done = sync(&mut self.calls, &mut self.has_failed);
-        let next = Past::Synced(earlier(&mut self.past), is_done);
+    fn replace(&mut self, front: &[u8], rest: &[u8]) -> Result<(), DeviceFailed> {
+        let is_done = !self.has_failed && self.calls.replace(front, rest).is_ok();
+        self.has_failed = !is_done;
+        let bytes = Bytes::behind(Bytes::of(front), rest);
+        let next = Past::Replaced(earlier(&mut self.past), bytes, is_done);
         self.past = Snapshot::of(&next);
         outcome(is_done)
     }
