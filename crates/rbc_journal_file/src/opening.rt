@@ -7,7 +7,8 @@ ghost use Rattle.rbc_journal_file.specs.Recorded.{past_of};
 
 use crate::{Place, Recorded, SystemFile};
 use std::alloc::{AllocError, AllocGlobal};
-use std::fs::{File, Files, MetadataExt, OpenOptions, TryLockError};
+use std::fs::{File, Files, OpenOptions, TryLockError};
+use std::os::unix::fs::MetadataExt;
 use std::io::{ErrorKind, Read, Write};
 use std::{fs, io};
 

@@ -1,7 +1,20 @@
-use Rattle.std.proofs.Common.{◌≡◌, ◌∷◌, ◌++◌, [], ◌+◌, ◌∙◌, ap, sym, arith}
+use Rattle.std.proofs.Common.{◌≡◌, true, false, ◌∷◌, ◌++◌, [], ◌+◌, ◌∙◌, ap, sym, arith}
 use Rattle.rbc_journal.specs.Settled.{staged}
 use Rattle.rbc_scribe.proofs.PageLemmas.{taken, last_told}
 use Rattle.rbc_scribe.proofs.page.Page.take.Goals as goal
+
+failed_whole : (let b = true in b) ≡ false → ⊥
+failed_whole e = cc
+
+pub invariant_of-self : goal.invariant_of-self
+invariant_of-self g c =
+    let d = g.D.Device in
+    let t = g.T.Told in
+    let old = c.self.inside in (
+      (λ whole. absurd (failed_whole whole)),
+      last_told d.seen d.may_leave d.moment d.left_since (t.tells old.told) (t.tells c.hear.new.self) old.journal.device c.make_room.new.journal.device old.lines old.marks c.hear.ensures.same c.make_room.ensures.device c.self.invariant.1,
+      c.self.invariant.2,
+    )
 
 pub invariant_of-self-2 : goal.invariant_of-self-2
 invariant_of-self-2 g c =
