@@ -1,6 +1,7 @@
 //! What is asked of a file. No contract says what it does.
 
-use crate::Place;
+use crate::place::Place;
+use std::alloc::{AllocError, Global};
 use std::fs;
 use std::fs::{File, Files, OpenOptions};
 use std::io;
@@ -34,12 +35,44 @@ pub struct SystemFile<'a, R: Files<File = File>> {
     rt: &'a R,
     place: Place,
     file: Option<File>,
+    dropped: Vec<u8>,
 }
 
 impl<'a, R: Files<File = File>> SystemFile<'a, R> {
     /// A file that is open and locked, at this place, or none.
-    pub(crate) fn new(rt: &'a R, place: Place, file: Option<File>) -> SystemFile<'a, R> {
-        SystemFile { rt, place, file }
+    pub(crate) fn new(
+        rt: &'a R,
+        alloc: Global,
+        place: Place,
+        file: Option<File>,
+    ) -> SystemFile<'a, R> {
+        SystemFile {
+            rt,
+            place,
+            file,
+            dropped: Vec::new(alloc),
+        }
+    }
+
+    /// Has these bytes of the file kept, when a new one without them takes its place.
+    ///
+    /// # Errors
+    /// The allocator refused memory.
+    pub fn drop_bytes(&mut self, bytes: &[u8]) -> Result<(), AllocError> {
+        self.dropped.extend_from_slice(bytes)
+    }
+
+    /// Keeps what is dropped: it is put behind what is in the file for it, and on the disk.
+    fn keep_dropped(&self) -> io::Result<()> {
+        if self.dropped.is_empty() {
+            return Ok(());
+        }
+        let mut file = OpenOptions::new()
+            .append(true)
+            .create(true)
+            .open(self.rt, self.place.cut_path())?;
+        file.write_all(self.dropped.as_slice())?;
+        file.sync_all()
     }
 
     /// The file, where there is one.
@@ -79,6 +112,7 @@ impl<'a, R: Files<File = File>> Calls for SystemFile<'a, R> {
 
     fn replace(&mut self, front: &[u8], rest: &[u8]) -> io::Result<()> {
         let mut file = self.begin_new()?;
+        self.keep_dropped()?;
         file.write_all(front)?;
         file.write_all(rest)?;
         file.sync_all()?;

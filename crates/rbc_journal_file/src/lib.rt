@@ -9,7 +9,6 @@ mod place;
 mod recorded;
 
 pub use calls::{Calls, SystemFile};
-pub use opening::{OpenFault, keep_cut, open};
+pub use opening::{Found, OpenFault, open};
 pub use past::{Bytes, Past};
-pub use place::Place;
 pub use recorded::Recorded;

@@ -1,15 +1,11 @@
 //! Opening the file of a journal.
 
-ghost use Rattle.std.specs.Prelude.{◌≡◌, [], IfOk, IfSome, IfNone};
-ghost use Rattle.rbc_journal.specs.Device.{Only};
-ghost use Rattle.rbc_journal_file.specs.Past.{seen, may_leave};
-ghost use Rattle.rbc_journal_file.specs.Recorded.{past_of};
-
-use crate::{Place, Recorded, SystemFile};
+use crate::SystemFile;
+use crate::place::Place;
 use std::alloc::{AllocError, AllocGlobal};
 use std::fs::{File, Files, OpenOptions, TryLockError};
 use std::os::unix::fs::MetadataExt;
-use std::io::{ErrorKind, Read, Write};
+use std::io::{ErrorKind, Read};
 use std::{fs, io};
 
 /// Why the file of a journal is not opened.
@@ -47,29 +43,37 @@ impl From<AllocError> for OpenFault {
     }
 }
 
-/// The file of a journal, where there is one, and its bytes. Until it is dropped no other centre can open it. Nothing is
-/// written, and none is made if it is missing.
+/// What was found where a journal stands: the file, and its bytes, if there is one.
+#[derive(Drop)]
+pub struct Found<'a, R: Files<File = File>> {
+    /// The bytes of the file. None where there is no file.
+    pub bytes: Option<Vec<u8>>,
+    /// The file. Until it is dropped no other centre can open it.
+    pub file: SystemFile<'a, R>,
+}
+
+/// The file of a journal, if there is one. Nothing is written, and none is made if it is missing.
 ///
 /// # Errors
 /// `InUse`, before the file is read; `File`; `Memory`.
 pub fn open<'a, R: Files<File = File> + AllocGlobal>(
     rt: &'a R,
     path: &str,
-) -> Result<(Option<Vec<u8>>, Recorded<SystemFile<'a, R>>), OpenFault>
-    ensures some { IfOk result (λ opened. IfSome opened.0 (λ bytes. seen (past_of opened.1) ≡ bytes.items)) }
-    ensures none { IfOk result (λ opened. IfNone opened.0 (seen (past_of opened.1) ≡ [])) }
-    ensures durable { IfOk result (λ opened. Only (seen (past_of opened.1)) (may_leave (past_of opened.1))) }
-{
-    let place = Place::of(rt.alloc(), path)?;
+) -> Result<Found<'a, R>, OpenFault> {
+    let alloc = rt.alloc();
+    let place = Place::of(alloc, path)?;
     let Some(mut file) = locked(rt, path)? else {
-        let missing = SystemFile::new(rt, place, None);
-        return Ok((None, Recorded::opened(missing, b"")));
+        return Ok(Found {
+            bytes: None,
+            file: SystemFile::new(rt, alloc, place, None),
+        });
     };
-    let mut bytes = Vec::new(rt.alloc());
+    let mut bytes = Vec::new(alloc);
     file.read_to_end(&mut bytes)?;
-    let file = SystemFile::new(rt, place, Some(file));
-    let recorded = Recorded::opened(file, bytes.as_slice());
-    Ok((Some(bytes), recorded))
+    Ok(Found {
+        bytes: Some(bytes),
+        file: SystemFile::new(rt, alloc, place, Some(file)),
+    })
 }
 
 /// The file of this path, locked, if there is one.
@@ -89,24 +93,4 @@ fn locked<R: Files<File = File>>(rt: &R, path: &str) -> Result<Option<File>, Ope
         return Err(OpenFault::InUse);
     }
     Ok(Some(file))
-}
-
-/// Keeps bytes that are dropped from the end of a journal: they are put behind what is in its `.cut` file, and on the disk.
-///
-/// # Errors
-/// `File`; `Memory`.
-pub fn keep_cut<R: Files<File = File> + AllocGlobal>(
-    rt: &R,
-    path: &str,
-    bytes: &[u8],
-) -> Result<(), OpenFault> {
-    let place = Place::of(rt.alloc(), path)?;
-    let mut file = OpenOptions::new()
-        .append(true)
-        .create(true)
-        .open(rt, place.cut_path())?;
-    file.write_all(bytes)?;
-    file.sync_all()?;
-    fs::open(rt, place.folder())?.sync_all()?;
-    Ok(())
 }

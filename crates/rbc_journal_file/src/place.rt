@@ -4,7 +4,7 @@ use std::alloc::{AllocError, Global};
 
 /// The paths of a journal: its file, the new one that takes its place, what is kept of dropped bytes, and their folder.
 #[derive(Debug, Drop)]
-pub struct Place {
+pub(crate) struct Place {
     path: String,
     new_path: String,
     cut_path: String,
@@ -26,7 +26,7 @@ impl Place {
     }
 
     /// The path of the journal's file.
-    pub fn path(&self) -> &str {
+    pub(crate) fn path(&self) -> &str {
         self.path.as_str()
     }
 

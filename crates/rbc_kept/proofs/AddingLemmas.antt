@@ -26,7 +26,7 @@ use Rattle.rbc_session_laws.proofs.RetellingLemmas.{entries_are_told_again}
 use Rattle.rbc_kept.specs.Adds.{Adds, Gains}
 use Rattle.rbc_kept.specs.Laws.{AreRetold}
 use Rattle.rbc_kept.specs.Tells.{Tells}
-use Rattle.rbc_kept.proofs.TellingLemmas.{Goes as Replays, goes_on}
+use Rattle.rbc_kept.proofs.TellingLemmas.{Goes as Replays, goes_on, told_in}
 
 -- ---- a line that adds an entry
 
@@ -73,11 +73,11 @@ unchanged Answers before after reply (Some entry, answers, is) no_more =
 pub not_grown : (before after : HistoryOnTrack) (line reply : List ℕ) → Goes before line reply after → (length before.entries < length after.entries → ⊥) → after ≡ before
 not_grown before after line reply goes no_more = unchanged (λ track entries said added. AnswersLine track entries line said added) before after reply goes no_more
 
--- one line more of a file
-pub replays_on : (track : Track) (before after : HistoryOnTrack) (file rest further line : List ℕ) → before.track ≡ track → recovered rest ≡ line ∷ recovered further
-    → Gains before line after → Replays (Adds track) file before.entries rest → Replays (Adds track) file after.entries further
-replays_on track before after file rest further line same reads g so_far =
-    goes_on (Adds track) file rest further line before.entries after.entries reads
+-- one line more of a text
+pub replays_on : (track : Track) (before after : HistoryOnTrack) (text rest further line : List ℕ) → before.track ≡ track → told_in rest ≡ line ∷ told_in further
+    → Gains before line after → Replays (Adds track) text before.entries rest → Replays (Adds track) text after.entries further
+replays_on track before after text rest further line same reads g so_far =
+    goes_on (Adds track) text rest further line before.entries after.entries reads
     (g.0, subst (λ t. Adds t before.entries line g.0) same g.1, ap (λ (h : HistoryOnTrack). h.entries) g.2) so_far
 
 -- ---- what a file stands for is retold

@@ -1,11 +1,14 @@
 -- The gate in front of a line changes nothing of what the line says: so a journal at rest is a session.
-use Rattle.std.proofs.Common.{◌≡◌, ℕ, suc, ◌-◌, ◌<◌, ◌==◌, Bool, true, false, not, cond, List, [], ◌∷◌, ◌++◌, length, map, take, Option, Some, None, Result, Ok, Err, refl, sym, ap, ap₂, ◌∙◌, arith, nat_lt}
+use Rattle.std.proofs.Common.{◌≡◌, ℕ, suc, ◌-◌, ◌<◌, ◌==◌, Bool, true, false, not, cond, List, [], ◌∷◌, ◌++◌, length, map, take, Option, Some, None, Result, Ok, Err, filter, refl, sym, ap, ap₂, ◌∙◌, subst, arith, nat_lt}
 use Rattle.std.specs.Prelude.{slice_index}
-use Rattle.std.specs.List.{AllByRecursion}
+use Rattle.std.proofs.lemmas.Bool.Decides.{nat_tests}
+use Rattle.std.specs.List.{AllByRecursion, onto_first, slice_split}
 use Rattle.std.specs.Option.{option_map_or}
 use Rattle.std.specs.Result.{result_map_both}
 use Rattle.std.proofs.lemmas.List.Elements.{recursion_from_All}
-use Rattle.rbc_journal.specs.Journal.{at_rest}
+use Rattle.rbc_journal.specs.Gates.{at_rest}
+use Rattle.rbc_journal.specs.Journal.{told_of}
+use Rattle.rbc_journal.specs.Seals.{is_comment}
 use Rattle.rbc_journal.specs.Sessions.{lines_of as lines_in, with_front as with_first}
 use Rattle.rbc_journal.proofs.SessionLemmas.{at_rest_lines}
 use Rattle.rbc_model.specs.declared.limits.TheConstants.{LONGEST_LINE}
@@ -72,20 +75,76 @@ same_lines (byte ∷ file) =
     ap (λ (lines : List (List ℕ)). cond (byte == 10) ([] ∷ lines) (with_front byte lines)) (same_lines file)
     ∙ ap (λ (lines : List (List ℕ)). cond (byte == 10) ([] ∷ lines_in file) lines) (same_front byte (lines_in file))
 
+-- ---- a comment
+
+-- without a carriage return at its end it is one still
+comment_kept : (rest : List ℕ) → (more : List ℕ) × (without_return (35 ∷ rest) ≡ 35 ∷ more)
+comment_kept [] = ([], refl)
+comment_kept (byte ∷ rest) =
+    let last : length (35 ∷ byte ∷ rest) - 1 ≡ suc (length rest) = omega arith in
+    let cut = by_test (slice_index (35 ∷ byte ∷ rest) (suc (length rest)) == 13) in
+    (cut.0, rw last cut.1)
+  where
+    by_test : (b : Bool) → (more : List ℕ) × (cond b (take (suc (length rest)) (35 ∷ byte ∷ rest)) (35 ∷ byte ∷ rest) ≡ 35 ∷ more)
+    by_test true = (take (length rest) (byte ∷ rest), refl)
+    by_test false = (byte ∷ rest, refl)
+
+blank_behind : (parts : List (List ℕ)) → is_blank (filter (λ word. not (length word == 0)) (onto_first 35 parts)) ≡ true
+blank_behind [] = refl
+blank_behind (part ∷ parts) =
+    let some : (length (35 ∷ part) == 0) ≡ false = grind arith in
+    rw some refl
+
+comment_blank : (rest : List ℕ) → is_blank (words_of (35 ∷ rest)) ≡ true
+comment_blank rest = blank_behind (slice_split (λ byte. byte == 32) rest)
+
+comment_read : (rest : List ℕ) → length (35 ∷ rest) < LONGEST_LINE → request_words (35 ∷ rest) ≡ Ok None
+comment_read rest short =
+    let kept = comment_kept rest in
+    ap₂ words_read (fits (length (35 ∷ rest)) short) kept.1
+    ∙ ap (λ (blank : Bool). cond blank (Ok None) (cond (not (is_text (35 ∷ kept.0))) (Err NotText) (Ok (Some (words_of (35 ∷ kept.0)))))) (comment_blank kept.0)
+
 -- ---- what they lead to
+
+no_comment : is_comment [] ≡ true → ⊥
+no_comment e = cc
 
 module _ (track : Track) where
   nothing_said : (before : List Entry) → (line_answer track before (35 ∷ [])).added ≡ None
   unfolding line_answer
   nothing_said before = refl
 
-  leads : (before : List Entry) (lines : List (List ℕ)) (entries : List Entry) → AllByRecursion (λ line. length line < LONGEST_LINE) lines → Tells (Adds track) before lines entries
-      → entries_added (turns_of track before (map (λ line. 32 ∷ line) lines ++ (35 ∷ []) ∷ [])) ≡ entries
+  comment_added : (before : List Entry) (rest : List ℕ) → length (35 ∷ rest) < LONGEST_LINE → (line_answer track before (32 ∷ 35 ∷ rest)).added ≡ None
+  unfolding line_answer
+  comment_added before rest short =
+      ap (λ (a : Answer). a.added) (line_answer-gate track before (35 ∷ rest) short)
+      ∙ ap (λ read. (demand_answer track before (result_map_both (λ said. said) BadLine (read >>= (λ found. option_map_or words_line found (Ok Blank))) >>= looked_up track)).added) (comment_read rest short)
+
+  commented : (before : List Entry) (line : List ℕ) → is_comment line ≡ true → length line < LONGEST_LINE → (line_answer track before (32 ∷ line)).added ≡ None
+  commented before [] is short = absurd (no_comment is)
+  commented before (first ∷ rest) is short =
+      let mark : first ≡ 35 = grind (arith, nat_tests) in
+      subst (λ (byte : ℕ). (line_answer track before (32 ∷ byte ∷ rest)).added ≡ None) (sym mark)
+      (comment_added before rest (omega (arith, short)))
+
+  abbrev Leads : List Entry → List (List ℕ) → List Entry → Type 0
+  Leads before lines entries = entries_added (turns_of track before (map (λ line. 32 ∷ line) lines ++ (35 ∷ []) ∷ [])) ≡ entries
+
+  leads : (before : List Entry) (lines : List (List ℕ)) (entries : List Entry) → AllByRecursion (λ line. length line < LONGEST_LINE) lines
+      → Tells (Adds track) before (told_of lines) entries → Leads before lines entries
+
+  by_line : (b : Bool) (before : List Entry) (line : List ℕ) (lines : List (List ℕ)) (entries : List Entry) → is_comment line ≡ b
+      → AllByRecursion (λ line. length line < LONGEST_LINE) (line ∷ lines) → Tells (Adds track) before (cond (not b) (line ∷ told_of lines) (told_of lines)) entries
+      → Leads before (line ∷ lines) entries
+  unfolding turns_of
+  by_line true before line lines entries is short told = rw (commented before line is short.0) (leads before lines entries short.1 told)
+  by_line false before line lines entries is short (entry, rest, same, adds, later) =
+      let said : (line_answer track before (32 ∷ line)).added ≡ Some entry = ap (λ (a : Answer). a.added) (line_answer-gate track before line short.0) ∙ adds in
+      rw said (ap (λ (l : List Entry). entry ∷ l) (leads (before ++ entry ∷ []) lines rest short.1 later) ∙ sym same)
+
   unfolding turns_of
   leads before [] entries short told = rw (nothing_said before) (sym told)
-  leads before (line ∷ lines) entries short (entry, rest, is, adds, later) =
-      let said : (line_answer track before (32 ∷ line)).added ≡ Some entry = ap (λ (a : Answer). a.added) (line_answer-gate track before line short.0) ∙ adds in
-      rw said (ap (λ (l : List Entry). entry ∷ l) (leads (before ++ entry ∷ []) lines rest short.1 later) ∙ sym is)
+  leads before (line ∷ lines) entries short told = by_line (is_comment line) before line lines entries refl short told
 
 pub journals_are_sessions : JournalsAreSessions
 journals_are_sessions track lines entries are short told =

@@ -1,9 +1,9 @@
 -- Lemmas on the line of a request.
 use Rattle.std.proofs.Common.{◌≡◌, ℕ, ◌≤◌, Bool, true, false, List, length, take, Result, Ok, Err, refl, sym, ap, ◌∙◌, subst, arith, nat_lt}
 use Rattle.std.proofs.lemmas.Bool.{ltb-false}
-use Rattle.rbc_journal.specs.Journal.{IsLine}
+use Rattle.rbc_journal.specs.Journal.{IsTold}
 use Rattle.rbc_kept.proofs.AddingLemmas.{adds_said}
-use Rattle.rbc_kept.proofs.TreatingLemmas.{said_is_line}
+use Rattle.rbc_kept.proofs.TreatingLemmas.{said_is_told}
 use Rattle.rbc_server.specs.Keeping.{AddsEntry}
 use Rattle.rbc_server.specs.Records.{HistoryOnTrack}
 use Rattle.rbc_model.proofs.SaidLineLemmas.{said_line_read}
@@ -13,9 +13,9 @@ use Rattle.rbc_model.specs.declared.refusals.LineFault.TheVariants.{Overlong}
 use Rattle.rbc_model.specs.SessionText.{SessionLine, parse_session, said_line, IsSayable}
 use Rattle.rbc_kept.specs.Entries.{TellsEntry}
 
--- it has no line feed
-pub text_is_line : (said : SessionLine) (text : List ℕ) → IsSayable said → text ≡ said_line said → IsLine text
-text_is_line said text sayable is = subst IsLine (sym is) (said_is_line said sayable)
+-- it may be told in a journal
+pub text_is_told : (said : SessionLine) (text : List ℕ) → IsSayable said → text ≡ said_line said → IsTold text
+text_is_told said text sayable is = subst IsTold (sym is) (said_is_told said sayable)
 
 -- it says the request
 pub text_says : (said : SessionLine) (text : List ℕ) → IsSayable said → text ≡ said_line said → parse_session text ≡ Ok said

@@ -1,9 +1,13 @@
 -- Lines and the entries that they tell.
 use Rattle.std.proofs.Common.{◌≡◌, ℕ, suc, List, [], ◌∷◌, ◌++◌, length, take, refl, sym, ◌∙◌, ap, subst, append_assoc}
 use Rattle.std.proofs.lemmas.List.{append-nil}
-use Rattle.rbc_journal.specs.Journal.{recovered}
+use Rattle.rbc_journal.specs.Gates.{counted}
+use Rattle.rbc_journal.specs.Journal.{told_of}
 use Rattle.rbc_kept.specs.Tells.{Tells}
-use Rattle.rbc_kept.specs.Kept.{StandsFor}
+
+-- the lines that a text tells
+abbrev pub told_in : List ℕ → List (List ℕ)
+told_in text = told_of (counted text)
 
 module _ {Entry : Type 0} (adds : List Entry → List ℕ → Entry → Type 0) where
   -- one line more
@@ -47,23 +51,24 @@ module _ {Entry : Type 0} (adds : List Entry → List ℕ → Entry → Type 0) 
     front_tells (before ++ told.0 ∷ []) lines more told.1 told.4,
   )
 
-  -- what the rest of a file tells behind these entries, the whole file tells with them
+  -- what the rest of a text tells behind these entries, the whole text tells with them
   abbrev pub Goes : List ℕ → List Entry → List ℕ → Type 0
-  Goes file entries rest = (more : List Entry) → Tells adds entries (recovered rest) more → StandsFor adds file (entries ++ more)
+  Goes text entries rest = (more : List Entry) → Tells adds entries (told_in rest) more → Tells adds [] (told_in text) (entries ++ more)
 
-  pub begins : (file : List ℕ) (entries : List Entry) → entries ≡ [] → Goes file entries file
-  begins file entries none = subst (λ (l : List Entry). Goes file l file) (sym none) (λ more told. told)
+  pub begins : (text : List ℕ) (entries : List Entry) → entries ≡ [] → Goes text entries text
+  begins text entries none = subst (λ (l : List Entry). Goes text l text) (sym none) (λ more told. told)
 
-  pub goes_on : (file rest after line : List ℕ) (entries new : List Entry) → recovered rest ≡ line ∷ recovered after
-      → ((entry : Entry) × adds entries line entry × (new ≡ entries ++ entry ∷ [])) → Goes file entries rest → Goes file new after
-  goes_on file rest after line entries new reads added so_far =
-      subst (λ (l : List Entry). Goes file l after) (sym added.2) (λ more told.
-      subst (StandsFor adds file) (sym (append_assoc entries (added.0 ∷ []) more))
+  pub goes_on : (text rest after line : List ℕ) (entries new : List Entry) → told_in rest ≡ line ∷ told_in after
+      → ((entry : Entry) × adds entries line entry × (new ≡ entries ++ entry ∷ [])) → Goes text entries rest → Goes text new after
+  goes_on text rest after line entries new reads added so_far =
+      subst (λ (l : List Entry). Goes text l after) (sym added.2) (λ more told.
+      subst (λ (l : List Entry). Tells adds [] (told_in text) l) (sym (append_assoc entries (added.0 ∷ []) more))
       (so_far (added.0 ∷ more) (subst (λ (ls : List (List ℕ)). Tells adds entries ls (added.0 ∷ more)) (sym reads) (added.0, more, refl, added.1, told))))
 
-  pub ends : (file rest : List ℕ) (entries : List Entry) → recovered rest ≡ [] → Goes file entries rest → StandsFor adds file entries
-  ends file rest entries none so_far =
-      subst (StandsFor adds file) (append-nil entries) (so_far [] (subst (λ (ls : List (List ℕ)). Tells adds entries ls []) (sym none) refl))
+  pub ends : (text rest : List ℕ) (entries : List Entry) → told_in rest ≡ [] → Goes text entries rest → Tells adds [] (told_in text) entries
+  ends text rest entries none so_far =
+      subst (λ (l : List Entry). Tells adds [] (told_in text) l) (append-nil entries)
+      (so_far [] (subst (λ (ls : List (List ℕ)). Tells adds entries ls []) (sym none) refl))
 
   -- lines tell as many entries as they are
   pub as_many : (before : List Entry) (lines : List (List ℕ)) (entries : List Entry) → Tells adds before lines entries → length lines ≡ length entries

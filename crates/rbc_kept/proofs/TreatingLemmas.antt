@@ -1,10 +1,12 @@
 -- What a line asks for, treated.
-use Rattle.std.proofs.Common.{◌≡◌, ℕ, ◌<◌, ◌&&◌, List, [], ◌∷◌, true, nat_le, arith, length, None, Result, Ok, Err, refl, sym, ap, ◌∙◌, subst, append-nil, inr}
+use Rattle.std.proofs.Common.{◌≡◌, false, ℕ, ◌<◌, ◌&&◌, List, [], ◌∷◌, true, nat_le, arith, length, None, Result, Ok, Err, refl, sym, ap, ◌∙◌, subst, append-nil, inr}
 use Rattle.std.specs.Prelude.{◌≢◌}
 use Rattle.std.specs.List.{AllByRecursion, list_all}
 use Rattle.std.specs.Result.{result_map_both}
 use Rattle.std.proofs.lemmas.List.Elements.{All-from_recursion}
-use Rattle.rbc_journal.specs.Journal.{IsLine}
+use Rattle.rbc_journal.specs.Gates.{IsLine}
+use Rattle.rbc_journal.specs.Journal.{IsTold}
+use Rattle.rbc_journal.specs.Seals.{is_comment}
 use Rattle.rbc_model.proofs.CountingLemmas.{both_of}
 use Rattle.rbc_model.proofs.SaidLineLemmas.{said_is_text}
 use Rattle.std.proofs.lemmas.Bool.{leb-true, lt-ltb}
@@ -14,7 +16,7 @@ use Rattle.rbc_model.specs.declared.refusals.LineFault.TheVariants.{Overlong}
 use Rattle.rbc_model.specs.Results.{◌>>=◌}
 use Rattle.rbc_model.specs.Tracks.{Track}
 use Rattle.rbc_model.specs.Views.{View, view}
-use Rattle.rbc_model.specs.SessionText.{SessionLine, parse_session, said_line, IsSayable}
+use Rattle.rbc_model.specs.SessionText.{SessionLine, Ask, Blank, Free, GiveBack, Leave, Lock, Report, parse_session, said_line, IsSayable}
 use Rattle.rbc_model.specs.SessionReply.{SessionRefusal, BadLine, refused_reply}
 use Rattle.rbc_server.specs.Replies.{reply_text}
 use Rattle.rbc_server.specs.SessionRefusal.TheVariants.{Memory as NoMemory}
@@ -111,5 +113,18 @@ no_feed (byte ∷ bytes) is =
     above : (n : ℕ) → nat_le 0x20 n ≡ true → n ≡ 10 → ⊥
     above n low same = let le = leb-true 32 n low in absurd (omega arith)
 
-pub said_is_line : (said : SessionLine) → IsSayable said → IsLine (said_line said)
+said_is_line : (said : SessionLine) → IsSayable said → IsLine (said_line said)
 said_is_line said sayable = All-from_recursion (λ byte. byte ≢ 10) (said_line said) (no_feed (said_line said) (said_is_text said sayable))
+
+-- its first word is one of a request, so it is no comment
+said_no_comment : (said : SessionLine) → is_comment (said_line said) ≡ false
+said_no_comment Blank = refl
+said_no_comment (Report report) = refl
+said_no_comment (Lock name) = refl
+said_no_comment (Free name) = refl
+said_no_comment (Leave train) = refl
+said_no_comment (GiveBack train end) = refl
+said_no_comment (Ask train) = refl
+
+pub said_is_told : (said : SessionLine) → IsSayable said → IsTold (said_line said)
+said_is_told said sayable = record { one = said_is_line said sayable; said = said_no_comment said }

@@ -1,6 +1,7 @@
 -- What journals tell, and what a crash leaves of a history.
 use Rattle.std.specs.Prelude.{◌≡◌, ◌<◌, ℕ, List, [], ◌++◌, length, take, All}
-use Rattle.rbc_journal.specs.Journal.{recovered, at_rest, IsLine}
+use Rattle.rbc_journal.specs.Gates.{at_rest, IsLine}
+use Rattle.rbc_journal.specs.Journal.{recovered, told_of}
 use Rattle.rbc_model.specs.declared.limits.TheConstants.{LONGEST_LINE}
 use Rattle.rbc_model.specs.Tracks.{Track}
 use Rattle.rbc_model.specs.Histories.{Entry}
@@ -25,7 +26,7 @@ BeginningsStand {Entry} adds =
 abbrev pub AreRetold : Type 0
 AreRetold = (track : Track) (file : List ℕ) (entries : List Entry) → StandsFor (Adds track) file entries → IsRetold track entries
 
--- the session over the bytes of a journal at rest leads to what the journal tells, if each of its lines is short enough with its gate
+-- the session over the bytes of a file at rest leads to what its lines tell beside its comments, if each line is short enough with its gate
 abbrev pub JournalsAreSessions : Type 0
 JournalsAreSessions = (track : Track) (lines : List (List ℕ)) (entries : List Entry) → All IsLine lines → All (λ line. length line < LONGEST_LINE) lines
-    → Tells (Adds track) [] lines entries → entries_after track [] (at_rest lines) ≡ entries
+    → Tells (Adds track) [] (told_of lines) entries → entries_after track [] (at_rest lines) ≡ entries

@@ -2,7 +2,7 @@
 
 ghost use Rattle.std.specs.Prelude.{◌≡◌, ◌||◌, ◌++◌, ◌∷◌, [], ℕ, List, false, length, nat_lt, Ok, IfOk, MatchBool};
 ghost use Rattle.std.specs.Thread.{IsSync};
-ghost use Rattle.rbc_journal.specs.Journal.{IsLine};
+ghost use Rattle.rbc_journal.specs.Journal.{IsTold};
 ghost use Rattle.rbc_journal.specs.Settled.{staged, IsSettled, HasRoom};
 ghost use Rattle.rbc_model.specs.HistoryText.{IsToldOfTrack};
 ghost use Rattle.rbc_model.specs.SessionText.{parse_session, IsSayable};
@@ -244,7 +244,7 @@ impl<D: Device> Kept<D> {
         ensures staged { staged self.new.journal ≡ staged self.old.journal }
         ensures settled { IsSettled D.seen D.may_leave self.new.journal }
         ensures room { IfOk result (λ text. HasRoom self.new.journal (length text.items)) }
-        ensures line { IfOk result (λ text. IsLine text.items) }
+        ensures line { IfOk result (λ text. IsTold text.items) }
         ensures says { IfOk result (λ text. parse_session text.items ≡ Ok (request_view request.now)) }
     {
         let text = line_text(alloc, request)?;
@@ -258,7 +258,7 @@ impl<D: Device> Kept<D> {
     fn stage(&mut self, before: u64, text: &[u8])
         requires settled { IsSettled D.seen D.may_leave self.old.journal }
         requires room { HasRoom self.old.journal (length text.now) }
-        requires line { IsLine text.now }
+        requires line { IsTold text.now }
         ensures history { self.new.history ≡ self.old.history }
         ensures whole { self.new.has_failed ≡ self.old.has_failed }
         ensures replies { self.new.replies ≡ self.old.replies }

@@ -3,13 +3,14 @@
 ghost use Rattle.std.specs.Prelude.{◌≡◌, ◌<◌, [], false, not, is_some, IfSome, IfOk, IfErr};
 ghost use Rattle.rbc_journal.specs.Device.{Only, LeavesOnly};
 ghost use Rattle.rbc_journal.specs.Journal.{recovered};
+ghost use Rattle.rbc_journal.specs.Seals.{IsWholeText};
 ghost use Rattle.rbc_session_laws.specs.Retelling.{IsRetold};
 ghost use Rattle.rbc_kept.specs.Kept.{IsKept, IsReady};
 
 use crate::KeptFault;
 use crate::replaying::replay;
 use crate::text::Text;
-use rbc_journal::{Device, Journal};
+use rbc_journal::{Device, Journal, Readable};
 use rbc_server::Record;
 use std::alloc::Global;
 use std::thread::Threads;
@@ -33,40 +34,41 @@ pub struct Kept<D: Device> {
 }
 
 impl<D: Device> Kept<D> {
-    /// Opens a journal file with these bytes, which a crash may have left: the record, which is empty, gains the entries
-    /// that its lines tell. The end of the file is repaired, which may crash too.
+    /// Opens a journal from what was read of its file, which a crash may have left: the record, which is empty, gains the
+    /// entries that its lines tell, and a new file that stands for the same takes its place. It may crash too.
     ///
     /// # Errors
     ///
-    /// `Memory` or `Foreign`, before the file is asked for anything; `Full`; `Device`. The file comes back, with all that
+    /// `Memory`, `Foreign` or `Full`, before the file is asked for anything; `Device`. The file comes back, with all that
     /// counts in it.
     pub fn open(
         rt: &(impl Threads + Sync),
         alloc: Global,
         mut history: Record,
-        bytes: &[u8],
+        file: &Readable<'_>,
         device: D,
     ) -> Result<Kept<D>, (KeptFault, D)>
         requires empty { history.entries ≡ [] }
-        requires read { D.seen device ≡ bytes.now }
+        requires whole { IsWholeText file.now.text.now file.now.seal }
+        requires same { recovered (D.seen device) ≡ recovered file.now.text.now }
         requires durable { Only (D.seen device) (D.may_leave device) }
         ensures ready { IfOk result (λ kept. IsReady D.seen D.may_leave kept) }
         ensures track { IfOk result (λ kept. kept.history.track ≡ history.track) }
-        ensures same { IfOk result (λ kept. recovered (D.seen kept.journal.device) ≡ recovered bytes.now) }
+        ensures same { IfOk result (λ kept. recovered (D.seen kept.journal.device) ≡ recovered file.now.text.now) }
 
         // A crash at any moment leaves the same lines.
         ensures any_moment { IfOk result (λ kept. LeavesOnly D.moment D.left_since device kept.journal.device
-            (λ c. recovered c ≡ recovered bytes.now)) }
+            (λ c. recovered c ≡ recovered file.now.text.now)) }
         ensures any_moment_err { IfErr result (λ e. LeavesOnly D.moment D.left_since device e.1
-            (λ c. recovered c ≡ recovered bytes.now)) }
+            (λ c. recovered c ≡ recovered file.now.text.now)) }
 
         // The file is told to have failed only where it did.
         ensures failed { IfErr result (λ e. e.0 ≡ KeptFault.Device → D.faults device < D.faults e.1) }
     {
-        if let Err(fault) = replay(rt, alloc, &mut history, bytes) {
+        if let Err(fault) = replay(rt, alloc, &mut history, file.text) {
             return Err((fault, device));
         }
-        match Journal::open(alloc, bytes, device) {
+        match Journal::open(alloc, file.text, &file.seal, device) {
             Ok(journal) => Ok(Kept {
                 history,
                 journal,

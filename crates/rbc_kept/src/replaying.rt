@@ -1,17 +1,19 @@
 //! The lines of a journal, entered in a record.
 
 ghost use Rattle.std.specs.Prelude.{◌≡◌, [], OnOk, Err};
+ghost use Rattle.rbc_journal.specs.Gates.{counted};
+ghost use Rattle.rbc_journal.specs.Journal.{told_of};
 ghost use Rattle.rbc_kept.specs.Adds.{Adds};
-ghost use Rattle.rbc_kept.specs.Kept.{StandsFor};
+ghost use Rattle.rbc_kept.specs.Tells.{Tells};
 
 use crate::KeptFault;
 use crate::following::follow;
-use rbc_journal::next_line;
+use rbc_journal::next_told;
 use rbc_server::Record;
 use std::alloc::Global;
 use std::thread::Threads;
 
-/// Enters the lines of a file in an empty record.
+/// Enters the lines that a journal's text tells in an empty record.
 ///
 /// # Errors
 ///
@@ -20,15 +22,15 @@ pub(crate) fn replay(
     rt: &(impl Threads + Sync),
     alloc: Global,
     history: &mut Record,
-    bytes: &[u8],
+    text: &[u8],
 ) -> Result<(), KeptFault>
     requires { history.old.entries ≡ [] }
-    ensures told { OnOk result (StandsFor (Adds history.old.track) bytes.now history.new.entries) }
+    ensures told { OnOk result (Tells (Adds history.old.track) [] (told_of (counted text.now)) history.new.entries) }
     ensures track { history.new.track ≡ history.old.track }
     ensures fault { result ≡ Err KeptFault.Device → ⊥ }
 {
-    let mut rest = bytes;
-    while let Some((line, after)) = next_line(rest) {
+    let mut rest = text;
+    while let Some((_comments, line, after)) = next_told(rest) {
         if !follow(rt, alloc, history, line)? {
             history.known();
             return Err(KeptFault::Foreign(history.version() + 1));

@@ -18,14 +18,14 @@ pub struct RequestLine {
 
 impl Model for RequestLine {
     ghost use Rattle.std.specs.Prelude.{ℕ, ◌≤◌, List, length};
-    ghost use Rattle.rbc_journal.specs.Journal.{IsLine};
+    ghost use Rattle.rbc_journal.specs.Journal.{IsTold};
     ghost use Rattle.rbc_model.specs.declared.limits.TheConstants.{LONGEST_LINE};
 
     ghost Value = { List ℕ };
 
     ghost view = { λ l. l.bytes.items };
 
-    ghost invariant = { λ l. IsLine l.bytes.items × (length l.bytes.items ≤ LONGEST_LINE) };
+    ghost invariant = { λ l. IsTold l.bytes.items × (length l.bytes.items ≤ LONGEST_LINE) };
 }
 
 impl RequestLine {

@@ -68,13 +68,12 @@ impl<D: Device> Kept<D> {
         self.hold(reply)
     }
 
-    /// Whether a reply may rest. The first line of a new journal is put by itself: until it counts, the file's length tells a
-    /// journal from other files that begin with a `#`.
+    /// Whether a reply may rest.
     fn has_room(&self) -> bool
         requires { self.now.resting < MOST_TOGETHER }
         ensures { IsTrue result → self.now.resting + 1 < MOST_TOGETHER }
     {
-        self.resting + 1 < MOST_TOGETHER && self.history.version() > 1
+        self.resting + 1 < MOST_TOGETHER
     }
 
     /// Keeps the text of a reply behind those that rest, and tells whether there was memory for it.

@@ -6,7 +6,7 @@ use Rattle.rbc_kept.proofs.replaying.replay.Given as goal
 abbrev pub invariant-loop-line : goal.invariant-loop-line
 invariant-loop-line g l = record {
   track : l.history.track ≡ l.fn.history.track;
-  goes : Goes (Adds l.fn.history.track) l.bytes l.history.entries l.rest;
+  goes : Goes (Adds l.fn.history.track) l.text l.history.entries l.rest;
 }
 
 abbrev pub decreases-loop-line : goal.decreases-loop-line
