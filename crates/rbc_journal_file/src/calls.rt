@@ -2,10 +2,9 @@
 
 use crate::place::Place;
 use std::alloc::{AllocError, Global};
-use std::fs;
 use std::fs::{File, Files, OpenOptions};
-use std::io;
 use std::io::{Error, ErrorKind, Seek, SeekFrom, Write};
+use std::{fs, io};
 
 /// The calls on a file that is open for writing.
 pub trait Calls {
@@ -91,7 +90,9 @@ impl<'a, R: Files<File = File>> SystemFile<'a, R> {
             .write(true)
             .create(true)
             .open(self.rt, self.place.new_path())?;
-        if file.try_lock().is_err() || self.file.is_none() && fs::exists(self.rt, self.place.path())? {
+        if file.try_lock().is_err()
+            || self.file.is_none() && fs::exists(self.rt, self.place.path())?
+        {
             return Err(ErrorKind::ResourceBusy.into());
         }
         file.set_len(0)?;

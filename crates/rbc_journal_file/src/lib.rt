@@ -11,4 +11,4 @@ mod recorded;
 pub use calls::{Calls, SystemFile};
 pub use opening::{Found, OpenFault, open};
 pub use past::{Bytes, Past};
-pub use recorded::Recorded;
+pub use recorded::{Call, CallFailed, Recorded};

@@ -4,8 +4,8 @@ use crate::SystemFile;
 use crate::place::Place;
 use std::alloc::{AllocError, AllocGlobal};
 use std::fs::{File, Files, OpenOptions, TryLockError};
-use std::os::unix::fs::MetadataExt;
 use std::io::{ErrorKind, Read};
+use std::os::unix::fs::MetadataExt;
 use std::{fs, io};
 
 /// Why the file of a journal is not opened.

@@ -7,15 +7,36 @@ ghost use Rattle.rbc_journal_file.specs.PastLaws.{counts_now, only_now};
 
 use crate::{Bytes, Calls, Past};
 use rbc_journal::{Device, DeviceFailed};
+use std::io;
 use std::mem::replace;
 use std::snapshot::Snapshot;
+
+/// What is asked of a file.
+#[derive(Clone, Copy, Debug, PartialEq, Eq)]
+pub enum Call {
+    /// That bytes be written.
+    Write,
+    /// That all of it be on the disk.
+    Sync,
+    /// That a new file take its place.
+    Replace,
+}
+
+/// The call that failed, and why.
+#[derive(Debug, Drop)]
+pub struct CallFailed {
+    /// The call.
+    pub call: Call,
+    /// What the system said.
+    pub error: io::Error,
+}
 
 /// A file, and what was asked of it. Once it has failed it is asked for nothing more.
 #[derive(Drop)]
 pub struct Recorded<C: Calls> {
     calls: C,
     past: Snapshot<Past>,
-    has_failed: bool,
+    failed: Option<CallFailed>,
 }
 
 impl<C: Calls> Recorded<C> {
@@ -30,8 +51,13 @@ impl<C: Calls> Recorded<C> {
         Recorded {
             calls,
             past: Snapshot::of(&opened),
-            has_failed: false,
+            failed: None,
         }
+    }
+
+    /// The call that failed, if one did.
+    pub fn failed(&self) -> Option<&CallFailed> {
+        self.failed.as_ref()
     }
 
     /// The file, without its record.
@@ -40,14 +66,19 @@ impl<C: Calls> Recorded<C> {
     }
 }
 
-/// Syncs a file that has not failed yet, and tells whether that was done.
-fn sync<C: Calls>(calls: &mut C, has_failed: &mut bool) -> bool {
-    if *has_failed {
-        return false;
+/// Notes of the answer to a call whether it failed.
+fn note(failed: &mut Option<CallFailed>, call: Call, answer: io::Result<()>) {
+    if let Err(error) = answer {
+        *failed = Some(CallFailed { call, error });
     }
-    let is_done = calls.sync().is_ok();
-    *has_failed = !is_done;
-    is_done
+}
+
+/// Syncs a file that has not failed yet, and tells whether that was done.
+fn sync<C: Calls>(calls: &mut C, failed: &mut Option<CallFailed>) -> bool {
+    if failed.is_none() {
+        note(failed, Call::Sync, calls.sync());
+    }
+    failed.is_none()
 }
 
 /// What was asked so far, to stand in what is asked from now on.
@@ -83,23 +114,35 @@ impl<C: Calls> Device for Recorded<C> {
     ghost only_now = { λ f c left. only_now f.past.value c left };
 
     fn write_at(&mut self, at: usize, bytes: &[u8]) -> Result<(), DeviceFailed> {
-        let is_done = !self.has_failed && self.calls.write(at as u64, bytes).is_ok();
-        self.has_failed = !is_done;
+        if self.failed.is_none() {
+            note(
+                &mut self.failed,
+                Call::Write,
+                self.calls.write(at as u64, bytes),
+            );
+        }
+        let is_done = self.failed.is_none();
         let next = Past::Wrote(earlier(&mut self.past), at, Bytes::of(bytes), is_done);
         self.past = Snapshot::of(&next);
         outcome(is_done)
     }
 
     fn sync(&mut self) -> Result<(), DeviceFailed> {
-        let is_done = sync(&mut self.calls, &mut self.has_failed);
+        let is_done = sync(&mut self.calls, &mut self.failed);
         let next = Past::Synced(earlier(&mut self.past), is_done);
         self.past = Snapshot::of(&next);
         outcome(is_done)
     }
 
     fn replace(&mut self, front: &[u8], rest: &[u8]) -> Result<(), DeviceFailed> {
-        let is_done = !self.has_failed && self.calls.replace(front, rest).is_ok();
-        self.has_failed = !is_done;
+        if self.failed.is_none() {
+            note(
+                &mut self.failed,
+                Call::Replace,
+                self.calls.replace(front, rest),
+            );
+        }
+        let is_done = self.failed.is_none();
         let bytes = Bytes::behind(Bytes::of(front), rest);
         let next = Past::Replaced(earlier(&mut self.past), bytes, is_done);
         self.past = Snapshot::of(&next);
