@@ -6,3 +6,8 @@ mod StagingLemmas
 mod CommitLemmas
 mod CommittedLemmas
 mod RepairLemmas
+mod PutLemmas
+mod HeaderLemmas
+mod SealLemmas
+mod ReadingLemmas
+mod ToldLemmas

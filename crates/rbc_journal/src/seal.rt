@@ -2,7 +2,7 @@
 
 ghost use Rattle.std.specs.Prelude.{◌≡◌, ◌++◌, take};
 ghost use Rattle.hex.specs.Hex.{encode_lower};
-ghost use Rattle.rbc_journal.specs.Seals.{has_seal_form, seal_line, seal_of_bytes};
+ghost use Rattle.rbc_journal.specs.Seals.{is_comment, has_seal_form, seal_line, seal_of_bytes};
 
 use sha2::{Digest, Sha256};
 
@@ -51,4 +51,11 @@ pub(crate) fn has_seal_form(line: &[u8]) -> bool
         return false;
     };
     hex::decode_to_slice(digits, &mut [0; 8]).is_ok()
+}
+
+/// Whether a line is a comment.
+pub(crate) fn is_comment(line: &[u8]) -> bool
+    ensures { result ≡ is_comment line.now }
+{
+    matches!(line, [b'#', ..])
 }
