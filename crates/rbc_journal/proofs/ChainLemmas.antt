@@ -5,7 +5,8 @@ use Rattle.std.proofs.lemmas.List.Elements.{All-head, All-tail, filter-append}
 use Rattle.std.proofs.lemmas.List.Sums.{fold-append}
 use Rattle.std.proofs.lemmas.Slice.Eq.{bytes_eq-Decides}
 use Rattle.hex.specs.Hex.{decode_sized}
-use Rattle.rbc_journal.specs.Gates.{counted}
+use Rattle.rbc_journal.proofs.SealLemmas.{seal_form}
+use Rattle.rbc_journal.specs.Gates.{counted, text}
 use Rattle.rbc_journal.specs.Journal.{IsTold, recovered, told_of}
 use Rattle.rbc_journal.specs.Seals.{Chain, AreSealed, chain_of, has_seal_form, is_comment, seal_line, seal_of, sealed, with_line, with_seal, start}
 
@@ -35,14 +36,14 @@ with_all whole put seal (line ∷ lines) are =
 same_line : (line : List ℕ) → bytes_eq line line ≡ true
 same_line line = (bytes_eq-Decides line line).1 refl
 
-ends : (whole put : List (List ℕ)) (seal : List ℕ) → has_seal_form (seal_line (seal_of seal put)) ≡ true
+ends : (whole put : List (List ℕ)) (seal : List ℕ)
     → with_line (chain_at whole seal put) (seal_line (seal_of seal put)) ≡ sealed (chain_at whole seal put) (seal_of seal put)
-ends whole put seal form =
-    ap (λ (b : Bool). if b then with_seal (chain_at whole seal put) (seal_line (seal_of seal put)) (seal_of seal put) else chain_at whole seal (put ++ seal_line (seal_of seal put) ∷ [])) form
+ends whole put seal =
+    ap (λ (b : Bool). if b then with_seal (chain_at whole seal put) (seal_line (seal_of seal put)) (seal_of seal put) else chain_at whole seal (put ++ seal_line (seal_of seal put) ∷ [])) (seal_form seal (text put))
     ∙ ap (λ (b : Bool). if b then sealed (chain_at whole seal put) (seal_of seal put) else record (chain_at whole seal put) { is_right = false }) (same_line (seal_line (seal_of seal put)))
 
 -- Behind whole puts, lines that are told and their seal are a whole put.
-module _ (lines put : List (List ℕ)) (seal : List ℕ) (are : AreSealed lines seal) (told : All IsTold put) (form : has_seal_form (seal_line (seal_of seal put)) ≡ true) where
+module _ (lines put : List (List ℕ)) (seal : List ℕ) (are : AreSealed lines seal) (told : All IsTold put) where
   abbrev pub next : List ℕ
   next = seal_of seal put
 
@@ -58,7 +59,7 @@ module _ (lines put : List (List ℕ)) (seal : List ℕ) (are : AreSealed lines 
       ∙ ap (λ (chain : Chain). fold with_line chain behind_put) are
       ∙ fold-append with_line (chain_at lines seal []) put (seal_line next ∷ [])
       ∙ ap (λ (chain : Chain). with_line chain (seal_line next)) (with_all lines [] seal put told)
-      ∙ ends lines put seal form
+      ∙ ends lines put seal
 
   pub still_sealed : AreSealed (lines ++ behind_put) next
   still_sealed = read ∙ ap (λ (ls : List (List ℕ)). chain_at ls next []) (sym same)
@@ -70,9 +71,9 @@ all_told (line ∷ put) are =
     ∙ ap (λ (lines : List (List ℕ)). line ∷ lines) (all_told put (All-tail IsTold line put are))
 
 -- what a file stands for, where these lines count in it
-module _ (file : List ℕ) (lines put : List (List ℕ)) (seal : List ℕ) (are : AreSealed lines seal) (told : All IsTold put) (form : has_seal_form (seal_line (seal_of seal put)) ≡ true) where
+module _ (file : List ℕ) (lines put : List (List ℕ)) (seal : List ℕ) (are : AreSealed lines seal) (told : All IsTold put) where
   abbrev more : List (List ℕ)
-  more = behind_put lines put seal are told form
+  more = behind_put lines put seal are told
 
   told_more : told_of more ≡ put
   told_more = filter-append (λ line. not (is_comment line)) put (seal_line (seal_of seal put) ∷ []) ∙ append-nil (told_of put) ∙ all_told put told
@@ -80,7 +81,7 @@ module _ (file : List ℕ) (lines put : List (List ℕ)) (seal : List ℕ) (are 
   pub stands_for_both : counted file ≡ lines ++ more → recovered file ≡ told_of lines ++ put
   stands_for_both count =
       ap (λ (ls : List (List ℕ)). told_of (chain_of ls).whole) count
-      ∙ ap (λ (chain : Chain). told_of chain.whole) (still_sealed lines put seal are told form)
+      ∙ ap (λ (chain : Chain). told_of chain.whole) (still_sealed lines put seal are told)
       ∙ filter-append (λ line. not (is_comment line)) lines more
       ∙ ap (λ (ls : List (List ℕ)). told_of lines ++ ls) told_more
 

@@ -23,16 +23,12 @@ module _ {D : Type 0} (old : Journal D) (bytes seal : List ℕ) (n : ℕ) (waiti
   pub seal_is : seal ≡ seal_of old.seal (staged old)
   seal_is = is ∙ ap (seal_of_bytes old.seal) (text_staged (staged old) bytes n (same ∙ waiting) some at)
 
-  pub has_form : has_seal_form (seal_line seal) ≡ true → has_seal_form (seal_line (seal_of old.seal (staged old))) ≡ true
-  has_form form = ap (λ (s : List ℕ). has_seal_form (seal_line s)) (sym seal_is) ∙ form
-
   pub pushed_is : (pushed line : List ℕ) → staged_in pushed ≡ staged old ++ line ∷ [] → line ≡ seal_line seal → staged_in pushed ≡ staged old ++ seal_line (seal_of old.seal (staged old)) ∷ []
   pushed_is pushed line adds line_is = adds ∙ ap (λ (l : List ℕ). staged old ++ l ∷ []) (line_is ∙ ap seal_line seal_is)
 
 -- The lines that are staged, and their seal, are written behind those in the file.
 module _ {D : Type 0} (seen : D → List ℕ) (may_leave : D → List ℕ → Type 0) (old : Journal D) (bytes : List ℕ)
     (was : IsSettled seen may_leave old)
-    (form : has_seal_form (seal_line (seal_of old.seal (staged old))) ≡ true)
     (are : staged_in bytes ≡ staged old ++ seal_line (seal_of old.seal (staged old)) ∷ []) where
   abbrev lines : List (List ℕ)
   lines = counted (seen old.device)
@@ -42,7 +38,7 @@ module _ {D : Type 0} (seen : D → List ℕ) (may_leave : D → List ℕ → Ty
 
   pub both_told : (file : List ℕ) → counted file ≡ lines ++ more → recovered file ≡ recovered (seen old.device) ++ staged old
   both_told file is =
-      stands_for_both file lines (staged old) old.seal was.are_sealed was.told form (is ∙ ap (λ (ls : List (List ℕ)). lines ++ ls) are)
+      stands_for_both file lines (staged old) old.seal was.are_sealed was.told (is ∙ ap (λ (ls : List (List ℕ)). lines ++ ls) are)
       ∙ ap (λ (ls : List (List ℕ)). ls ++ staged old) (sym (stands_for_first (seen old.device) lines old.seal was.are_sealed refl))
 
   pub first_told : (file : List ℕ) → counted file ≡ lines → recovered file ≡ recovered (seen old.device)
@@ -61,7 +57,7 @@ module _ {D : Type 0} (seen : D → List ℕ) (may_leave : D → List ℕ → Ty
     sealed_now : new.seal ≡ seal_of old.seal (staged old) → AreSealed (counted (seen new.device)) new.seal
     sealed_now seal = subst (λ (s : List ℕ). AreSealed (counted (seen new.device)) s) (sym seal)
         (subst (λ (ls : List (List ℕ)). AreSealed ls (seal_of old.seal (staged old))) (sym (all_there ∙ ap (λ (ls : List (List ℕ)). lines ++ ls) are))
-        (still_sealed lines (staged old) old.seal was.are_sealed was.told form))
+        (still_sealed lines (staged old) old.seal was.are_sealed was.told))
 
     pub is_settled : Only (seen new.device) (may_leave new.device) → bytes ≡ behind more → 0 < length bytes → new.gate ≡ old.gate + length bytes
         → new.gate ≤ 2 ^ 60 → new.pending.items ≡ [] → vec_len new.pending ≡ 0 → new.seal ≡ seal_of old.seal (staged old) → IsSettled seen may_leave new

@@ -8,3 +8,7 @@ mod ChainLemmas
 mod StagingLemmas
 mod CommitLemmas
 mod CommittedLemmas
+mod PutLemmas
+mod HeaderLemmas
+mod ReadingLemmas
+mod ToldLemmas

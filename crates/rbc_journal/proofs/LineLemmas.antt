@@ -6,7 +6,7 @@ use Rattle.std.proofs.lemmas.Bool.{cases_eq}
 use Rattle.std.proofs.lemmas.Bool.Decides.{nat_tests}
 use Rattle.rbc_journal.specs.Gates.{lines_from, counted, text, at_rest, IsLine}
 
-abbrev NotFeed : ℕ → Type 0
+abbrev pub NotFeed : ℕ → Type 0
 NotFeed byte = byte ≢ 10
 
 pub text-append : (a b : List (List ℕ)) → text (a ++ b) ≡ text a ++ text b

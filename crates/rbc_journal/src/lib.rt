@@ -3,13 +3,19 @@
 
 mod device;
 mod fault;
+mod header;
 mod journal;
 mod laws;
 mod lines;
+mod reading;
 mod seal;
+mod told;
 
 pub use device::{Device, DeviceFailed};
 pub use fault::JournalFault;
+pub use header::{new_file, track_digest};
 pub use journal::Journal;
 pub use laws::files_at_rest_are_sessions;
 pub use lines::{is_told, next_line};
+pub use reading::{ReadFault, Readable, read};
+pub use told::next_told;

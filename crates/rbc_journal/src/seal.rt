@@ -1,8 +1,8 @@
 //! Seals, which vouch for the lines of a journal.
 
-ghost use Rattle.std.specs.Prelude.{◌≡◌, ◌++◌, take, is_ok, true};
-ghost use Rattle.hex.specs.Hex.{decode_sized, encode_lower};
-ghost use Rattle.rbc_journal.specs.Seals.{has_seal_form, seal_line, seal_of_bytes};
+ghost use Rattle.std.specs.Prelude.{◌≡◌, ◌++◌, take};
+ghost use Rattle.hex.specs.Hex.{encode_lower};
+ghost use Rattle.rbc_journal.specs.Seals.{is_comment, has_seal_form, seal_line, seal_of_bytes};
 
 use sha2::{Digest, Sha256};
 
@@ -15,8 +15,7 @@ pub(crate) const SEAL_LINE: usize = DIGITS + 2;
 /// The seal of some bytes, in two parts, behind an earlier seal, which is empty where there is none.
 #[tactic(auto, unfolding(crate::specs::Seals::seal_of_bytes))]
 pub(crate) fn seal_of(before: &[u8], front: &[u8], rest: &[u8]) -> [u8; DIGITS]
-    ensures value { result ≡ seal_of_bytes before.now (front.now ++ rest.now) }
-    ensures form { has_seal_form (seal_line result) ≡ true }
+    ensures { result ≡ seal_of_bytes before.now (front.now ++ rest.now) }
 {
     let mut hasher = Sha256::new();
     hasher.update(before);
@@ -27,8 +26,7 @@ pub(crate) fn seal_of(before: &[u8], front: &[u8], rest: &[u8]) -> [u8; DIGITS]
 
 /// The hex digits of the first 8 bytes of a digest.
 fn digits_of(digest: &[u8; 32]) -> [u8; DIGITS]
-    ensures value { result ≡ encode_lower (take 8 digest.now) }
-    ensures form { is_ok (decode_sized result 8) ≡ true }
+    ensures { result ≡ encode_lower (take 8 digest.now) }
 {
     let mut digits = [0; DIGITS];
     hex::encode_to_slice(&digest[..8], &mut digits).unwrap();
@@ -53,4 +51,11 @@ pub(crate) fn has_seal_form(line: &[u8]) -> bool
         return false;
     };
     hex::decode_to_slice(digits, &mut [0; 8]).is_ok()
+}
+
+/// Whether a line is a comment.
+pub(crate) fn is_comment(line: &[u8]) -> bool
+    ensures { result ≡ is_comment line.now }
+{
+    matches!(line, [b'#', ..])
 }

@@ -1,0 +1,101 @@
+-- What a journal file of format 2 is read as.
+use Rattle.std.specs.Prelude.{ℕ, ◌+◌, Bool, false, List, [], ◌∷◌, ◌++◌, length, drop, fold, Option, Some, None, Result, Ok, Err, nat_lt, bytes_eq, if◌then◌else◌, ◌&&◌, ◌==◌, not}
+use Rattle.std.specs.List.{list_any}
+use Rattle.rbc_journal.specs.Gates.{text, counted, at_rest}
+use Rattle.rbc_journal.specs.Seals.{Chain, start, with_line, chain_of, has_seal_form, is_comment, seal_line, seal_of}
+use Rattle.rbc_journal.specs.Headers.{format_in, digest_in}
+use Rattle.rbc_journal.specs.declared.reading.ReadFault.{ReadFault}
+use Rattle.rbc_journal.specs.declared.reading.ReadFault.TheVariants.{NotAJournal, FirstFormat, OtherFormat, Damaged, OtherTrack}
+
+-- The parts of a file from which a journal can go on: the text of the lines that count, their last seal, and what stands behind its closed gate.
+-- That is nothing in a whole file; in one that was cut it is of a put that was never acknowledged, and is dropped.
+pub record Parts : Type 0 where
+  pub text : List ℕ
+  pub seal : List ℕ
+  pub dropped : List ℕ
+
+-- ---- the bytes behind the last line that counts
+
+-- these bytes, the first of which stands where a gate is due
+abbrev pub tail_of : List ℕ → List ℕ
+tail_of file = drop (length (text (counted file))) file
+
+-- lines, read behind a put with this seal
+abbrev pub chain_behind : List ℕ → List (List ℕ) → Chain
+chain_behind seal lines = fold with_line (record start { seal = seal }) lines
+
+-- whether right seals vouch for all of these lines
+abbrev pub is_whole : Chain → List (List ℕ) → Bool
+is_whole chain lines = length chain.whole == length lines
+
+-- the lines of the first put behind one with this seal, if its own seal is right; these lines of it were read
+abbrev pub first_put : List ℕ → List (List ℕ) → List (List ℕ) → Option (List (List ℕ))
+first_put seal put [] = None
+first_put seal put (line ∷ lines) =
+    if not (has_seal_form line) then first_put seal (put ++ line ∷ []) lines
+    else if bytes_eq line (seal_line (seal_of seal put)) then Some (put ++ line ∷ [])
+    else None
+
+-- whether bytes begin with an open gate
+abbrev pub begins_open : List ℕ → Bool
+begins_open [] = false
+begins_open (gate ∷ rest) = gate == 32
+
+abbrev pub is_open_behind : List ℕ → Option (List (List ℕ)) → Bool
+is_open_behind bytes None = false
+is_open_behind bytes (Some put) = begins_open (drop (length (text put)) bytes)
+
+-- Whether bytes begin with a put whose seal is right, and an open gate behind it. No crash leaves that behind a closed gate: nothing is written
+-- behind a put before the gate in front of it is open.
+abbrev pub goes_on : List ℕ → List ℕ → Bool
+goes_on seal bytes = is_open_behind bytes (first_put seal [] (counted bytes))
+
+-- Whether bytes are puts whose seals are right, and a closed gate at their end. Only before such bytes may a gate be torn.
+abbrev pub ends_well : List ℕ → List ℕ → Bool
+ends_well seal bytes = is_whole (chain_behind seal (counted bytes)) (counted bytes) && bytes_eq bytes (at_rest (counted bytes))
+
+-- Whether a crash may leave this byte where a gate is due, and these bytes behind it, in which no put counts. Never an open gate: what was written
+-- behind it was on the disk before it opened. Else the bytes are read as though it were open.
+abbrev pub is_crash : List ℕ → ℕ → List ℕ → Bool
+is_crash seal gate rest =
+    if gate == 32 then false
+    else if gate == 35 then not (goes_on seal (32 ∷ rest))
+    else ends_well seal (32 ∷ rest)
+
+-- what is dropped: all that stands behind such a gate; None where the file is damaged, since no crash leaves one that ends where a gate is due
+abbrev pub dropped_of : List ℕ → List ℕ → Option (List ℕ)
+dropped_of seal [] = None
+dropped_of seal (gate ∷ rest) = if is_crash seal gate rest then Some rest else None
+
+-- ---- the file
+
+-- lines, at least one, with no comment, and a closed gate at the end of the file: a journal of the format before this
+abbrev pub is_first_format : List (List ℕ) → List ℕ → Bool
+is_first_format lines tail = nat_lt 0 (length lines) && not (list_any is_comment lines) && bytes_eq tail (35 ∷ [])
+
+-- of this track, or of another
+abbrev pub of_track : List ℕ → List ℕ → Parts → Result Parts ReadFault
+of_track track digest parts = if bytes_eq digest track then Ok parts else Err (OtherTrack digest)
+
+-- the lines are all vouched for, and these bytes are dropped
+abbrev pub by_end : List ℕ → List (List ℕ) → List ℕ → List ℕ → Option (List ℕ) → Result Parts ReadFault
+by_end track lines digest seal None = Err (Damaged (length lines + 1))
+by_end track lines digest seal (Some dropped) = of_track track digest (record { text = text lines; seal = seal; dropped = dropped })
+
+-- the lines begin with a header that names this digest; damage is told as the first line of the put that can't be vouched for, counted from 1
+abbrev pub by_chain : List ℕ → List (List ℕ) → List ℕ → Chain → List ℕ → Result Parts ReadFault
+by_chain track lines tail chain digest =
+    if is_whole chain lines then by_end track lines digest chain.seal (dropped_of chain.seal tail)
+    else Err (Damaged (length chain.whole + 1))
+
+abbrev pub by_header : List ℕ → List (List ℕ) → List ℕ → Option (List ℕ) → Result Parts ReadFault
+by_header track lines tail None = Err (Damaged 1)
+by_header track lines tail (Some digest) = by_chain track lines tail (chain_of lines) digest
+
+abbrev pub by_format : List ℕ → List (List ℕ) → List ℕ → Option ℕ → Result Parts ReadFault
+by_format track lines tail None = if is_first_format lines tail then Err FirstFormat else Err NotAJournal
+by_format track lines tail (Some number) = if number == 2 then by_header track lines tail (digest_in lines) else Err (OtherFormat number)
+
+-- what a file is read as, beside the digest of the track that is given
+abbrev pub reading : List ℕ → List ℕ → Result Parts ReadFault
+reading file track = by_format track (counted file) (tail_of file) (format_in (counted file))
