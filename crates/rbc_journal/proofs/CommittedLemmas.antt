@@ -1,11 +1,11 @@
 -- A journal after a commit.
-use Rattle.std.proofs.Common.{◌≡◌, inl, inr, ⊎_elim, ℕ, ◌+◌, ◌-◌, ◌^◌, ◌<◌, ◌≤◌, List, [], ◌∷◌, ◌++◌, length, take, All, Result, Ok, Err, true, refl, sym, ◌∙◌, ap, subst, arith, length-append, vec_len}
+use Rattle.std.proofs.Common.{◌≡◌, inl, inr, ⊎_elim, ℕ, ◌+◌, ◌-◌, ◌^◌, ◌<◌, ◌≤◌, List, [], ◌∷◌, ◌++◌, length, take, All, Result, Ok, Err, refl, sym, ◌∙◌, ap, subst, arith, length-append, vec_len}
 use Rattle.std.proofs.lemmas.List.Elements.{All-append, All-nil}
 use Rattle.std.specs.Result.{OnOk}
-use Rattle.rbc_journal.specs.Device.{Only, LeavesOnly}
+use Rattle.rbc_journal.specs.Device.{Only}
 use Rattle.rbc_journal.specs.Gates.{counted, text, at_rest, behind, staged_in, IsLine, CountsBeforeOrAfter}
 use Rattle.rbc_journal.specs.Journal.{recovered, IsTold, IsBeforeOrAfter}
-use Rattle.rbc_journal.specs.Seals.{AreSealed, has_seal_form, seal_line, seal_of, seal_of_bytes}
+use Rattle.rbc_journal.specs.Seals.{AreSealed, seal_line, seal_of, seal_of_bytes}
 use Rattle.rbc_journal.specs.Settled.{IsSettled, staged}
 use Rattle.rbc_journal.specs.declared.journal.Journal.{Journal}
 use Rattle.rbc_journal.proofs.ChainLemmas.{stands_for_both, stands_for_first, still_sealed}

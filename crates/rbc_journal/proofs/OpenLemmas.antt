@@ -1,9 +1,9 @@
 -- A file that takes the place of another.
-use Rattle.std.proofs.Common.{◌≡◌, inl, inr, ◌⊎◌, ⊎_elim, ℕ, List, [], ◌∷◌, ◌++◌, length, All, refl, sym, ◌∙◌, ap, subst, arith}
+use Rattle.std.proofs.Common.{◌≡◌, ◌⊎◌, ⊎_elim, ℕ, List, [], ◌∷◌, ◌++◌, ◌∙◌, ap}
 use Rattle.rbc_journal.specs.Device.{Only, Elapses, LeavesOnly}
-use Rattle.rbc_journal.specs.Gates.{counted, text, at_rest}
+use Rattle.rbc_journal.specs.Gates.{counted, at_rest}
 use Rattle.rbc_journal.specs.Journal.{recovered, told_of}
-use Rattle.rbc_journal.specs.Seals.{AreSealed, IsWholeText, chain_of}
+use Rattle.rbc_journal.specs.Seals.{IsWholeText, chain_of}
 use Rattle.rbc_journal.proofs.LineLemmas.{are_lines, counted-at_rest}
 use Rattle.rbc_journal.proofs.MomentLemmas.{started, goes_on}
 

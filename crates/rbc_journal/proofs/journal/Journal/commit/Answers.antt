@@ -1,9 +1,7 @@
-use Rattle.std.proofs.Common.{◌≡◌, ◌<◌, ◌≤◌, ◌+◌, ◌-◌, ◌^◌, ◌++◌, [], ◌∷◌, length, List, ℕ, ap, sym, ◌∙◌, subst, arith, rules, true}
+use Rattle.std.proofs.Common.{◌≡◌, ◌<◌, ◌≤◌, ◌+◌, ◌-◌, ◌^◌, length, List, ℕ, ap, sym, ◌∙◌, subst, arith}
 use Rattle.rbc_journal.specs.declared.journal.Journal.{Journal}
-use Rattle.rbc_journal.specs.Gates.{IsLine, CountsBeforeOrAfter, counted, at_rest, behind, staged_in}
-use Rattle.rbc_journal.specs.Journal.{recovered, IsBeforeOrAfter}
+use Rattle.rbc_journal.specs.Gates.{IsLine, behind, staged_in}
 use Rattle.rbc_journal.specs.Seals.{seal_line}
-use Rattle.rbc_journal.specs.Settled.{staged}
 use Rattle.rbc_journal.proofs.CommittedLemmas.{all_there, before_or_after, both_told, is_settled, none_staged, pushed_is, seal_is}
 use Rattle.rbc_journal.proofs.MomentLemmas.{leaves_so}
 use Rattle.rbc_journal.proofs.SealLemmas.{seal_line_is}
