@@ -1,9 +1,7 @@
 -- Lines and the entries that they add to the history of a centre.
-use Rattle.std.proofs.Common.{◌≡◌, ℕ, zero, suc, ◌<◌, Bool, true, false, List, [], ◌∷◌, ◌++◌, length, Option, Some, None, Result, Ok, refl, sym, ap, ◌∙◌, subst, arith, append-nil, append_assoc, nat_lt, Err}
-use Rattle.std.specs.Bool.{MatchBool}
-use Rattle.std.specs.Prelude.{slice_get, take, IfOk, OnErr}
+use Rattle.std.proofs.Common.{◌≡◌, ℕ, zero, suc, ◌<◌, List, [], ◌∷◌, ◌++◌, length, Option, Some, None, Ok, sym, ap, ◌∙◌, subst, arith, append-nil, append_assoc}
+use Rattle.std.specs.Prelude.{slice_get, take}
 use Rattle.std.specs.Result.{result_map_both}
-use Rattle.std.proofs.lemmas.Bool.{ltb-true, lt-ltb}
 use Rattle.std.proofs.lemmas.List.{length-append}
 use Rattle.std.proofs.lemmas.Option.{none-some, same_Some}
 use Rattle.rbc_journal.specs.Journal.{recovered}
@@ -14,12 +12,10 @@ use Rattle.rbc_model.specs.Histories.{Entry}
 use Rattle.rbc_model.specs.HistoryText.{entry_line}
 use Rattle.rbc_model.specs.SessionText.{SessionLine, parse_session}
 use Rattle.rbc_model.specs.SessionReply.{BadLine, Memory, refused_reply}
-use Rattle.rbc_server.proofs.CentreLemmas.{line_comes}
 use Rattle.rbc_server.specs.Changes.{Comes, Goes}
 use Rattle.rbc_server.specs.Records.{HistoryOnTrack, with_entry}
-use Rattle.rbc_session_laws.specs.declared.demand.Demand.TheVariants.{Authority}
-use Rattle.rbc_session_laws.specs.Demands.{looked_up, demand_in}
-use Rattle.rbc_session_laws.specs.Turns.{AnswersAuthority, AnswersLine}
+use Rattle.rbc_session_laws.specs.Demands.{looked_up}
+use Rattle.rbc_session_laws.specs.Turns.{AnswersLine}
 use Rattle.rbc_session_laws.specs.Answers.{Answer, demand_answer, line_answer}
 use Rattle.rbc_session_laws.proofs.LineLemmas.{lines_are_answered, given_up_adds_none}
 use Rattle.rbc_session_laws.proofs.RetellingLemmas.{entries_are_told_again}

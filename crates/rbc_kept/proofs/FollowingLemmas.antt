@@ -1,5 +1,5 @@
 -- What comes of a line, by what it says.
-use Rattle.std.proofs.Common.{◌≡◌, ℕ, ◌<◌, ◌≤◌, Bool, true, false, cond, List, length, Option, Some, None, Result, Ok, Err, refl, sym, ap, ◌∙◌, subst, arith}
+use Rattle.std.proofs.Common.{◌≡◌, ℕ, ◌<◌, ◌≤◌, Bool, true, false, cond, List, length, Some, None, Result, Ok, Err, refl, sym, ap, ◌∙◌, subst, arith}
 use Rattle.std.specs.Prelude.{IfOk}
 use Rattle.std.specs.Result.{result_map_both}
 use Rattle.std.proofs.lemmas.Bool.{le-leb}
@@ -23,8 +23,8 @@ use Rattle.rbc_session_laws.specs.declared.demand.Demand.{Demand}
 use Rattle.rbc_session_laws.specs.declared.demand.Demand.TheVariants.{Nothing, Event, Authority}
 use Rattle.rbc_session_laws.specs.Demands.{demand_in}
 use Rattle.rbc_session_laws.specs.Turns.{AnswersAuthority}
-use Rattle.rbc_session_laws.specs.Answers.{Answer, refused, told_answer, grant_answer, asker_answer, demand_answer, line_answer}
-use Rattle.rbc_kept.specs.Adds.{Adds, AddsNone, Gains, Follows, FollowsSaid}
+use Rattle.rbc_session_laws.specs.Answers.{refused, told_answer, grant_answer, asker_answer, demand_answer, line_answer}
+use Rattle.rbc_kept.specs.Adds.{Follows, FollowsSaid}
 use Rattle.rbc_kept.proofs.AddingLemmas.{adds_of, grown, unchanged}
 
 -- what a line adds, by what it says

@@ -2,6 +2,7 @@
 use Rattle.std.proofs.Common.{◌≡◌, ℕ, suc, ◌-◌, ◌<◌, ◌==◌, Bool, true, false, not, cond, List, [], ◌∷◌, ◌++◌, length, map, take, Option, Some, None, Result, Ok, Err, filter, refl, sym, ap, ap₂, ◌∙◌, subst, arith, nat_lt}
 use Rattle.std.specs.Prelude.{slice_index}
 use Rattle.std.proofs.lemmas.Bool.Decides.{nat_tests}
+use Rattle.std.proofs.lemmas.List.{append-nil}
 use Rattle.std.specs.List.{AllByRecursion, onto_first, slice_split}
 use Rattle.std.specs.Option.{option_map_or}
 use Rattle.std.specs.Result.{result_map_both}
@@ -130,21 +131,22 @@ module _ (track : Track) where
   abbrev Leads : List Entry → List (List ℕ) → List Entry → Type 0
   Leads before lines entries = entries_added (turns_of track before (map (λ line. 32 ∷ line) lines ++ (35 ∷ []) ∷ [])) ≡ entries
 
+  -- a line, and those behind it
+  by_line : (b : Bool) (before : List Entry) (line : List ℕ) (lines : List (List ℕ)) (entries : List Entry) → is_comment line ≡ b → length line < LONGEST_LINE
+      → ((front rest : List Entry) → Tells (Adds track) front (told_of lines) rest → Leads front lines rest)
+      → Tells (Adds track) before (cond (not b) (line ∷ told_of lines) (told_of lines)) entries → Leads before (line ∷ lines) entries
+  unfolding turns_of
+  by_line true before line lines entries is short behind told = rw (commented before line is short, append-nil before) (behind before entries told)
+  by_line false before line lines entries is short behind (entry, rest, same, adds, later) =
+      let said : (line_answer track before (32 ∷ line)).added ≡ Some entry = ap (λ (a : Answer). a.added) (line_answer-gate track before line short) ∙ adds in
+      rw said (ap (λ (l : List Entry). entry ∷ l) (behind (before ++ entry ∷ []) rest later) ∙ sym same)
+
   leads : (before : List Entry) (lines : List (List ℕ)) (entries : List Entry) → AllByRecursion (λ line. length line < LONGEST_LINE) lines
       → Tells (Adds track) before (told_of lines) entries → Leads before lines entries
-
-  by_line : (b : Bool) (before : List Entry) (line : List ℕ) (lines : List (List ℕ)) (entries : List Entry) → is_comment line ≡ b
-      → AllByRecursion (λ line. length line < LONGEST_LINE) (line ∷ lines) → Tells (Adds track) before (cond (not b) (line ∷ told_of lines) (told_of lines)) entries
-      → Leads before (line ∷ lines) entries
-  unfolding turns_of
-  by_line true before line lines entries is short told = rw (commented before line is short.0) (leads before lines entries short.1 told)
-  by_line false before line lines entries is short (entry, rest, same, adds, later) =
-      let said : (line_answer track before (32 ∷ line)).added ≡ Some entry = ap (λ (a : Answer). a.added) (line_answer-gate track before line short.0) ∙ adds in
-      rw said (ap (λ (l : List Entry). entry ∷ l) (leads (before ++ entry ∷ []) lines rest short.1 later) ∙ sym same)
-
   unfolding turns_of
   leads before [] entries short told = rw (nothing_said before) (sym told)
-  leads before (line ∷ lines) entries short told = by_line (is_comment line) before line lines entries refl short told
+  leads before (line ∷ lines) entries short told =
+      by_line (is_comment line) before line lines entries refl short.0 (λ front rest lead. leads front lines rest short.1 lead) told
 
 pub journals_are_sessions : JournalsAreSessions
 journals_are_sessions track lines entries are short told =

@@ -6,5 +6,5 @@ use Rattle.rbc_kept.proofs.kept.Kept.open.Goals as goal
 pub returns-in-Err-clause-any_moment_err : goal.returns-in-Err-clause-any_moment_err
 returns-in-Err-clause-any_moment_err g c =
     let device = c.args.device in
-    still g.D.Device.moment g.D.Device.left_since device device (λ file. recovered file ≡ recovered c.args.bytes.now) refl
-    (λ file left. ap recovered (c.requires.durable file (g.met.D.Device.only_now device file left) ∙ c.requires.read))
+    still g.D.Device.moment g.D.Device.left_since device device (λ file. recovered file ≡ recovered c.args.file.now.text.now) refl
+    (λ file left. ap recovered (c.requires.durable file (g.met.D.Device.only_now device file left)) ∙ c.requires.same)
