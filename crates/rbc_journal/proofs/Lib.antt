@@ -11,3 +11,4 @@ mod HeaderLemmas
 mod SealLemmas
 mod ReadingLemmas
 mod ToldLemmas
+mod ReadingLawLemmas
