@@ -12,3 +12,4 @@ mod SealLemmas
 mod ReadingLemmas
 mod ToldLemmas
 mod ReadingLawLemmas
+mod ChangeLemmas

@@ -1,5 +1,5 @@
 -- What holds of each journal file at rest, whatever program wrote it.
-use Rattle.std.specs.Prelude.{◌≡◌, ◌⊎◌, ℕ, ◌<◌, true, false, List, [], ◌∷◌, ◌++◌, length, take, drop, All, Some, Ok, Err}
+use Rattle.std.specs.Prelude.{◌≡◌, ◌≢◌, ◌⊎◌, ℕ, ◌<◌, true, false, List, [], ◌∷◌, ◌++◌, length, take, drop, All, Some, Ok, Err}
 use Rattle.rbc_journal.specs.Device.{Torn}
 use Rattle.rbc_journal.specs.Gates.{IsLine, text, at_rest, behind}
 use Rattle.rbc_journal.specs.Seals.{AreSealed, has_seal_form, seal_line, seal_of}
@@ -59,3 +59,45 @@ CutIsTold = (track : List ℕ) (lines : List (List ℕ)) (seal : List ℕ) (n : 
 -- What a journal at rest tells is one list of lines.
 abbrev pub LinesAreOne : Type 0
 LinesAreOne = (lines others : List (List ℕ)) → All IsLine lines → All IsLine others → at_rest lines ≡ at_rest others → lines ≡ others
+
+-- ---- a change is told
+
+-- among these lines is a put with this seal, which was made of these bytes: the seal before the put, and the put's text
+pub record IsSealedBy (lines : List (List ℕ)) (made_of seal : List ℕ) : Type 0 where
+  pub front : List (List ℕ)
+  pub before : List ℕ
+  pub put : List (List ℕ)
+  pub back : List (List ℕ)
+  pub split : lines ≡ front ++ (put ++ seal_line seal ∷ back)
+  pub is_made_of : made_of ≡ before ++ text put
+  pub right : seal ≡ seal_of before put
+
+-- a put among the first lines and one among the others have one seal, made of different bytes
+pub record HaveCollision (lines others : List (List ℕ)) : Type 0 where
+  pub one : List ℕ
+  pub other : List ℕ
+  pub seal : List ℕ
+  pub in_lines : IsSealedBy lines one seal
+  pub in_others : IsSealedBy others other seal
+  pub differ : one ≢ other
+
+-- The last seal vouches for all lines: two lists of lines with the same last seal are the same, but for a collision.
+abbrev pub LastSealVouches : Type 0
+LastSealVouches =
+    (lines others : List (List ℕ)) (seal : List ℕ) → All IsLine lines → All IsLine others → AreSealed lines seal → AreSealed others seal
+    → (lines ≡ others) ⊎ HaveCollision lines others
+
+-- two files differ in one byte at most
+pub record DifferInOne (file other : List ℕ) : Type 0 where
+  pub front : List ℕ
+  pub byte : ℕ
+  pub another : ℕ
+  pub back : List ℕ
+  pub was : file ≡ front ++ byte ∷ back
+  pub is : other ≡ front ++ another ∷ back
+
+-- A journal at rest in which one byte was changed is not read as a whole file of other lines, but for a collision.
+abbrev pub ChangeIsTold : Type 0
+ChangeIsTold =
+    (track : List ℕ) (lines : List (List ℕ)) (seal file : List ℕ) (others : List (List ℕ)) (last : List ℕ) → AreJournal track lines seal → DifferInOne (at_rest lines) file
+    → All IsLine others → IsReadAs track file others last [] → (lines ≡ others) ⊎ HaveCollision lines others

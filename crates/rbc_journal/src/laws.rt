@@ -1,7 +1,7 @@
 //! What journal files are, whatever program wrote them.
 
 ghost use Rattle.rbc_journal.specs.Sessions.{FilesAtRestAreSessions};
-ghost use Rattle.rbc_journal.specs.ReadingLaws.{CrashIsRead, CutIsTold, LinesAreOne};
+ghost use Rattle.rbc_journal.specs.ReadingLaws.{ChangeIsTold, CrashIsRead, CutIsTold, LastSealVouches, LinesAreOne};
 
 /// A file at rest is the input of a session: its lines are those that it stands for, each behind a space, and a comment.
 /// Nothing here runs.
@@ -25,4 +25,16 @@ pub fn cuts_are_told()
 /// What a journal at rest tells is one list of lines. Nothing here runs.
 pub fn lines_are_one()
     ensures { LinesAreOne }
+{}
+
+/// The last seal vouches for all lines: two lists of lines with the same last seal are the same, or a put of each has one
+/// seal that was made of different bytes. Nothing here runs.
+pub fn last_seals_vouch()
+    ensures { LastSealVouches }
+{}
+
+/// A change is told: a journal at rest in which one byte was changed is not read as a whole file of other lines, unless a
+/// put of each has one seal that was made of different bytes. Nothing here runs.
+pub fn changes_are_told()
+    ensures { ChangeIsTold }
 {}
