@@ -12,3 +12,5 @@ mod PutLemmas
 mod HeaderLemmas
 mod ReadingLemmas
 mod ToldLemmas
+mod ReadingLawLemmas
+mod ChangeLemmas

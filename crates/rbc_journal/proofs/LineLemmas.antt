@@ -19,7 +19,7 @@ text-append (line ∷ a) b =
 feed : (line rest : List ℕ) → lines_from (Some line) (10 ∷ rest) ≡ line ∷ counted rest
 feed line rest = refl
 
-no_feed : (line rest : List ℕ) (byte : ℕ) → byte ≢ 10 → lines_from (Some line) (byte ∷ rest) ≡ lines_from (Some (line ++ byte ∷ [])) rest
+pub no_feed : (line rest : List ℕ) (byte : ℕ) → byte ≢ 10 → lines_from (Some line) (byte ∷ rest) ≡ lines_from (Some (line ++ byte ∷ [])) rest
 no_feed line rest byte differs = grind (arith, nat_tests)
 
 pub lines_inside : (front line rest : List ℕ) → IsLine line → lines_from (Some front) (line ++ 10 ∷ rest) ≡ (front ++ line) ∷ counted rest

@@ -1,5 +1,5 @@
 -- A seal has the form of one, and stands in one line.
-use Rattle.std.proofs.Common.{◌≡◌, ◌≢◌, ℕ, zero, suc, ◌*◌, ◌<◌, ◌/◌, ◌%◌, ◌==◌, Bool, true, false, ◌&&◌, List, [], ◌∷◌, ◌++◌, length, take, slice_index, refl, ap, arith, length-append}
+use Rattle.std.proofs.Common.{◌≡◌, ◌≢◌, ℕ, zero, suc, ◌*◌, ◌<◌, ◌/◌, ◌%◌, ◌==◌, Bool, true, false, ◌&&◌, List, [], ◌∷◌, ◌++◌, length, take, slice_index, refl, sym, ap, arith, length-append}
 use Rattle.std.specs.Prelude.{is_ok, not}
 use Rattle.std.specs.Int.{w32, byte_at, to_be_bytes}
 use Rattle.std.proofs.lemmas.Bool.{and_parts, false_from_ne_true}
@@ -7,7 +7,7 @@ use Rattle.std.proofs.lemmas.Bool.Decides.{nat_tests}
 use Rattle.std.proofs.lemmas.List.{length-take-le}
 use Rattle.std.proofs.lemmas.List.Elements.{All-nil, All-cons}
 use Rattle.hex.specs.Hex.{IsBytes, decode_sized, encode_lower, encode_with, lower_digits}
-use Rattle.hex.proofs.HexLemmas.{decode_sized-encode_lower, IsOk-decode_sized}
+use Rattle.hex.proofs.HexLemmas.{decode_sized-encode_lower, IsOk-decode_sized, length-encode_with}
 use Rattle.sha2.specs.Sha256.{sha256, digest_bytes, final_hash, initial_hash_256}
 use Rattle.rbc_journal.specs.Gates.{IsLine}
 use Rattle.rbc_journal.specs.Seals.{has_seal_form, seal_line, seal_of_bytes}
@@ -107,3 +107,33 @@ unfolding seal_of_bytes
 seal_line_is before bytes =
     All-cons NotFeed 35 (32 ∷ seal_of_bytes before bytes) (omega arith)
     (All-cons NotFeed 32 (seal_of_bytes before bytes) (omega arith) (digits_line (take 8 (sha256 (before ++ bytes)))))
+
+-- ---- how long a seal is, and that it begins with no space
+
+pub seal_size : (before bytes : List ℕ) → length (seal_of_bytes before bytes) ≡ 16
+unfolding seal_of_bytes
+seal_size before bytes = omega (arith, length-encode_with lower_digits (take 8 (sha256 (before ++ bytes))), front_size (before ++ bytes))
+
+abbrev no_space : ℕ → Bool
+no_space byte = not (byte == 32)
+
+abbrev no_spaces : List ℕ → Bool
+no_spaces [] = true
+no_spaces (byte ∷ bytes) = no_space byte && no_spaces bytes
+
+not_space : (byte : ℕ) → no_space byte ≡ true → byte ≢ 32
+not_space byte is = grind (arith, nat_tests)
+
+at_no_space : (bytes : List ℕ) → no_spaces bytes ≡ true → (i : ℕ) → slice_index bytes i ≢ 32
+at_no_space [] are i = omega arith
+at_no_space (byte ∷ bytes) are zero = not_space byte (and_parts (no_space byte) (no_spaces bytes) are).0
+at_no_space (byte ∷ bytes) are (suc i) = at_no_space bytes (and_parts (no_space byte) (no_spaces bytes) are).1 i
+
+encoded_first : (xs rest others : List ℕ) → length xs ≡ 8 → 32 ∷ others ≡ encode_with lower_digits xs ++ rest → ⊥
+unfolding encode_with
+encoded_first [] rest others size e = absurd (omega arith)
+encoded_first (x ∷ xs) rest others size e = at_no_space lower_digits refl (x / 16) (sym (ap (λ (l : List ℕ). slice_index l 0) e))
+
+pub seal_first : (before bytes rest others : List ℕ) → 32 ∷ others ≡ seal_of_bytes before bytes ++ rest → ⊥
+unfolding seal_of_bytes
+seal_first before bytes rest others e = encoded_first (take 8 (sha256 (before ++ bytes))) rest others (front_size (before ++ bytes)) e

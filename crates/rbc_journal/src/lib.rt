@@ -15,7 +15,10 @@ pub use device::{Device, DeviceFailed};
 pub use fault::JournalFault;
 pub use header::{new_file, track_digest};
 pub use journal::Journal;
-pub use laws::files_at_rest_are_sessions;
+pub use laws::{
+    changes_are_told, crashes_are_read, cuts_are_told, files_at_rest_are_sessions,
+    last_seals_vouch, lines_are_one,
+};
 pub use lines::{is_told, next_line};
 pub use reading::{ReadFault, Readable, read};
 pub use told::next_told;
