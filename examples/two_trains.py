@@ -4,7 +4,8 @@
     ./rbc serve examples/station.toml --port 7001 --connections 2 --workers 1    # in one terminal
     python3 examples/two_trains.py 7001                                          # in another
 
-It uses Python's standard library alone. What stands in requests and replies is told in docs/formats.md."""
+It uses Python's standard library alone. What stands in requests and replies is told in docs/formats.md. Times count from
+midnight in units of 10 ms, as T_TRAIN does: 06:00 is 2160000."""
 
 import socket
 import sys
@@ -60,8 +61,8 @@ def main():
     west, east = Connection(port), Connection(port)
     told(west, "lock line_west")
     told(east, "lock line_east")
-    told(west, "report 101 80/201 nominal 250 5 5 180 21600")
-    told(east, "report 204 80/222 nominal 60 8 8 220 21600")
+    told(west, "report 101 80/201 nominal 250 5 5 180 2160000")
+    told(east, "report 204 80/222 nominal 60 8 8 220 2160000")
     asked(west, 101)
     asked(east, 204)
     # Platform 1 goes to the train from the west, and the other one is led into platform 2.
