@@ -12,7 +12,7 @@ use Rattle.rbc_model.specs.declared.sessions.SessionFault.TheVariants.{Memory, W
 use Rattle.rbc_show.specs.ServeFault.{ServeFault}
 use Rattle.rbc_show.specs.ServeFault.TheVariants.{Memory as NoServeMemory, Close, Write as ServeWrite}
 use Rattle.rbc.specs.declared.journal.JournalFault.{JournalFault}
-use Rattle.rbc.specs.declared.journal.JournalFault.TheVariants.{Foreign}
+use Rattle.rbc.specs.declared.journal.JournalFault.TheVariants.{InUse, Failed}
 use Rattle.rbc_trackfile.specs.declared.loading.LoadFault.{LoadFault}
 use Rattle.rbc_trackfile.specs.declared.loading.LoadFault.TheVariants.{Memory as NoLoadMemory}
 use Rattle.rbc.specs.declared.failure.Failure.{Failure}
@@ -42,8 +42,9 @@ status_of_serve _ = 4
 
 -- after a journal that is not opened, or that failed
 abbrev pub status_of_journal : JournalFault → ℕ
-status_of_journal (Foreign line) = 3
-status_of_journal _ = 4
+status_of_journal InUse = 4
+status_of_journal Failed = 4
+status_of_journal _ = 3
 
 -- after any of them
 abbrev pub status_of : Failure → ℕ

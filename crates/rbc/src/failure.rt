@@ -76,9 +76,9 @@ impl Failure {
             | Failure::Session(SessionFault::Memory)
             | Failure::Serve(ServeFault::Memory)
             | Failure::Memory => NO_MEMORY,
-            Failure::Load(_) | Failure::Journal(JournalFault::Foreign(_)) => NO_TRACK,
             Failure::Session(_) | Failure::History => SESSION_FAULT,
             Failure::Journal(JournalFault::InUse | JournalFault::Failed) => SESSION_FAULT,
+            Failure::Load(_) | Failure::Journal(_) => NO_TRACK,
             Failure::Serve(ServeFault::Close(_)) => UNMATCHED,
             Failure::Serve(ServeFault::Port | ServeFault::Write | ServeFault::Journal) =>
                 SESSION_FAULT,
@@ -150,7 +150,7 @@ impl From<OpenFault> for Failure {
     fn from(fault: OpenFault) -> Failure {
         match fault {
             OpenFault::InUse => Failure::Journal(JournalFault::InUse),
-            OpenFault::File => Failure::Journal(JournalFault::Failed),
+            OpenFault::File(_) => Failure::Journal(JournalFault::Failed),
             OpenFault::Memory => Failure::Memory,
         }
     }

@@ -2,6 +2,10 @@
 
 ghost use Rattle.std.specs.Prelude.{◌≡◌, [], IfOk};
 ghost use Rattle.rbc_journal_file.specs.Device.{Only};
+ghost use Rattle.rbc_journal_file.specs.Journal.{recovered};
+ghost use Rattle.rbc_journal_file.specs.Past.{may_leave, seen};
+ghost use Rattle.rbc_journal_file.specs.Recorded.{past_of};
+ghost use Rattle.rbc_journal_file.specs.Seals.{IsWholeText};
 ghost use Rattle.rbc_show.specs.Kept.{IsReady};
 
 use crate::failure::Failure;
@@ -9,12 +13,15 @@ use crate::history::write_history;
 use crate::output::{ended, standard_output};
 use crate::serve::open_port;
 use crate::serve_kept::serve_kept;
+use crate::track::TrackFile;
 use rbc_command_line::Service;
+use rbc_journal_file::{Found, ReadFault, Readable, Recorded, SystemFile, new_file, read};
+use rbc_model::Memory;
 use rbc_show::Stream;
 use rbc_show::kept::server::Record;
 use rbc_show::kept::{self, Device, Kept};
-use rbc_trackfile::Track;
-use std::alloc::Global;
+use std::fmt;
+use std::fmt::Display;
 use std::fs::{File, Files};
 use std::io::Eprint;
 use std::net::{Net, TcpListener, TcpStream};
@@ -29,12 +36,58 @@ pub enum JournalFault {
     /// Another centre has its file.
     #[error("journal: in use")]
     InUse,
-    /// Its line of this number, from 1 on, adds nothing to the history: it is of another track, or was written by hand.
+    /// The file is no journal.
+    #[error("journal: not a journal")]
+    NotAJournal,
+    /// It is a journal of the format before this.
+    #[error("journal: format 1, and this program writes 2")]
+    FirstFormat,
+    /// It is a journal of the format of this number.
+    #[error("journal: format {0}, and this program writes 2")]
+    OtherFormat(u64),
+    /// A byte of it is wrong, or it was cut: no crash leaves it so. The lines before the one of this number, from 1 on,
+    /// stand.
+    #[error("journal: damaged at line {0}")]
+    Damaged(u64),
+    /// It is of the track with the first digest, and not of the one that is given, with the second.
+    #[error("journal: of another track ({0}), not of this ({1})")]
+    OtherTrack(Digest, Digest),
+    /// The line of this number, of those that it tells, from 1 on, adds nothing to the history: it was written by hand, or by
+    /// another program.
     #[error("journal: Foreign {0}")]
     Foreign(u64),
     /// Its file failed.
     #[error("journal fault")]
     Failed,
+}
+
+/// The digest of a track file, 64 hex digits.
+#[derive(Clone, Copy, Debug, PartialEq, Eq)]
+pub struct Digest([u8; 64]);
+
+impl Display for Digest {
+    fn fmt<W: fmt::Write>(&self, f: &mut fmt::Formatter<W>) -> fmt::Result {
+        for digit in &self.0 {
+            let shown = if digit.is_ascii_hexdigit() {
+                *digit
+            } else {
+                b'?'
+            };
+            f.write_char(char::from(shown))?;
+        }
+        Ok(())
+    }
+}
+
+/// Why a file is no journal of the track with this digest.
+fn fault_of(fault: ReadFault, digest: &[u8; 64]) -> JournalFault {
+    match fault {
+        ReadFault::NotAJournal => JournalFault::NotAJournal,
+        ReadFault::FirstFormat => JournalFault::FirstFormat,
+        ReadFault::OtherFormat(number) => JournalFault::OtherFormat(number),
+        ReadFault::Damaged(line) => JournalFault::Damaged(line),
+        ReadFault::OtherTrack(other) => JournalFault::OtherTrack(Digest(other), Digest(*digest)),
+    }
 }
 
 /// Runs a centre over the standard input, from what a journal tells on: an empty record gains that first. The history
@@ -44,16 +97,13 @@ pub enum JournalFault {
 ///
 /// `Journal`, where the journal is not opened, or fails; `Memory`; `Session`; `History`.
 pub(crate) fn run_kept(
-    rt: &(impl Files<File = File> + Input + Print + AllocGlobal + Threads + Sync),
+    rt: &(impl Files<File = File> + Input + Print + AllocGlobal + Threads + Eprint + Sync),
     journal: &str,
     history: Option<&str>,
-    empty: Record,
-) -> Result<(), Failure>
-    requires { empty.entries ≡ [] }
-{
+    track: TrackFile,
+) -> Result<(), Failure> {
     let alloc = rt.alloc();
-    let (bytes, device) = rbc_journal_file::open(rt, journal)?;
-    let mut kept = recovered(rt, alloc, empty, bytes.as_slice(), device)?;
+    let mut kept = opened(rt, journal, track)?;
     let mut output = standard_output(rt)?;
     let reader = &mut Stream::reader(rt.reader());
     let answered = kept::run(rt, alloc, reader, &mut output, &mut kept);
@@ -81,13 +131,11 @@ pub(crate) fn serve_with(
         + Net<Listener = TcpListener, Stream = TcpStream>
         + Sync),
     journal: &str,
-    track: Arc<Track>,
+    track: TrackFile,
     service: &Service,
 ) -> Result<(), Failure> {
     let alloc = rt.alloc();
-    let empty = Record::new(alloc, track)?;
-    let (bytes, device) = rbc_journal_file::open(rt, journal)?;
-    let kept = recovered(rt, alloc, empty, bytes.as_slice(), device)?;
+    let kept = opened(rt, journal, track)?;
     let mut output = standard_output(rt)?;
     let outcome = match open_port(rt, service, &mut output) {
         Ok(port) => serve_kept(rt, alloc, port, kept, service, &mut output),
@@ -96,40 +144,74 @@ pub(crate) fn serve_with(
     ended(output, outcome)
 }
 
-/// The record that a journal's bytes tell, with its journal: an empty record gains what they tell.
+/// The record that a journal tells, with its journal. A missing file is made. What a crash left behind the last line is kept
+/// beside the file, and told.
 ///
 /// # Errors
 ///
-/// `Journal`, where a centre did not leave these bytes, they are of another track, or the file fails; `Memory`.
-fn recovered<D: Device + Drop>(
-    rt: &(impl Threads + Sync),
-    alloc: Global,
-    empty: Record,
-    bytes: &[u8],
-    device: D,
-) -> Result<Kept<D>, Failure>
-    requires empty { empty.entries ≡ [] }
-    requires read { D.seen device ≡ bytes.now }
-    requires durable { Only (D.seen device) (D.may_leave device) }
-    ensures { IfOk result (λ kept. IsReady D.seen D.may_leave kept) }
+/// `Journal`, where the file is no journal of this track, is damaged, or fails; `Memory`.
+fn opened<'a, R: Files<File = File> + AllocGlobal + Threads + Eprint + Sync>(
+    rt: &'a R,
+    path: &str,
+    track: TrackFile,
+) -> Result<Kept<Recorded<SystemFile<'a, R>>>, Failure>
+    ensures { IfOk result (λ kept. IsReady (λ file. seen (past_of file)) (λ file. may_leave (past_of file)) kept) }
 {
-    if !is_journal(bytes) {
-        return Err(Failure::Journal(JournalFault::Foreign(1)));
+    let alloc = rt.alloc();
+    let TrackFile { track, digest } = track;
+    let empty = Record::new(alloc, Arc::new(alloc, track).map_err(Memory::from)?)?;
+    let Found { bytes, mut file } = rbc_journal_file::open(rt, path)?;
+    let Some(bytes) = bytes else {
+        let bytes = new_file(alloc, &digest)?;
+        let read = readable(bytes.as_slice(), &digest)?;
+        return recovered(rt, empty, &read, Recorded::opened(file, b""));
+    };
+    let read = readable(bytes.as_slice(), &digest)?;
+    file.drop_bytes(read.dropped)?;
+    let kept = recovered(rt, empty, &read, Recorded::opened(file, bytes.as_slice()))?;
+    if !read.dropped.is_empty() {
+        eprintln!(rt;
+            "rbc: journal: {} bytes behind the last line dropped",
+            read.dropped.len()
+        );
     }
-    match Kept::open(rt, alloc, empty, bytes, device) {
-        Ok(kept) => Ok(kept),
-        Err((fault, _)) => Err(fault.into()),
+    Ok(kept)
+}
+
+/// What a file with these bytes is read as, beside the track with this digest.
+///
+/// # Errors
+///
+/// `Journal`.
+fn readable<'a>(bytes: &'a [u8], digest: &[u8; 64]) -> Result<Readable<'a>, Failure>
+    ensures whole { IfOk result (λ file. IsWholeText file.text.now file.seal) }
+    ensures told { IfOk result (λ file. recovered file.text.now ≡ recovered bytes.now) }
+{
+    match read(bytes, digest) {
+        Ok(file) => Ok(file),
+        Err(fault) => Err(Failure::Journal(fault_of(fault, digest))),
     }
 }
 
-/// How many bytes a file has at most whose first gate is still closed: a line was being put behind it.
-const MOST_TORN: usize = 128;
-
-/// Whether a centre may have left these bytes, however it ended: else they are not to be cut. A single byte may be any: the
-/// first write of a journal may have left it.
-fn is_journal(bytes: &[u8]) -> bool {
-    match bytes {
-        [] | [_] => true,
-        [first, ..] => *first == b' ' || *first == b'#' && bytes.len() <= MOST_TORN,
+/// The record that what was read of a journal tells: an empty record gains that.
+///
+/// # Errors
+///
+/// `Journal`, where a line adds nothing, or the file fails; `Memory`.
+fn recovered<D: Device + Drop, R: AllocGlobal + Threads + Sync>(
+    rt: &R,
+    empty: Record,
+    read: &Readable<'_>,
+    device: D,
+) -> Result<Kept<D>, Failure>
+    requires empty { empty.entries ≡ [] }
+    requires whole { IsWholeText read.now.text.now read.now.seal }
+    requires same { recovered (D.seen device) ≡ recovered read.now.text.now }
+    requires durable { Only (D.seen device) (D.may_leave device) }
+    ensures { IfOk result (λ kept. IsReady D.seen D.may_leave kept) }
+{
+    match Kept::open(rt, rt.alloc(), empty, read, device) {
+        Ok(kept) => Ok(kept),
+        Err((fault, _)) => Err(fault.into()),
     }
 }

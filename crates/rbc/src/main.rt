@@ -7,6 +7,7 @@ mod journal;
 mod output;
 mod serve;
 mod serve_kept;
+mod track;
 mod version;
 
 use failure::Failure;
@@ -22,10 +23,10 @@ use rbc_model::Memory;
 use rbc_show::Stream;
 use rbc_show::kept::server::{self, Record};
 pub use rbc_show::{list, show, show_each};
-use rbc_trackfile::Track;
-pub use rbc_trackfile::{LoadFault, load};
+pub use rbc_trackfile::{LoadFault, read as track_in};
 pub use rbc_viewer::draw;
 use serve::{open_port, serve};
+use std::env;
 use std::env::Env;
 use std::fs::{File, Files};
 use std::io::Eprint;
@@ -34,7 +35,7 @@ use std::process::ExitCode;
 use std::sync::{Arc, Wait};
 use std::thread::Threads;
 use std::time::Clock;
-use std::{env, fs};
+use track::{TrackFile, read_track};
 use version::VERSION;
 
 fn main(rt: HostRuntime) -> ExitCode {
@@ -133,15 +134,15 @@ fn decode_input<F: Form>(
 /// Runs a centre on the track of a file: it answers the lines of the standard input. However they end, the history that
 /// they led to is written, if a file is named for it.
 fn run_centre(
-    rt: &(impl Files<File = File> + Input + Print + AllocGlobal + Threads + Sync),
+    rt: &(impl Files<File = File> + Input + Print + AllocGlobal + Threads + Eprint + Sync),
     centre: &Centre,
 ) -> Result<(), Failure> {
     let alloc = rt.alloc();
-    let track = Arc::new(alloc, read_track(rt, centre.track)?).map_err(Memory::from)?;
-    let mut record = Record::new(alloc, track)?;
+    let track = read_track(rt, centre.track)?;
     if let Some(journal) = centre.journal {
-        return run_kept(rt, journal, centre.history, record);
+        return run_kept(rt, journal, centre.history, track);
     }
+    let mut record = Record::new(alloc, Arc::new(alloc, track.track).map_err(Memory::from)?)?;
     let mut output = standard_output(rt)?;
     let reader = &mut Stream::reader(rt.reader());
     let answered = server::run(rt, alloc, reader, &mut output, &mut record);
@@ -159,7 +160,7 @@ fn show_session(
     shown: &Shown,
 ) -> Result<(), Failure> {
     let alloc = rt.alloc();
-    let track = Arc::new(alloc, read_track(rt, shown.track)?).map_err(Memory::from)?;
+    let track = Arc::new(alloc, read_track(rt, shown.track)?.track).map_err(Memory::from)?;
     let record = Record::new(alloc, track)?;
     let mut output = standard_output(rt)?;
     let reader = &mut Stream::reader(rt.reader());
@@ -173,7 +174,7 @@ fn show_session(
 
 /// Reads the track of a file, and writes it as lines, if that is asked for.
 fn list_track(rt: &(impl Files + Print + AllocGlobal), listed: &Listed) -> Result<(), Failure> {
-    let track = read_track(rt, listed.track)?;
+    let TrackFile { track, .. } = read_track(rt, listed.track)?;
     if !listed.lines {
         return Ok(());
     }
@@ -196,22 +197,15 @@ fn serve_centre(
     service: &Service,
 ) -> Result<(), Failure> {
     let alloc = rt.alloc();
-    let track = Arc::new(alloc, read_track(rt, service.track)?).map_err(Memory::from)?;
+    let track = read_track(rt, service.track)?;
     if let Some(journal) = service.journal {
         return serve_with(rt, journal, track, service);
     }
+    let track = Arc::new(alloc, track.track).map_err(Memory::from)?;
     let mut output = standard_output(rt)?;
     let outcome = match open_port(rt, service, &mut output) {
         Ok(port) => serve(rt, alloc, port, track, service, &mut output),
         Err(failure) => Err(failure),
     };
     ended(output, outcome)
-}
-
-/// The track of this file.
-fn read_track(rt: &(impl Files + AllocGlobal), path: &str) -> Result<Track, Failure> {
-    let Ok(file) = fs::open(rt, path) else {
-        return Err(Failure::Load(LoadFault::Unreadable));
-    };
-    Ok(load(rt.alloc(), &mut Stream::reader(file))?)
 }

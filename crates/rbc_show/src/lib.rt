@@ -11,4 +11,6 @@ pub use last::show;
 pub use listing::list;
 pub use rbc_kept as kept;
 pub use rbc_kept::server::words::{Word, print_line};
-pub use rbc_streams::{Buffered, SessionFault, Sink, Source, Stream, WriteFailed};
+pub use rbc_streams::{
+    Buffered, SessionFault, Sink, Source, Stream, WholeFault, WriteFailed, read_whole,
+};
