@@ -40,15 +40,15 @@ pub enum JournalFault {
     #[error("journal: not a journal")]
     NotAJournal,
     /// It is a journal of the format before this.
-    #[error("journal: format 1, and this program writes 2")]
+    #[error("journal: format 1; renew it with rbc journal FILE --renew OUT")]
     FirstFormat,
     /// It is a journal of the format of this number.
     #[error("journal: format {0}, and this program writes 2")]
     OtherFormat(u64),
-    /// A byte of it is wrong, or it was cut: no crash leaves it so. The lines before the one of this number, from 1 on,
-    /// stand.
-    #[error("journal: damaged at line {0}")]
-    Damaged(u64),
+    /// A byte of it is wrong, or it was cut: no crash leaves it so. The line of the first number, from 1 on, is the first that
+    /// can't be vouched for; as many as the second stand before it.
+    #[error("journal: damaged at line {0}; the {1} lines before it stand")]
+    Damaged(u64, u64),
     /// It is of the track with the first digest, and not of the one that is given, with the second.
     #[error("journal: of another track ({0}), not of this ({1})")]
     OtherTrack(Digest, Digest),
@@ -85,7 +85,7 @@ fn fault_of(fault: ReadFault, digest: &[u8; 64]) -> JournalFault {
         ReadFault::NotAJournal => JournalFault::NotAJournal,
         ReadFault::FirstFormat => JournalFault::FirstFormat,
         ReadFault::OtherFormat(number) => JournalFault::OtherFormat(number),
-        ReadFault::Damaged(line) => JournalFault::Damaged(line),
+        ReadFault::Damaged(line) => JournalFault::Damaged(line, line.saturating_sub(1)),
         ReadFault::OtherTrack(other) => JournalFault::OtherTrack(Digest(other), Digest(*digest)),
     }
 }
