@@ -97,7 +97,7 @@ fn fault_of(fault: ReadFault, digest: &[u8; 64]) -> JournalFault {
 ///
 /// `Journal`, where the journal is not opened, or fails; `Memory`; `Session`; `History`.
 pub(crate) fn run_kept(
-    rt: &(impl Files<File = File> + Input + Print + AllocGlobal + Threads + Eprint + Sync),
+    rt: &(impl Files<File = File> + Input + Print + AllocGlobal + Threads + Eprint + Sync + Copy),
     journal: &str,
     history: Option<&str>,
     track: TrackFile,
@@ -129,7 +129,9 @@ pub(crate) fn serve_with(
         + Clock
         + Eprint
         + Net<Listener = TcpListener, Stream = TcpStream>
-        + Sync),
+        + Sync
+        + Send
+        + Copy),
     journal: &str,
     track: TrackFile,
     service: &Service,
@@ -150,11 +152,11 @@ pub(crate) fn serve_with(
 /// # Errors
 ///
 /// `Journal`, where the file is no journal of this track, is damaged, or fails; `Memory`.
-fn opened<'a, R: Files<File = File> + AllocGlobal + Threads + Eprint + Sync>(
-    rt: &'a R,
+fn opened<R: Files<File = File> + AllocGlobal + Threads + Eprint + Sync + Copy>(
+    rt: &R,
     path: &str,
     track: TrackFile,
-) -> Result<Kept<Recorded<SystemFile<'a, R>>>, Failure>
+) -> Result<Kept<Recorded<SystemFile<R>>>, Failure>
     ensures { IfOk result (λ kept. IsReady (λ file. seen (past_of file)) (λ file. may_leave (past_of file)) kept) }
 {
     let alloc = rt.alloc();
@@ -170,7 +172,7 @@ fn opened<'a, R: Files<File = File> + AllocGlobal + Threads + Eprint + Sync>(
     file.drop_bytes(read.dropped)?;
     let kept = recovered(rt, empty, &read, Recorded::opened(file, bytes.as_slice()))?;
     if !read.dropped.is_empty() {
-        eprintln!(rt;
+        let _ = eprintln!(rt;
             "rbc: journal: {} bytes behind the last line dropped",
             read.dropped.len()
         );

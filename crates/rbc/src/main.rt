@@ -60,7 +60,9 @@ fn run(
         + Clock
         + Eprint
         + Net<Listener = TcpListener, Stream = TcpStream>
-        + Sync),
+        + Sync
+        + Send
+        + Copy),
 ) -> Result<(), Failure> {
     let alloc = rt.alloc();
     let words: Vec<String> = env::args(rt)?.collect(alloc)?;
@@ -134,7 +136,7 @@ fn decode_input<F: Form>(
 /// Runs a centre on the track of a file: it answers the lines of the standard input. However they end, the history that
 /// they led to is written, if a file is named for it.
 fn run_centre(
-    rt: &(impl Files<File = File> + Input + Print + AllocGlobal + Threads + Eprint + Sync),
+    rt: &(impl Files<File = File> + Input + Print + AllocGlobal + Threads + Eprint + Sync + Copy),
     centre: &Centre,
 ) -> Result<(), Failure> {
     let alloc = rt.alloc();
@@ -193,7 +195,9 @@ fn serve_centre(
         + Clock
         + Eprint
         + Net<Listener = TcpListener, Stream = TcpStream>
-        + Sync),
+        + Sync
+        + Send
+        + Copy),
     service: &Service,
 ) -> Result<(), Failure> {
     let alloc = rt.alloc();

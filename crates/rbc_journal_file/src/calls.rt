@@ -30,23 +30,18 @@ pub trait Calls {
 /// A file of the system, and where it stands. None is open as long as there is none. The one that is keeps its lock until it
 /// is dropped.
 #[derive(Drop)]
-pub struct SystemFile<'a, R: Files<File = File>> {
-    rt: &'a R,
+pub struct SystemFile<R: Files<File = File> + Copy> {
+    rt: R,
     place: Place,
     file: Option<File>,
     dropped: Vec<u8>,
 }
 
-impl<'a, R: Files<File = File>> SystemFile<'a, R> {
+impl<R: Files<File = File> + Copy> SystemFile<R> {
     /// A file that is open and locked, at this place, or none.
-    pub(crate) fn new(
-        rt: &'a R,
-        alloc: Global,
-        place: Place,
-        file: Option<File>,
-    ) -> SystemFile<'a, R> {
+    pub(crate) fn new(rt: &R, alloc: Global, place: Place, file: Option<File>) -> SystemFile<R> {
         SystemFile {
-            rt,
+            rt: *rt,
             place,
             file,
             dropped: Vec::new(alloc),
@@ -69,7 +64,7 @@ impl<'a, R: Files<File = File>> SystemFile<'a, R> {
         let mut file = OpenOptions::new()
             .append(true)
             .create(true)
-            .open(self.rt, self.place.cut_path())?;
+            .open(&self.rt, self.place.cut_path())?;
         file.write_all(self.dropped.as_slice())?;
         file.sync_all()
     }
@@ -89,9 +84,9 @@ impl<'a, R: Files<File = File>> SystemFile<'a, R> {
             .read(true)
             .write(true)
             .create(true)
-            .open(self.rt, self.place.new_path())?;
+            .open(&self.rt, self.place.new_path())?;
         if file.try_lock().is_err()
-            || self.file.is_none() && fs::exists(self.rt, self.place.path())?
+            || self.file.is_none() && fs::exists(&self.rt, self.place.path())?
         {
             return Err(ErrorKind::ResourceBusy.into());
         }
@@ -100,7 +95,7 @@ impl<'a, R: Files<File = File>> SystemFile<'a, R> {
     }
 }
 
-impl<'a, R: Files<File = File>> Calls for SystemFile<'a, R> {
+impl<R: Files<File = File> + Copy> Calls for SystemFile<R> {
     fn write(&mut self, at: u64, bytes: &[u8]) -> io::Result<()> {
         let file = self.opened()?;
         file.seek(SeekFrom::Start(at))?;
@@ -117,8 +112,8 @@ impl<'a, R: Files<File = File>> Calls for SystemFile<'a, R> {
         file.write_all(front)?;
         file.write_all(rest)?;
         file.sync_all()?;
-        fs::rename(self.rt, self.place.new_path(), self.place.path())?;
-        fs::open(self.rt, self.place.folder())?.sync_all()?;
+        fs::rename(&self.rt, self.place.new_path(), self.place.path())?;
+        fs::open(&self.rt, self.place.folder())?.sync_all()?;
         self.file = Some(file);
         Ok(())
     }

@@ -45,21 +45,21 @@ impl From<AllocError> for OpenFault {
 
 /// What was found where a journal stands: the file, and its bytes, if there is one.
 #[derive(Drop)]
-pub struct Found<'a, R: Files<File = File>> {
+pub struct Found<R: Files<File = File> + Copy> {
     /// The bytes of the file. None where there is no file.
     pub bytes: Option<Vec<u8>>,
     /// The file. Until it is dropped no other centre can open it.
-    pub file: SystemFile<'a, R>,
+    pub file: SystemFile<R>,
 }
 
 /// The file of a journal, if there is one. Nothing is written, and none is made if it is missing.
 ///
 /// # Errors
 /// `InUse`, before the file is read; `File`; `Memory`.
-pub fn open<'a, R: Files<File = File> + AllocGlobal>(
-    rt: &'a R,
+pub fn open<R: Files<File = File> + AllocGlobal + Copy>(
+    rt: &R,
     path: &str,
-) -> Result<Found<'a, R>, OpenFault> {
+) -> Result<Found<R>, OpenFault> {
     let alloc = rt.alloc();
     let place = Place::of(alloc, path)?;
     let Some(mut file) = locked(rt, path)? else {
