@@ -11,9 +11,10 @@ use Rattle.rbc_journal.specs.Seals.{Chain, start, with_line, chain_of, seal_line
 use Rattle.rbc_journal.specs.Headers.{title, track_mark, named_in_header, header, new_file, format_in, behind_mark, sized, digest_in}
 use Rattle.rbc_journal.specs.Journal.{told_of, recovered}
 use Rattle.rbc_journal.specs.Puts.{ArePuts, BeginsWithHeader, at_put}
+use Rattle.rbc_journal.specs.ReadingLaws.{AreJournal}
 use Rattle.rbc_journal.specs.Reading.{is_whole, chain_behind, first_put, ends_well, dropped_of, tail_of, by_end, by_chain, by_header, by_format, reading}
 use Rattle.rbc_journal.specs.declared.reading.ReadFault.TheVariants.{Damaged, OtherTrack}
-use Rattle.rbc_journal.proofs.LineLemmas.{NotFeed, text-append, counted-text, counted-at_rest, closed}
+use Rattle.rbc_journal.proofs.LineLemmas.{NotFeed, text-append, counted-text, counted-at_rest, closed, are_lines}
 use Rattle.rbc_journal.proofs.PutLemmas.{Inner, put_chain, none_more, no_puts}
 use Rattle.rbc_journal.proofs.SealLemmas.{seal_form, other_form, seal_line_is, line_by_test}
 
@@ -207,6 +208,14 @@ module _ (bytes digest behind : List ℕ) (puts : List (List ℕ)) (seal rest : 
     shown_whole = record {
       is_text = shown_is ∙ ap text (sym shown_counted);
       are_sealed = subst (λ (l : List (List ℕ)). AreSealed l seal) (sym shown_counted) all_chain;
+    }
+
+    pub shown_journal : (track : List ℕ) → digest ≡ track → AreJournal track (counted shown) seal
+    shown_journal track same = record {
+      one_each = are_lines shown;
+      sealed = shown_whole.are_sealed;
+      format = ap format_in shown_counted;
+      of_track = ap digest_in shown_counted ∙ header_digest digest puts begins.size ∙ ap Some same;
     }
 
     module _ (dropped : List ℕ) (drops : dropped_of seal rest ≡ Some dropped) where

@@ -7,6 +7,7 @@ ghost use Rattle.rbc_journal.specs.Seals.{seal_of_bytes, seal_of, IsWholeText};
 ghost use Rattle.rbc_journal.specs.Journal.{told_of, recovered};
 ghost use Rattle.rbc_journal.specs.Headers.{named_in_header, digest_in};
 ghost use Rattle.rbc_journal.specs.Puts.{IsPut, ArePuts, BeginsWithHeader};
+ghost use Rattle.rbc_journal.specs.ReadingLaws.{AreJournal};
 ghost use Rattle.rbc_journal.specs.Reading.{Parts, first_put, begins_open, goes_on, ends_well, is_crash, dropped_of, is_first_format, tail_of, by_header, reading};
 
 use crate::header::{FORMAT, TRACK_DIGITS, format_in, header_in};
@@ -56,7 +57,8 @@ pub fn read<'a>(bytes: &'a [u8], track: &[u8; TRACK_DIGITS]) -> Result<Readable<
         ≡ Ok (record { text = file.text.now; seal = file.seal; dropped = file.dropped.now })) }
     ensures err { IfErr result (λ fault. reading bytes.now track.now ≡ Err fault) }
 
-    // Right seals vouch for all of its lines, which are those that count in the file.
+    // It is the text of a journal of this track, all of its lines vouched for, and they are those that count in the file.
+    ensures journal { IfOk result (λ file. AreJournal track.now (counted file.text.now) file.seal) }
     ensures whole { IfOk result (λ file. IsWholeText file.text.now file.seal) }
     ensures same { IfOk result (λ file. counted file.text.now ≡ counted bytes.now) }
     ensures told { IfOk result (λ file. recovered file.text.now ≡ told_of (counted file.text.now)) }
@@ -75,6 +77,7 @@ fn read_puts<'a>(bytes: &'a [u8], track: &[u8; TRACK_DIGITS]) -> Result<Readable
         ≡ Ok (record { text = file.text.now; seal = file.seal; dropped = file.dropped.now })) }
     ensures err { IfErr result (λ fault. by_header track.now (counted bytes.now) (tail_of bytes.now) (digest_in (counted bytes.now))
         ≡ Err fault) }
+    ensures journal { IfOk result (λ file. AreJournal track.now (counted file.text.now) file.seal) }
     ensures whole { IfOk result (λ file. IsWholeText file.text.now file.seal) }
     ensures same { IfOk result (λ file. counted file.text.now ≡ counted bytes.now) }
     ensures told { IfOk result (λ file. recovered file.text.now ≡ told_of (counted file.text.now)) }

@@ -1,7 +1,7 @@
 use Rattle.std.proofs.Common.{ℕ, List, ◌-◌, length, take, refl, sym, subst}
 use Rattle.rbc_journal.specs.Puts.{ArePuts}
 use Rattle.rbc_journal.proofs.PutLemmas.{differs_by, same_by}
-use Rattle.rbc_journal.proofs.ReadingLemmas.{seal_in, read_damaged, read_other, read_right, shown_whole, shown_same, whole_tells}
+use Rattle.rbc_journal.proofs.ReadingLemmas.{seal_in, read_damaged, read_other, read_right, shown_whole, shown_journal, shown_same, whole_tells}
 use Rattle.rbc_journal.proofs.reading.read_puts.Goals as goal
 
 pub returns-in_default-dropped_of-clause-err : goal.returns-in_default-dropped_of-clause-err
@@ -65,3 +65,14 @@ returns-clause-told c =
     let bytes = c.args.bytes.now in
     let last = c.puts_in-puts.result in
     whole_tells (take (length bytes - length last.rest.now) bytes) last.seal (returns-clause-whole c)
+
+pub returns-clause-journal : goal.returns-clause-journal
+returns-clause-journal c =
+    let header = c.in-Some.header in
+    let last = c.puts_in-puts.result in
+    let puts = c.puts_in-puts.ensures.puts in
+    let are : ArePuts (seal_in header.digest) header.rest.now puts.0 last.seal last.rest.now =
+    subst (λ (s : List ℕ). ArePuts s header.rest.now puts.0 last.seal last.rest.now) c.in-Some.ensures.seal puts.1 in
+    let bytes = c.args.bytes.now in
+    shown_journal bytes header.digest header.rest.now puts.0 last.seal last.rest.now c.in-Some.ensures.some are c.puts_in-puts.ensures.all
+    (take (length bytes - length last.rest.now) bytes) refl c.args.track.now (same_by header.digest c.args.track.now c.if-ne.false c.ne.ensures)
