@@ -1,5 +1,6 @@
-"""What tests of the built program share: the program served on a port, talks with it line by line, and the faults of
-tests/faults.c."""
+"""What tests of the built program share: the program served on a port, talks with it line by line, and the libraries that it is
+loaded with, tests/faults.c and tests/recorder.c."""
+import functools
 import os
 import select
 import shutil
@@ -126,18 +127,28 @@ def compiler():
     return ["clang", "-fuse-ld=lld"], f"{os.path.dirname(page)}/toolchain/bin/clang"
 
 
-def build_faults(room):
-    """The environments that hinder a program, as a function of the faults that tests/faults.c tells."""
+def build(room, name):
+    """Builds a library of a file of tests/ that a program is loaded with. Gives the environment of such a program, as a function of
+    what the library is told."""
     words, executable = compiler()
-    library = f"{room}/faults.so"
-    words += ["-shared", "-fPIC", "-O1", "-nostdlib", "-o", library, f"{ROOT}/tests/faults.c"]
+    library = f"{room}/{name}.so"
+    words += ["-shared", "-fPIC", "-O1", "-nostdlib", "-o", library, f"{ROOT}/tests/{name}.c"]
     subprocess.run(words, executable=executable, check=True)
 
-    def hindered(**faults):
-        words = {f"FAULTS_{name.upper()}": str(value) for name, value in faults.items()}
-        return {**os.environ, "LD_PRELOAD": library, **words}
+    def environment(prefix, **told):
+        return {**os.environ, "LD_PRELOAD": library, **{f"{prefix}_{word.upper()}": str(value) for word, value in told.items()}}
 
-    return hindered
+    return environment
+
+
+def build_faults(room):
+    """The environments that hinder a program, as a function of the faults that tests/faults.c tells."""
+    return functools.partial(build(room, "faults"), "FAULTS")
+
+
+def build_recorder(room):
+    """The environments in which a program's calls are written down, as a function of what tests/recorder.c tells."""
+    return functools.partial(build(room, "recorder"), "RECORDER")
 
 
 def all_of(task, cases):
