@@ -1,8 +1,6 @@
 //! Centres whose history is kept in a journal.
 
 ghost use Rattle.std.specs.Prelude.{◌≡◌, [], IfOk};
-ghost use Rattle.rbc_journal_file.specs.Device.{Only};
-ghost use Rattle.rbc_journal_file.specs.Journal.{recovered};
 ghost use Rattle.rbc_journal_file.specs.Past.{may_leave, seen};
 ghost use Rattle.rbc_journal_file.specs.Recorded.{past_of};
 ghost use Rattle.rbc_journal_file.specs.Seals.{IsWholeText};
@@ -19,7 +17,7 @@ use rbc_journal_file::{Found, ReadFault, Readable, Recorded, SystemFile, new_fil
 use rbc_model::Memory;
 use rbc_show::Stream;
 use rbc_show::kept::server::Record;
-use rbc_show::kept::{self, Device, Kept};
+use rbc_show::kept::{self, Kept, replay};
 use std::fmt;
 use std::fmt::Display;
 use std::fs::{File, Files};
@@ -129,9 +127,7 @@ pub(crate) fn serve_with(
         + Clock
         + Eprint
         + Net<Listener = TcpListener, Stream = TcpStream>
-        + Sync
-        + Send
-        + Copy),
+        + Sync),
     journal: &str,
     track: TrackFile,
     service: &Service,
@@ -152,25 +148,24 @@ pub(crate) fn serve_with(
 /// # Errors
 ///
 /// `Journal`, where the file is no journal of this track, is damaged, or fails; `Memory`.
-fn opened<R: Files<File = File> + AllocGlobal + Threads + Eprint + Sync + Copy>(
+fn opened<R: Files<File = File> + AllocGlobal + Threads + Eprint + Sync>(
     rt: &R,
     path: &str,
     track: TrackFile,
-) -> Result<Kept<Recorded<SystemFile<R>>>, Failure>
+) -> Result<Kept<Recorded<SystemFile>>, Failure>
     ensures { IfOk result (λ kept. IsReady (λ file. seen (past_of file)) (λ file. may_leave (past_of file)) kept) }
 {
     let alloc = rt.alloc();
     let TrackFile { track, digest } = track;
     let empty = Record::new(alloc, Arc::new(alloc, track).map_err(Memory::from)?)?;
-    let Found { bytes, mut file } = rbc_journal_file::open(rt, path)?;
-    let Some(bytes) = bytes else {
+    let found = rbc_journal_file::open(rt, path)?;
+    let Some(bytes) = found.bytes() else {
         let bytes = new_file(alloc, &digest)?;
         let read = readable(bytes.as_slice(), &digest)?;
-        return recovered(rt, empty, &read, Recorded::opened(file, b""));
+        return recovered(rt, empty, &read, &found);
     };
-    let read = readable(bytes.as_slice(), &digest)?;
-    file.drop_bytes(read.dropped)?;
-    let kept = recovered(rt, empty, &read, Recorded::opened(file, bytes.as_slice()))?;
+    let read = readable(bytes, &digest)?;
+    let kept = recovered(rt, empty, &read, &found)?;
     if !read.dropped.is_empty() {
         let _ = eprintln!(rt;
             "rbc: journal: {} bytes behind the last line dropped",
@@ -186,8 +181,7 @@ fn opened<R: Files<File = File> + AllocGlobal + Threads + Eprint + Sync + Copy>(
 ///
 /// `Journal`.
 fn readable<'a>(bytes: &'a [u8], digest: &[u8; 64]) -> Result<Readable<'a>, Failure>
-    ensures whole { IfOk result (λ file. IsWholeText file.text.now file.seal) }
-    ensures told { IfOk result (λ file. recovered file.text.now ≡ recovered bytes.now) }
+    ensures { IfOk result (λ file. IsWholeText file.text.now file.seal) }
 {
     match read(bytes, digest) {
         Ok(file) => Ok(file),
@@ -195,24 +189,27 @@ fn readable<'a>(bytes: &'a [u8], digest: &[u8; 64]) -> Result<Readable<'a>, Fail
     }
 }
 
-/// The record that what was read of a journal tells: an empty record gains that.
+/// The record that what was read of a journal tells: an empty record gains that, and then a new file takes the place of the
+/// one that was found.
 ///
 /// # Errors
 ///
 /// `Journal`, where a line adds nothing, or the file fails; `Memory`.
-fn recovered<D: Device + Drop, R: AllocGlobal + Threads + Sync>(
+fn recovered<R: Files<File = File> + AllocGlobal + Threads + Sync>(
     rt: &R,
     empty: Record,
     read: &Readable<'_>,
-    device: D,
-) -> Result<Kept<D>, Failure>
+    found: &Found,
+) -> Result<Kept<Recorded<SystemFile>>, Failure>
     requires empty { empty.entries ≡ [] }
     requires whole { IsWholeText read.now.text.now read.now.seal }
-    requires same { recovered (D.seen device) ≡ recovered read.now.text.now }
-    requires durable { Only (D.seen device) (D.may_leave device) }
-    ensures { IfOk result (λ kept. IsReady D.seen D.may_leave kept) }
+    ensures { IfOk result (λ kept. IsReady (λ file. seen (past_of file)) (λ file. may_leave (past_of file)) kept) }
 {
-    match Kept::open(rt, rt.alloc(), empty, read, device) {
+    let mut history = empty;
+    replay(rt, rt.alloc(), &mut history, read.text)?;
+    let file = found.replaced(rt, read.text, read.dropped)?;
+    let device = Recorded::opened(file, read.text);
+    match Kept::over(rt.alloc(), history, read, device) {
         Ok(kept) => Ok(kept),
         Err((fault, _)) => Err(fault.into()),
     }

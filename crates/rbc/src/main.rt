@@ -60,9 +60,7 @@ fn run(
         + Clock
         + Eprint
         + Net<Listener = TcpListener, Stream = TcpStream>
-        + Sync
-        + Send
-        + Copy),
+        + Sync),
 ) -> Result<(), Failure> {
     let alloc = rt.alloc();
     let words: Vec<String> = env::args(rt)?.collect(alloc)?;
@@ -195,9 +193,7 @@ fn serve_centre(
         + Clock
         + Eprint
         + Net<Listener = TcpListener, Stream = TcpStream>
-        + Sync
-        + Send
-        + Copy),
+        + Sync),
     service: &Service,
 ) -> Result<(), Failure> {
     let alloc = rt.alloc();

@@ -1,10 +1,10 @@
-//! Opening the file of a journal.
+//! Opening the file of a journal, and the new file that takes its place.
 
 use crate::SystemFile;
 use crate::place::Place;
 use std::alloc::{AllocError, AllocGlobal};
 use std::fs::{File, Files, OpenOptions, TryLockError};
-use std::io::{ErrorKind, Read};
+use std::io::{ErrorKind, Read, Write};
 use std::os::unix::fs::MetadataExt;
 use std::{fs, io};
 
@@ -13,7 +13,7 @@ use std::{fs, io};
 pub enum OpenFault {
     /// Another centre has it.
     InUse,
-    /// The file failed: it can't be opened, locked or read.
+    /// The file, the new one or their folder failed.
     File(io::Error),
     /// The allocator refused memory.
     Memory,
@@ -43,36 +43,33 @@ impl From<AllocError> for OpenFault {
     }
 }
 
-/// What was found where a journal stands: the file, and its bytes, if there is one.
+/// What was found where a journal stands. Until it is dropped no other centre can open the file.
 #[derive(Drop)]
-pub struct Found<R: Files<File = File> + Copy> {
-    /// The bytes of the file. None where there is no file.
-    pub bytes: Option<Vec<u8>>,
-    /// The file. Until it is dropped no other centre can open it.
-    pub file: SystemFile<R>,
+pub struct Found {
+    bytes: Option<Vec<u8>>,
+    place: Place,
+    file: Option<File>,
 }
 
-/// The file of a journal, if there is one. Nothing is written, and none is made if it is missing.
+/// Looks for the file of a journal. Nothing is written, and none is made if it is missing.
 ///
 /// # Errors
 /// `InUse`, before the file is read; `File`; `Memory`.
-pub fn open<R: Files<File = File> + AllocGlobal + Copy>(
-    rt: &R,
-    path: &str,
-) -> Result<Found<R>, OpenFault> {
-    let alloc = rt.alloc();
-    let place = Place::of(alloc, path)?;
+pub fn open<R: Files<File = File> + AllocGlobal>(rt: &R, path: &str) -> Result<Found, OpenFault> {
+    let place = Place::of(rt.alloc(), path)?;
     let Some(mut file) = locked(rt, path)? else {
         return Ok(Found {
             bytes: None,
-            file: SystemFile::new(rt, alloc, place, None),
+            place,
+            file: None,
         });
     };
-    let mut bytes = Vec::new(alloc);
+    let mut bytes = Vec::new(rt.alloc());
     file.read_to_end(&mut bytes)?;
     Ok(Found {
         bytes: Some(bytes),
-        file: SystemFile::new(rt, alloc, place, Some(file)),
+        place,
+        file: Some(file),
     })
 }
 
@@ -93,4 +90,64 @@ fn locked<R: Files<File = File>>(rt: &R, path: &str) -> Result<Option<File>, Ope
         return Err(OpenFault::InUse);
     }
     Ok(Some(file))
+}
+
+impl Found {
+    /// The bytes of the file. None where there is no file.
+    pub fn bytes(&self) -> Option<&[u8]> {
+        match &self.bytes {
+            Some(bytes) => Some(bytes.as_slice()),
+            None => None,
+        }
+    }
+
+    /// Puts a new file with a journal's text and a closed gate in place of the one that was found, and on the disk. What is
+    /// dropped of that is kept beside it first.
+    ///
+    /// # Errors
+    /// `InUse`, where another centre has put a file there by now; `File`.
+    pub fn replaced<R: Files<File = File>>(
+        &self,
+        rt: &R,
+        text: &[u8],
+        dropped: &[u8],
+    ) -> Result<SystemFile, OpenFault> {
+        let mut file = self.begin_new(rt)?;
+        self.keep(rt, dropped)?;
+        file.write_all(text)?;
+        file.write_all(b"#")?;
+        file.sync_all()?;
+        fs::rename(rt, self.place.new_path(), self.place.path())?;
+        fs::open(rt, self.place.folder())?.sync_all()?;
+        Ok(SystemFile::new(file))
+    }
+
+    /// The new file: empty, and locked.
+    fn begin_new<R: Files<File = File>>(&self, rt: &R) -> Result<File, OpenFault> {
+        let file = OpenOptions::new()
+            .read(true)
+            .write(true)
+            .create(true)
+            .open(rt, self.place.new_path())?;
+        file.try_lock()?;
+        if self.file.is_none() && fs::exists(rt, self.place.path())? {
+            return Err(OpenFault::InUse);
+        }
+        file.set_len(0)?;
+        Ok(file)
+    }
+
+    /// Keeps what is dropped: it is put behind what is in the file for it, and on the disk.
+    fn keep<R: Files<File = File>>(&self, rt: &R, dropped: &[u8]) -> Result<(), OpenFault> {
+        if dropped.is_empty() {
+            return Ok(());
+        }
+        let mut file = OpenOptions::new()
+            .append(true)
+            .create(true)
+            .open(rt, self.place.cut_path())?;
+        file.write_all(dropped)?;
+        file.sync_all()?;
+        Ok(())
+    }
 }

@@ -2,10 +2,13 @@
 
 ghost use Rattle.std.specs.Prelude.{◌≡◌, ◌<◌, [], false, not, is_some, IfSome, IfOk, IfErr};
 ghost use Rattle.rbc_journal.specs.Device.{Only, LeavesOnly};
-ghost use Rattle.rbc_journal.specs.Journal.{recovered};
+ghost use Rattle.rbc_journal.specs.Gates.{counted};
+ghost use Rattle.rbc_journal.specs.Journal.{recovered, told_of};
 ghost use Rattle.rbc_journal.specs.Seals.{IsWholeText};
 ghost use Rattle.rbc_session_laws.specs.Retelling.{IsRetold};
+ghost use Rattle.rbc_kept.specs.Adds.{Adds};
 ghost use Rattle.rbc_kept.specs.Kept.{IsKept, IsReady};
+ghost use Rattle.rbc_kept.specs.Tells.{Tells};
 
 use crate::KeptFault;
 use crate::replaying::replay;
@@ -68,6 +71,37 @@ impl<D: Device> Kept<D> {
         if let Err(fault) = replay(rt, alloc, &mut history, file.text) {
             return Err((fault, device));
         }
+        Kept::over(alloc, history, file, device)
+    }
+
+    /// The same over a record that has gained the entries already ([`replay`]).
+    ///
+    /// # Errors
+    ///
+    /// `Full`, before the file is asked for anything; `Device`. The file comes back, with all that counts in it.
+    pub fn over(
+        alloc: Global,
+        history: Record,
+        file: &Readable<'_>,
+        device: D,
+    ) -> Result<Kept<D>, (KeptFault, D)>
+        requires told { Tells (Adds history.track) [] (told_of (counted file.now.text.now)) history.entries }
+        requires whole { IsWholeText file.now.text.now file.now.seal }
+        requires same { recovered (D.seen device) ≡ recovered file.now.text.now }
+        requires durable { Only (D.seen device) (D.may_leave device) }
+        ensures ready { IfOk result (λ kept. IsReady D.seen D.may_leave kept) }
+        ensures track { IfOk result (λ kept. kept.history.track ≡ history.track) }
+        ensures same { IfOk result (λ kept. recovered (D.seen kept.journal.device) ≡ recovered file.now.text.now) }
+
+        // A crash at any moment leaves the same lines.
+        ensures any_moment { IfOk result (λ kept. LeavesOnly D.moment D.left_since device kept.journal.device
+            (λ c. recovered c ≡ recovered file.now.text.now)) }
+        ensures any_moment_err { IfErr result (λ e. LeavesOnly D.moment D.left_since device e.1
+            (λ c. recovered c ≡ recovered file.now.text.now)) }
+
+        // The file is told to have failed only where it did.
+        ensures failed { IfErr result (λ e. e.0 ≡ KeptFault.Device → D.faults device < D.faults e.1) }
+    {
         match Journal::open(alloc, file.text, &file.seal, device) {
             Ok(journal) => Ok(Kept {
                 history,

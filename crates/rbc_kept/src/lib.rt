@@ -30,6 +30,7 @@ pub use rbc_journal::Device;
 pub use rbc_scribe as scribe;
 pub use rbc_server as server;
 pub use rbc_server::words::Request;
+pub use replaying::replay;
 pub use request_line::RequestLine;
 pub use sessions::run;
 pub use told::{SeatTold, line_of};

@@ -18,7 +18,7 @@ use std::thread::Threads;
 /// # Errors
 ///
 /// `Memory`, or `Foreign` with the number of the first line that adds nothing.
-pub(crate) fn replay(
+pub fn replay(
     rt: &(impl Threads + Sync),
     alloc: Global,
     history: &mut Record,
