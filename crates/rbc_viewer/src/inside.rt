@@ -53,9 +53,9 @@ impl<W: Sink> Escaping<W> {
 }
 
 impl<W: Sink> Sink for Escaping<W> {
-    ghost use Rattle.rbc_viewer.specs.Given.{listed};
+    ghost use Rattle.rbc_viewer.specs.Given.{inside, listed};
 
-    ghost written = { λ page. Some (listed page.given.value) };
+    ghost written = { λ page. inside (W.written page.start.value) (listed page.given.value) };
 
     ghost held_back = { λ page. W.held_back page.writer };
 
