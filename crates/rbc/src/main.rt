@@ -21,7 +21,7 @@ pub use rbc_fields::{Form, Json, Plain, decode};
 use rbc_model::Memory;
 use rbc_show::Stream;
 use rbc_show::kept::server::{self, Record};
-pub use rbc_show::{list, show, show_each};
+pub use rbc_show::{list, show, show_each, show_each_page, show_page};
 use rbc_trackfile::Track;
 pub use rbc_trackfile::{LoadFault, load};
 pub use rbc_viewer::draw;
@@ -153,7 +153,7 @@ fn run_centre(
     kept
 }
 
-/// Shows what the lines of the standard input lead to, on the track of a file, as lines.
+/// Shows what the lines of the standard input lead to, on the track of a file, as lines or as a page that draws them.
 fn show_session(
     rt: &(impl Files + Input + Print + AllocGlobal + Threads + Sync),
     shown: &Shown,
@@ -163,6 +163,14 @@ fn show_session(
     let record = Record::new(alloc, track)?;
     let mut output = standard_output(rt)?;
     let reader = &mut Stream::reader(rt.reader());
+    if shown.page {
+        let (output, answered) = if shown.each {
+            show_each_page(rt, alloc, record, reader, output)
+        } else {
+            show_page(rt, alloc, record, reader, output)
+        };
+        return ended(output, answered.map_err(Failure::from));
+    }
     let answered = if shown.each {
         show_each(rt, alloc, record, reader, &mut output)
     } else {

@@ -1,4 +1,4 @@
 pub mod EscapeLemmas
 mod JudgedLemmas
 mod DrawingLemmas
-mod GivenLemmas
+pub mod GivenLemmas
