@@ -22,7 +22,7 @@ pub use rbc_fields::{Form, Json, Plain, decode};
 use rbc_model::Memory;
 use rbc_show::Stream;
 use rbc_show::kept::server::{self, Record};
-pub use rbc_show::{list, show, show_each};
+pub use rbc_show::{list, show, show_each, show_each_page, show_page};
 pub use rbc_trackfile::{LoadFault, read as track_in};
 pub use rbc_viewer::draw;
 use serve::{open_port, serve};
@@ -154,7 +154,7 @@ fn run_centre(
     kept
 }
 
-/// Shows what the lines of the standard input lead to, on the track of a file, as lines.
+/// Shows what the lines of the standard input lead to, on the track of a file, as lines or as a page that draws them.
 fn show_session(
     rt: &(impl Files + Input + Print + AllocGlobal + Threads + Sync),
     shown: &Shown,
@@ -164,6 +164,14 @@ fn show_session(
     let record = Record::new(alloc, track)?;
     let mut output = standard_output(rt)?;
     let reader = &mut Stream::reader(rt.reader());
+    if shown.page {
+        let (output, answered) = if shown.each {
+            show_each_page(rt, alloc, record, reader, output)
+        } else {
+            show_page(rt, alloc, record, reader, output)
+        };
+        return ended(output, answered.map_err(Failure::from));
+    }
     let answered = if shown.each {
         show_each(rt, alloc, record, reader, &mut output)
     } else {

@@ -56,6 +56,8 @@ pub struct Shown<'a> {
     pub track: &'a str,
     /// Whether each line is told with its reply and the scene that it leads to; else the last scene alone.
     pub each: bool,
+    /// Whether the lines stand in a page that draws them.
+    pub page: bool,
 }
 
 /// How a track is read.
@@ -136,7 +138,7 @@ Exit status:
 /// What stands behind the help of `show`.
 const SHOW: &str = "\
 Example:
-  rbc show station.toml --each < morning.txt > morning.lines
+  rbc show station.toml --each --page < morning.txt > morning.html
 
 Exit status:
   0  Each line was answered
@@ -230,6 +232,7 @@ fn task_in<'a>(matches: &ArgMatches<'a>) -> Task<'a> {
         return Task::Show(Shown {
             track: show.get_str("TRACK").unwrap_or(""),
             each: show.get_flag("each"),
+            page: show.get_flag("page"),
         });
     }
     if let Some(track) = matches.subcommand_matches("track") {
@@ -310,13 +313,18 @@ fn show<'a>(alloc: Global) -> Result<Command<'a>, AllocError> {
         .long("each")
         .help("Writes each line with its number, its reply and the scene that it leads to")
         .action(ArgAction::SetTrue);
+    let page = Arg::new(alloc, "page")
+        .long("page")
+        .help("Writes one page of HTML that draws these lines, with the lines inside")
+        .action(ArgAction::SetTrue);
     Command::new(alloc, "show")
         .about(
             "Writes as lines the track of a file, and the scene that the requests on standard input lead to",
         )
         .after_help(SHOW)
         .arg(track_file(alloc))?
-        .arg(each)
+        .arg(each)?
+        .arg(page)
 }
 
 /// The command that reads a track.

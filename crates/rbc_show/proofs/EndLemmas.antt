@@ -1,9 +1,8 @@
 -- How what treats lines ends, where memory may have been refused for it.
-use Rattle.std.proofs.Common.{◌≡◌, ℕ, Bool, true, false, ◌||◌, List, [], ◌++◌, Option, Some, Result, Ok, Err, refl, sym, ◌∙◌, subst}
+use Rattle.std.proofs.Common.{◌≡◌, ℕ, Bool, true, false, ◌||◌, List, [], Option, Some, Result, Ok, Err, refl, subst}
 use Rattle.std.specs.Prelude.{◌↔◌, IsTrue, OnOk, IfSome}
-use Rattle.std.specs.Io.KnownBytes.{Appends, Consumes, IsAtEnd}
+use Rattle.std.specs.Io.KnownBytes.{Consumes, IsAtEnd}
 use Rattle.std.proofs.KnownBytes.{Appends-nil, Consumes-whole}
-use Rattle.std.proofs.lemmas.List.{append_cancel_left}
 use Rattle.std.proofs.lemmas.Bool.{or_left}
 use Rattle.rbc_model.specs.declared.sessions.SessionFault.{SessionFault}
 use Rattle.rbc_model.specs.declared.sessions.SessionFault.TheVariants.{Read, Write, Memory}
@@ -38,11 +37,6 @@ still_going false true (Ok done) write whole = absurd (ok_is_no_err refl (write.
 pub none_written : {E : Type 0} (a : Option (List ℕ)) (lost failed : Bool) → lost ≡ false → failed ≡ false → Prints {E = E} a a (lost || failed) [] (Ok tt)
 none_written a true failed whole going = absurd cc
 none_written a false failed whole going = record { text = Appends-nil a; failed = going }
-
--- what is known to have been written behind what was there is the text that was
-pub known_text : (old new : Option (List ℕ)) (all held text : List ℕ) → Appends old new all → old ≡ Some held → new ≡ Some (held ++ text) → text ≡ all
-known_text old new all held text wrote was is =
-    append_cancel_left held text all (subst (λ n. Appends (Some held) n all) is (subst (λ o. Appends o new all) was wrote))
 
 -- what holds of all that was read holds of the input, where the reader came to its end
 pub of_input : (Holds : List ℕ → Type 0) (before after : Option (List ℕ)) (read input : List ℕ) → Consumes before after read → IsAtEnd after → Holds read → before ≡ Some input → Holds input

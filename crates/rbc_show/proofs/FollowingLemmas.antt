@@ -1,5 +1,5 @@
 -- A record that follows lines, and the scene that they lead to.
-use Rattle.std.proofs.Common.{◌≡◌, ℕ, ◌≤◌, ◌<◌, Bool, true, false, ◌⊎◌, inl, inr, List, [], ◌∷◌, ◌++◌, length, Option, Some, None, Ok, refl, sym, ap, ap₂, ◌∙◌, subst, append_assoc, append-nil, arith}
+use Rattle.std.proofs.Common.{◌≡◌, ℕ, ◌≤◌, ◌<◌, Bool, true, false, inl, inr, List, [], ◌∷◌, ◌++◌, length, Option, Ok, refl, sym, ap, ap₂, ◌∙◌, subst, append_assoc, append-nil, arith}
 use Rattle.std.specs.Io.KnownBytes.{Appends, Consumes, IsAtEnd}
 use Rattle.std.specs.List.{AllByRecursion}
 use Rattle.std.proofs.KnownBytes.{Appends-trans}
@@ -17,7 +17,7 @@ use Rattle.rbc_kept.specs.Adds.{Follows}
 use Rattle.rbc_kept.specs.Records.{HistoryOnTrack}
 use Rattle.rbc_show.specs.declared.last.Following.{Following}
 use Rattle.rbc_show.specs.Showing.{scene_text, shown_text, Shows, IsFollowed, FollowsLine}
-use Rattle.rbc_show.proofs.EndLemmas.{known_text, of_input}
+use Rattle.rbc_show.proofs.EndLemmas.{of_input}
 
 -- the record has the entry that the line adds, if it adds one
 followed_to : (before after : HistoryOnTrack) (line : List ℕ) (is_added : Bool) → Follows is_added before line after
@@ -97,8 +97,8 @@ module _ (left_before left_after old headed between new : Option (List ℕ)) (fi
     (read : List ℕ) (end : IsAtEnd left_after) (taken : Consumes left_before left_after read) (opens : Appends old headed (track_lines first.history.track))
     (talk : IsTalk LONGEST_LINE FollowsLine first last read headed between (Ok tt))
     (closes : Appends between new (scene_text last.history.track last.history.entries)) where
-  of_read : (held text : List ℕ) → old ≡ Some held → new ≡ Some (held ++ text) → text ≡ shown_text first.history.track first.history.entries read
-  of_read held text was is =
+  of_read : Appends old new (shown_text first.history.track first.history.entries read)
+  of_read =
       let track = first.history.track in
       let before = first.history.entries in
       let closing : List ℕ = scene_text last.history.track last.history.entries in
@@ -108,9 +108,8 @@ module _ (left_before left_after old headed between new : Option (List ℕ)) (fi
       let followed = lines_followed first last talk.treated talk.text (recursion_from_All (λ line. length line ≤ LONGEST_LINE) talk.treated talk.ends.1) talk.answered whole in
       let after : last.history.entries ≡ entries_after track before read = followed.entries ∙ ap (λ ls. before ++ entries_added (turns_of track before ls)) lines in
       let ending : closing ≡ scene_text track (entries_after track before read) = λ j. scene_text (followed.track j) (after j) in
-      known_text old new all held text wrote was is
-      ∙ ap₂ (λ (a b : List ℕ). a ++ b) (ap (λ t. track_lines track ++ t) followed.silent ∙ append-nil (track_lines track)) ending
+      subst (Appends old new) (ap₂ (λ (a b : List ℕ). a ++ b) (ap (λ t. track_lines track ++ t) followed.silent ∙ append-nil (track_lines track)) ending) wrote
 
   pub is_shown : Shows (shown_text first.history.track first.history.entries) left_before old new
-  is_shown = λ input held text left was is.
-      of_input (λ i. text ≡ shown_text first.history.track first.history.entries i) left_before left_after read input taken end (of_read held text was is) left
+  is_shown = λ input left.
+      of_input (λ i. Appends old new (shown_text first.history.track first.history.entries i)) left_before left_after read input taken end of_read left

@@ -2,3 +2,4 @@ mod EndLemmas
 mod WritingLemmas
 mod FollowingLemmas
 mod TellingLemmas
+mod PageLemmas

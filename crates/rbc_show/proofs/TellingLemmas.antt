@@ -1,13 +1,13 @@
 -- Lines that are told, each with its reply and with the scene that it leads to.
-use Rattle.std.proofs.Common.{◌≡◌, ◌≢◌, ℕ, suc, ◌+◌, ◌≤◌, ◌<◌, Bool, true, false, cond, ◌⊎◌, inl, inr, List, [], ◌∷◌, ◌++◌, length, Option, Some, None, Result, Ok, Err, refl, sym, ap, ap₂, ◌∙◌, subst, append_assoc, append-nil, arith}
-use Rattle.std.specs.Prelude.{min, map, codes, decimal}
+use Rattle.std.proofs.Common.{◌≡◌, ◌≢◌, ℕ, suc, ◌+◌, ◌≤◌, ◌<◌, Bool, true, false, cond, inl, inr, List, [], ◌∷◌, ◌++◌, length, Option, Some, None, Result, Ok, Err, refl, sym, ap, ap₂, ◌∙◌, subst, append_assoc, append-nil, arith}
+use Rattle.std.specs.Prelude.{map, codes, decimal}
 use Rattle.std.specs.Io.KnownBytes.{Appends, Consumes, IsAtEnd, Keeps}
 use Rattle.std.specs.List.{AllByRecursion, flat_map}
 use Rattle.std.proofs.KnownBytes.{Appends-kept, Appends-trans}
 use Rattle.std.proofs.Math.Nat.{min-eq_left}
 use Rattle.std.proofs.lemmas.List.Elements.{recursion_from_All}
 use Rattle.std.proofs.lemmas.Bool.{both_ways}
-use Rattle.rbc_model.specs.declared.limits.TheConstants.{LONGEST_LINE, MOST_LINES}
+use Rattle.rbc_model.specs.declared.limits.TheConstants.{LONGEST_LINE}
 use Rattle.rbc_model.specs.Histories.{Entry, replay}
 use Rattle.rbc_model.specs.SessionReply.{SessionRefusal, Memory, refused_reply}
 use Rattle.rbc_model.specs.Sessions.{lines_of}
@@ -30,7 +30,7 @@ use Rattle.rbc_session_laws.proofs.LineLemmas.{lines_are_answered}
 use Rattle.rbc_session_laws.proofs.TextLemmas.{EndsLine, IsWhole, IsNotMemory, all_of_both, ends_behind, line_ends, lines_of-whole, not_memory, reply_whole}
 use Rattle.rbc_show.specs.declared.each.Telling.{Telling}
 use Rattle.rbc_show.specs.Showing.{scene_text, change_text, request_text, has_reply, told_text, lines_text, each_text, ShowsEach, IsTold, TellsLine, next_number}
-use Rattle.rbc_show.proofs.EndLemmas.{known_text, of_input}
+use Rattle.rbc_show.proofs.EndLemmas.{of_input}
 
 -- a line that is too long is not told
 pub too_long : (before after : Telling) (line text : List ℕ) → before.lost ≡ false → after.lost ≡ false → LONGEST_LINE < length line → TellsLine before line text after
@@ -176,19 +176,24 @@ module _ (left_before left_after old headed between new : Option (List ℕ)) (fi
   head_ends = ends_behind (track_lines first.history.track) (scene_text first.history.track first.history.entries)
       (scene_ends first.history.track (length first.history.entries) (replay first.history.track first.history.entries))
 
-  of_read : (held text : List ℕ) → old ≡ Some held → new ≡ Some (held ++ text) → SaysNoMemory text → text ≡ each_text first.history.track first.history.entries read
-  of_read held text was is says =
+  abbrev all : List ℕ
+  all = head ++ talk.text
+
+  wrote : Appends old new all
+  wrote = Appends-kept old between new all (Appends-trans old headed between head talk.text opens talk.ends.0) handed
+
+  of_read : SaysNoMemory all → all ≡ each_text first.history.track first.history.entries read
+  of_read says =
       let track = first.history.track in
       let before = first.history.entries in
-      let wrote : Appends old new (head ++ talk.text) = Appends-kept old between new (head ++ talk.text) (Appends-trans old headed between head talk.text opens talk.ends.0) handed in
-      let all = known_text old new (head ++ talk.text) held text wrote was is in
-      let none = split head talk.text (inr head_ends) (subst (λ t. AllByRecursion IsNotMemory (lines_of t)) all (recursion_from_All IsNotMemory (lines_of text) says)) in
+      let none = split head talk.text (inr head_ends) (recursion_from_All IsNotMemory (lines_of all) says) in
       let lines : talk.treated ≡ lines_of read = sym (talk.lines ∙ ap (λ r. talk.treated ++ r) talk.ends.2 ∙ append-nil talk.treated) in
       let few : first.number + length talk.treated ≤ 0xffff_ffff = subst (λ n. n + length talk.treated ≤ 0xffff_ffff) (sym one) (omega (arith, talk.few)) in
       let told = lines_told first last talk.treated talk.text (recursion_from_All (λ line. length line ≤ LONGEST_LINE) talk.treated talk.ends.1) talk.answered whole form few none.1 in
-      all ∙ ap (λ t. head ++ t) (told ∙ ap₂ (λ n ls. lines_text n track before ls) one lines)
+      ap (λ t. head ++ t) (told ∙ ap₂ (λ n ls. lines_text n track before ls) one lines)
       ∙ append_assoc (track_lines track) (scene_text track before) (lines_text 1 track before (lines_of read))
 
   pub is_shown : ShowsEach (each_text first.history.track first.history.entries) left_before old new
-  is_shown = λ input held text left was is says.
-      of_input (λ i. text ≡ each_text first.history.track first.history.entries i) left_before left_after read input taken end (of_read held text was is says) left
+  is_shown = λ input left.
+      of_input (λ i. (text : List ℕ) × Appends old new text × (SaysNoMemory text → text ≡ each_text first.history.track first.history.entries i))
+      left_before left_after read input taken end (all, wrote, of_read) left

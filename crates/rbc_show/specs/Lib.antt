@@ -1,4 +1,5 @@
 pub mod Showing
+pub mod ShownPages
 pub use Rattle.rbc_kept.specs.Kept
 pub use Rattle.rbc_kept.specs.Retelling
 pub use Rattle.rbc_kept.specs.ServeFault

@@ -1,5 +1,6 @@
 -- The program `rbc show`: what it writes, as one function of the track and of the text read.
-use Rattle.std.specs.Prelude.{◌≡◌, ◌≢◌, ◌≤◌, ◌⊎◌, ℕ, ◌+◌, Bool, true, false, if◌then◌else◌, min, List, [], ◌∷◌, ◌++◌, length, Option, Some, None, Result, Ok, Err, codes, decimal}
+use Rattle.std.specs.Prelude.{◌≡◌, ◌≤◌, ◌⊎◌, ℕ, ◌+◌, Bool, true, false, if◌then◌else◌, min, List, [], ◌∷◌, ◌++◌, length, Option, Some, None, Result, Ok, codes, decimal}
+use Rattle.std.specs.Io.KnownBytes.{Appends}
 use Rattle.rbc_model.specs.declared.limits.TheConstants.{LONGEST_LINE}
 use Rattle.rbc_model.specs.Histories.{Entry, replay}
 use Rattle.rbc_model.specs.SceneLines.{scene_lines}
@@ -16,7 +17,6 @@ use Rattle.rbc_session_laws.specs.Laws.{SaysNoMemory}
 use Rattle.rbc_session_laws.specs.SessionRuns.{entries_of}
 use Rattle.rbc_session_laws.specs.Turns.{AnswersLine}
 use Rattle.rbc_kept.specs.Adds.{Follows}
-use Rattle.rbc_kept.specs.Records.{HistoryOnTrack}
 use Rattle.rbc_show.specs.declared.each.Telling.{Telling}
 use Rattle.rbc_show.specs.declared.last.Following.{Following}
 
@@ -64,15 +64,14 @@ each_text track before input = track_lines track ++ (scene_text track before ++ 
 
 -- ---- all of an input
 
--- Where what was left to read and what was written are known, this text of what was read was written, and nothing else.
+-- Where what was left to read is known, this text of it was written, and nothing else.
 abbrev pub Shows : (List ℕ → List ℕ) → Option (List ℕ) → Option (List ℕ) → Option (List ℕ) → Type 0
-Shows text_of left old new =
-    (input held text : List ℕ) → left ≡ Some input → old ≡ Some held → new ≡ Some (held ++ text) → text ≡ text_of input
+Shows text_of left old new = (input : List ℕ) → left ≡ Some input → Appends old new (text_of input)
 
--- The same unless a line that was written says that memory was refused.
+-- One text was written, and it is this one unless a line of it says that memory was refused.
 abbrev pub ShowsEach : (List ℕ → List ℕ) → Option (List ℕ) → Option (List ℕ) → Option (List ℕ) → Type 0
 ShowsEach text_of left old new =
-    (input held text : List ℕ) → left ≡ Some input → old ≡ Some held → new ≡ Some (held ++ text) → SaysNoMemory text → text ≡ text_of input
+    (input : List ℕ) → left ≡ Some input → (text : List ℕ) × Appends old new text × (SaysNoMemory text → text ≡ text_of input)
 
 -- ---- from line to line
 

@@ -254,6 +254,7 @@ pub fn show_each<R: Source, W: Sink>(
     ensures end { OnOk result (IsAtEnd (R.left reader.new)) }
     ensures ended { OnOk result (R.ended reader.new ≡ true) }
     ensures handed_on { OnOk result (W.held_back writer.new ≡ []) }
+    ensures going { OnOk result (W.failed writer.new ≡ false) }
 
     // What was written is the track, the scene before, and what was read, line by line, where memory was never refused.
     ensures shown { OnOk result (ShowsEach (each_text history.track history.entries) (R.left reader.old)

@@ -122,6 +122,7 @@ fn finish<W: Sink>(alloc: Global, history: &Record, writer: &mut W) -> Result<()
     ensures text { OnOk result (Appends (W.written writer.old) (W.written writer.new)
         (scene_text history.now.track history.now.entries)) }
     ensures handed_on { OnOk result (W.held_back writer.new ≡ []) }
+    ensures going { OnOk result (W.failed writer.new ≡ false) }
     ensures write { result ≡ Err Write → IsTrue (W.failed writer.new) }
     ensures read { result ≡ Err Read → ⊥ }
 {
@@ -156,6 +157,7 @@ pub fn show<R: Source, W: Sink>(
     ensures end { OnOk result (IsAtEnd (R.left reader.new)) }
     ensures ended { OnOk result (R.ended reader.new ≡ true) }
     ensures handed_on { OnOk result (W.held_back writer.new ≡ []) }
+    ensures going { OnOk result (W.failed writer.new ≡ false) }
 
     // What was written is the track, and the scene that what was read leads to.
     ensures shown { OnOk result (Shows (shown_text history.track history.entries) (R.left reader.old)

@@ -4,11 +4,13 @@
 mod each;
 mod last;
 mod listing;
+mod page;
 mod scene;
 
 pub use each::show_each;
 pub use last::show;
 pub use listing::list;
+pub use page::{show_each_page, show_page};
 pub use rbc_kept as kept;
 pub use rbc_kept::server::words::{Word, print_line};
 pub use rbc_streams::{

@@ -1,3 +1,4 @@
 pub mod EscapeLemmas
 mod JudgedLemmas
 mod DrawingLemmas
+pub mod GivenLemmas

@@ -1,3 +1,4 @@
 pub mod Escapes
+pub mod Given
 pub mod Pages
 pub mod Judged

@@ -1,4 +1,4 @@
-use Rattle.std.proofs.Common.{◌||◌, true, inl, refl, ap, ◌∙◌, Err}
+use Rattle.std.proofs.Common.{◌||◌, inl, refl, ap, ◌∙◌, Err}
 use Rattle.rbc_show.specs.declared.each.Telling.{Telling}
 use Rattle.rbc_show.specs.Showing.{told_text}
 use Rattle.rbc_show.proofs.TellingLemmas.{line_told}

@@ -1,0 +1,61 @@
+-- What was given to a writer inside a page stands in it, escaped.
+use Rattle.std.proofs.Common.{◌≡◌, ℕ, List, [], ◌∷◌, ◌++◌, length, take, drop, Option, Some, None, refl, sym, ap, subst, ◌∙◌, append_assoc, append-nil}
+use Rattle.std.specs.Io.KnownBytes.{Appends, Keeps}
+use Rattle.std.proofs.Math.Seq.{drop-append_seam, take-append_seam}
+use Rattle.std.proofs.lemmas.Grind.{flat_map-append}
+use Rattle.rbc_viewer.specs.Escapes.{escape, escaped}
+use Rattle.rbc_viewer.specs.Given.{inside}
+
+-- what is known to stand behind what was written was written
+pub appends_by : (old new : Option (List ℕ)) (more : List ℕ) → ((before : List ℕ) → old ≡ Some before → new ≡ Some (before ++ more)) → Appends old new more
+appends_by None new more stands = tt
+appends_by (Some before) new more stands = subst (λ n. Appends (Some before) n more) (sym (stands before refl)) refl
+
+known : (new : Option (List ℕ)) (old more : List ℕ) → Appends (Some old) new more → new ≡ Some (old ++ more)
+known None old more wrote = absurd wrote
+known (Some all) old more wrote = ap Some wrote
+
+-- and more stands there, escaped, behind what was given before
+pub given_more : (old new : Option (List ℕ)) (before given bytes all : List ℕ) → old ≡ Some (before ++ escaped given) → Appends old new (escaped bytes) → all ≡ given ++ bytes
+    → new ≡ Some (before ++ escaped all)
+given_more old new before given bytes all stands wrote is =
+    known new (before ++ escaped given) (escaped bytes) (subst (λ o. Appends o new (escaped bytes)) stands wrote)
+    ∙ ap Some
+    (append_assoc before (escaped given) (escaped bytes)
+    ∙ ap (λ t. before ++ t) (sym (flat_map-append escape given bytes) ∙ ap escaped (sym is)))
+
+-- ---- what counts as written
+
+pub inside_more : (start : Option (List ℕ)) (given bytes all : List ℕ) → all ≡ given ++ bytes → Appends (inside start given) (inside start all) bytes
+inside_more None given bytes all is = tt
+inside_more (Some before) given bytes all is =
+    ap (λ t. length before ∷ (before ++ t)) is ∙ ap (λ t. length before ∷ t) (sym (append_assoc before given bytes))
+
+pub inside_kept : (start : Option (List ℕ)) (given : List ℕ) → Keeps (inside start given) (inside start given)
+inside_kept None given = tt
+inside_kept (Some before) given = refl
+
+abbrev head_of : List ℕ → ℕ
+head_of [] = 0
+head_of (byte ∷ bytes) = byte
+
+abbrev tail_of : List ℕ → List ℕ
+tail_of [] = []
+tail_of (byte ∷ bytes) = bytes
+
+-- two fronts of one length in front of the same
+same_front : (a b c d : List ℕ) → length a ≡ length b → a ++ c ≡ b ++ d → (a ≡ b) × (c ≡ d)
+same_front a b c d long same = (
+  sym (take-append_seam a c) ∙ ap (take (length a)) same ∙ ap (λ n. take n (b ++ d)) long ∙ take-append_seam b d,
+  sym (drop-append_seam a c) ∙ ap (drop (length a)) same ∙ ap (λ n. drop n (b ++ d)) long ∙ drop-append_seam b d,
+)
+
+-- what was given behind known bytes, by what counts as written
+pub inside_is : (before : List ℕ) (start : Option (List ℕ)) (none given text : List ℕ) → none ≡ [] → Appends (inside (Some before) none) (inside start given) text
+    → (start ≡ Some before) × (given ≡ text)
+inside_is before None none given text nothing wrote = absurd wrote
+inside_is before (Some stood) none given text nothing wrote =
+    let rest : stood ++ given ≡ before ++ text =
+    ap tail_of wrote ∙ ap (λ l. (before ++ l) ++ text) nothing ∙ ap (λ l. l ++ text) (append-nil before) in
+    let same = same_front stood before given text (ap head_of wrote) rest in
+    (ap Some same.0, same.1)
