@@ -25,7 +25,7 @@ pub struct Readable<'a> {
 }
 
 /// Why a journal can't go on from a file.
-#[derive(Debug, PartialEq, Eq)]
+#[derive(Clone, Copy, Debug, PartialEq, Eq)]
 pub enum ReadFault {
     /// It is no journal.
     NotAJournal,
