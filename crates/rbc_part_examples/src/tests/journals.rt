@@ -1,20 +1,26 @@
 //! Journals over a file that is torn at each of its calls, or fails there; and over a file of the system.
 
-ghost use Rattle.std.specs.Prelude.{OnOk};
-ghost use Rattle.rbc_journal.specs.Settled.{IsSettled};
+ghost use Rattle.std.specs.Prelude.{◌≡◌, [], OnOk, IfOk};
+ghost use Rattle.rbc_journal.specs.Device.{Only};
+ghost use Rattle.rbc_journal.specs.Journal.{recovered};
+ghost use Rattle.rbc_journal.specs.Settled.{IsSettled, staged};
 
-use rbc_journal::{Device, Journal, is_line, next_line};
+use rbc_journal::{Device, Journal, is_told, new_file, next_told, read, track_digest};
 use rbc_journal_file::{Calls, OpenFault, Recorded, open};
 use std::alloc::{AllocError, Global};
 use std::test::Fail;
 use std::{fs, io};
 
-/// What was asked of a file: an offset and the bytes that were written there; a length; or a sync.
+/// The bytes of the track of all these journals.
+const TRACK: &[u8] = b"a track";
+
+/// What was asked of a file: an offset and the bytes that were written there; a sync; or the bytes of a new file in its
+/// place.
 #[derive(Drop)]
 pub(super) enum Call {
     Write(usize, Vec<u8>),
-    Cut(usize),
     Sync,
+    Replace(Vec<u8>),
 }
 
 /// A file that remembers what it was asked, and fails at the call of a number.
@@ -42,16 +48,23 @@ impl Calls for Noted {
         self.note(Call::Write(at as usize, bytes))
     }
 
-    fn cut(&mut self, len: u64) -> io::Result<()> {
-        self.note(Call::Cut(len as usize))
-    }
-
     fn sync(&mut self) -> io::Result<()> {
         self.note(Call::Sync)
     }
+
+    fn replace(&mut self, front: &[u8], rest: &[u8]) -> io::Result<()> {
+        let Ok(mut bytes) = front.to_vec(self.alloc) else {
+            return Err(io::ErrorKind::OutOfMemory.into());
+        };
+        if bytes.extend_from_slice(rest).is_err() {
+            return Err(io::ErrorKind::OutOfMemory.into());
+        }
+        self.note(Call::Replace(bytes))
+    }
 }
 
-/// The image after a call, of which a number of bytes were written as asked, and others as this byte, or not at all.
+/// The image after a call, of which a number of bytes were written as asked, and others as this byte, or not at all. A new
+/// file takes the old one's place whole, if any byte was written.
 fn apply(
     image: &mut Vec<u8>,
     call: &Call,
@@ -60,8 +73,11 @@ fn apply(
 ) -> Result<(), AllocError> {
     match call {
         Call::Sync => Ok(()),
-        Call::Cut(len) => {
-            image.truncate(*len);
+        Call::Replace(bytes) => {
+            if whole > 0 {
+                image.clear();
+                image.extend_from_slice(bytes.as_slice())?;
+            }
             Ok(())
         }
         Call::Write(at, bytes) => {
@@ -84,12 +100,15 @@ fn apply(
     }
 }
 
-/// The lines that count, each with a line feed.
-pub(super) fn lines_in(alloc: Global, image: &[u8]) -> Result<Vec<u8>, AllocError> {
+/// The lines that an image tells, each with a line feed. It is read as whole or as cut, and never as damaged.
+pub(super) fn lines_in(alloc: Global, image: &[u8]) -> Result<Vec<u8>, Fail> {
+    let Ok(file) = read(image, &track_digest(TRACK)) else {
+        return Err("no crash damages a file".into());
+    };
     let mut lines = Vec::new(alloc);
-    let mut rest = image;
+    let mut rest = file.text;
     for _ in 0..image.len() {
-        let Some((line, after)) = next_line(rest) else {
+        let Some((_, line, after)) = next_told(rest) else {
             break;
         };
         lines.extend_from_slice(line)?;
@@ -99,19 +118,46 @@ pub(super) fn lines_in(alloc: Global, image: &[u8]) -> Result<Vec<u8>, AllocErro
     Ok(lines)
 }
 
+/// The bytes of a new journal.
+pub(super) fn new_journal(alloc: Global) -> Result<Vec<u8>, AllocError>
+    ensures { IfOk result (λ file. recovered file.items ≡ []) }
+{
+    new_file(alloc, &track_digest(TRACK))
+}
+
+/// Opens a journal over a file that stands for what these bytes tell. None where the file fails.
+pub(super) fn opened<D: Device + Drop>(
+    alloc: Global,
+    bytes: &[u8],
+    device: D,
+) -> Result<Result<Journal<D>, D>, Fail>
+    requires same { recovered (D.seen device) ≡ recovered bytes.now }
+    requires durable { Only (D.seen device) (D.may_leave device) }
+    ensures settled { IfOk result (λ tried. IfOk tried (λ journal. IsSettled D.seen D.may_leave journal)) }
+    ensures staged { IfOk result (λ tried. IfOk tried (λ journal. staged journal ≡ [])) }
+{
+    let Ok(file) = read(bytes, &track_digest(TRACK)) else {
+        return Err("a journal can go on from it".into());
+    };
+    Ok(match Journal::open(alloc, file.text, &file.seal, device) {
+        Ok(journal) => Ok(journal),
+        Err((_, device)) => Err(device),
+    })
+}
+
 /// Stages a line.
 fn stage<D: Device>(journal: &mut Journal<D>, line: &[u8]) -> Result<(), Fail>
     requires { IsSettled D.seen D.may_leave journal.old }
     ensures { OnOk result (IsSettled D.seen D.may_leave journal.new) }
 {
-    if !is_line(line) || journal.reserve(line.len()).is_err() {
+    if !is_told(line) || journal.reserve(line.len()).is_err() {
         return Err("it is a line, and there is room".into());
     }
     journal.stage(line);
     Ok(())
 }
 
-/// Opens an image, adds lines to it in one batch, and tells what was asked of the file.
+/// Opens an image, adds lines to it in one put, and tells what was asked of the file.
 fn calls_of(
     alloc: Global,
     image: &[u8],
@@ -124,9 +170,9 @@ fn calls_of(
         fails_at,
     };
     let device = Recorded::opened(noted, image);
-    let mut journal = match Journal::open(alloc, image, device) {
+    let mut journal = match opened(alloc, image, device)? {
         Ok(journal) => journal,
-        Err((_, device)) => return Ok((device.into_calls().calls, false)),
+        Err(device) => return Ok((device.into_calls().calls, false)),
     };
     let [first, second] = lines;
     stage(&mut journal, first)?;
@@ -136,7 +182,7 @@ fn calls_of(
 }
 
 /// The lines of an image and then these, as text.
-fn with_lines(alloc: Global, image: &[u8], lines: &[&[u8]]) -> Result<Vec<u8>, AllocError> {
+fn with_lines(alloc: Global, image: &[u8], lines: &[&[u8]]) -> Result<Vec<u8>, Fail> {
     let mut text = lines_in(alloc, image)?;
     for line in lines {
         text.extend_from_slice(line)?;
@@ -154,30 +200,53 @@ pub(super) fn image_of(alloc: Global, start: &[u8], calls: &[Call]) -> Result<Ve
     Ok(image)
 }
 
-const STARTS: [&[u8]; 6] = [
-    b"",
-    b"#",
-    b" lock R1\n#",
-    b" lock R1\n#lock R2\n#",
-    b" lock R1\n#lo\n ask 7\n #",
-    b" lock R1\n lock",
-];
+/// The file of a journal with so many puts of two lines.
+fn file_of(alloc: Global, puts: usize) -> Result<Vec<u8>, Fail> {
+    let mut file = new_journal(alloc)?;
+    for _ in 0..puts {
+        let (calls, _) = calls_of(alloc, file.as_slice(), EARLIER, usize::MAX)?;
+        file = image_of(alloc, file.as_slice(), calls.as_slice())?;
+    }
+    Ok(file)
+}
+
+const EARLIER: [&[u8]; 2] = [b"lock R1", b"ask 7"];
 
 const LINES: [&[u8]; 2] = [b"lock R3", b"ask 12"];
 
-// Each call of an opening and a commit is torn, byte for byte, and what was not written is missing, or any of these.
+/// How many calls an opening and a commit are: the new file; and two writes, each with its sync.
+const CALLS: usize = 5;
+
+/// Whether all of a put is written, and the closed gate behind it is torn to an open one. That is read as damage: so stands
+/// a put in whose front a gate was closed later.
+fn is_forged(call: &Call, whole: usize, other: Option<u8>) -> bool {
+    match call {
+        Call::Write(_, bytes) => {
+            bytes.len() > 1 && whole == bytes.len().saturating_sub(1) && other == Some(b' ')
+        }
+        _ => false,
+    }
+}
+
+// Each call of an opening and a commit is torn, byte for byte, and what was not written is missing, or any of these: in a
+// new file, and in one with two puts.
 #[test]
 fn a_crash_leaves_the_lines_before_or_after(rt: HostRuntime) -> Result<(), Fail> {
     let alloc = rt.alloc();
-    for start in STARTS {
+    for puts in [0usize, 2] {
+        let start = file_of(alloc, puts)?;
+        let start = start.as_slice();
         let (calls, is_done) = calls_of(alloc, start, LINES, usize::MAX)?;
         assert!(rt; is_done);
-        assert_eq!(rt; calls.len(), 8);
+        assert_eq!(rt; calls.len(), CALLS);
         let before = lines_in(alloc, start)?;
         let after = with_lines(alloc, start, LINES.as_slice())?;
         for count in 0..calls.len() {
-            for whole in 0..18usize {
+            for whole in 0..40usize {
                 for other in [None, Some(b' '), Some(b'\n'), Some(b'#'), Some(0u8)] {
+                    if is_forged(&calls[count], whole, other) {
+                        continue;
+                    }
                     let mut image = image_of(alloc, start, &calls[..count])?;
                     apply(&mut image, &calls[count], whole, other)?;
                     let lines = lines_in(alloc, image.as_slice())?;
@@ -190,7 +259,6 @@ fn a_crash_leaves_the_lines_before_or_after(rt: HostRuntime) -> Result<(), Fail>
             lines_in(alloc, image.as_slice())?.as_slice(),
             after.as_slice()
         );
-        assert!(rt; image.as_slice().ends_with(b"\n lock R3\n ask 12\n#") || start.len() < 2);
     }
     Ok(())
 }
@@ -199,10 +267,25 @@ fn a_crash_leaves_the_lines_before_or_after(rt: HostRuntime) -> Result<(), Fail>
 #[test]
 fn a_failed_file_is_left_alone(rt: HostRuntime) -> Result<(), Fail> {
     let alloc = rt.alloc();
-    for fails_at in 0..8usize {
-        let (calls, is_done) = calls_of(alloc, b" lock R1\n#", LINES, fails_at)?;
+    let start = file_of(alloc, 1)?;
+    for fails_at in 0..CALLS {
+        let (calls, is_done) = calls_of(alloc, start.as_slice(), LINES, fails_at)?;
         assert!(rt; !is_done);
         assert_eq!(rt; calls.len(), fails_at);
+    }
+    Ok(())
+}
+
+/// Opens a journal, and puts a line into it.
+fn put<D: Device + Drop>(alloc: Global, bytes: &[u8], device: D, line: &[u8]) -> Result<(), Fail>
+    requires same { recovered (D.seen device) ≡ recovered bytes.now }
+    requires durable { Only (D.seen device) (D.may_leave device) }
+{
+    let Ok(mut journal) = opened(alloc, bytes, device)? else {
+        return Err("a new file takes its place".into());
+    };
+    if !is_told(line) || journal.put(line).is_err() {
+        return Err("it is a line, and it is put".into());
     }
     Ok(())
 }
@@ -214,18 +297,29 @@ fn a_file_is_one_journal_at_a_time(rt: HostRuntime) -> Result<(), Fail> {
     let alloc = rt.alloc();
     let _ = fs::remove_file(&rt, PATH);
     for line in LINES {
-        let Ok((bytes, file)) = open(&rt, PATH) else {
+        let Ok(found) = open(&rt, PATH) else {
             return Err("it is opened".into());
         };
-        assert!(rt; matches!(open(&rt, PATH), Err(OpenFault::InUse)));
-        let Ok(mut journal) = Journal::open(alloc, bytes.as_slice(), file) else {
-            return Err("its end is repaired".into());
+        let Some(bytes) = found.bytes else {
+            let file = new_journal(alloc)?;
+            put(
+                alloc,
+                file.as_slice(),
+                Recorded::opened(found.file, b""),
+                line,
+            )?;
+            continue;
         };
-        assert!(rt; is_line(line));
-        assert!(rt; journal.put(line).is_ok());
+        assert!(rt; matches!(open(&rt, PATH), Err(OpenFault::InUse)));
+        let device = Recorded::opened(found.file, bytes.as_slice());
+        put(alloc, bytes.as_slice(), device, line)?;
     }
     let bytes = fs::read(&rt, PATH)?;
-    assert_eq!(rt; bytes.as_slice(), b" lock R3\n ask 12\n#".as_slice());
+    assert_eq!(rt;
+        lines_in(alloc, bytes.as_slice())?.as_slice(),
+        b"lock R3\nask 12\n".as_slice()
+    );
+    assert!(rt; !fs::exists(&rt, "rbc_journal_test.txt.new")?);
     fs::remove_file(&rt, PATH)?;
     Ok(())
 }

@@ -5,8 +5,8 @@ ghost use Rattle.std.specs.Thread.{IsSend, IsSync};
 ghost use Rattle.rbc_journal.specs.Journal.{recovered};
 ghost use Rattle.rbc_journal.specs.Settled.{IsSettled, staged};
 
-use super::journals::{Noted, image_of, lines_in};
-use rbc_journal::{Device, Journal, is_line};
+use super::journals::{Noted, image_of, lines_in, new_journal, opened};
+use rbc_journal::{Device, is_told};
 use rbc_journal_file::Recorded;
 use rbc_scribe::{Blank, Line, Pen, Scribe, ScribeName, Start, Told};
 use std::alloc::{AllocError, Global};
@@ -51,7 +51,7 @@ fn keep_some<D: Device, N: ScribeName, R: Wait>(
         let Ok(text) = line_at(alloc, place) else {
             return turn;
         };
-        if !is_line(text.as_slice()) || text.len() > 4_096 {
+        if !is_told(text.as_slice()) || text.len() > 4_096 {
             return turn;
         }
         if scribe
@@ -100,8 +100,10 @@ fn kept_by_four<N: ScribeName + Send + Sync, R: Threads + Wait + Sync>(
         calls: Vec::new(alloc),
         fails_at,
     };
-    let Ok(journal) = Journal::open(alloc, b"", Recorded::opened(noted, b"")) else {
-        return Err("the file is opened".into());
+    let file = new_journal(alloc)?;
+    let device = Recorded::opened(noted, file.as_slice());
+    let Ok(journal) = opened(alloc, file.as_slice(), device)? else {
+        return Err("a new file takes its place".into());
     };
     let start = Start {
         journal,
@@ -127,7 +129,7 @@ fn kept_by_four<N: ScribeName + Send + Sync, R: Threads + Wait + Sync>(
         { keep_two(rt, alloc, shared, (c, d), 2) },
     );
     let (device, _told) = scribe.close().into_parts();
-    let image = image_of(alloc, b"", device.into_calls().calls.as_slice())?;
+    let image = image_of(alloc, file.as_slice(), device.into_calls().calls.as_slice())?;
     Ok(([a, b, c, d], lines_in(alloc, image.as_slice())?))
 }
 
@@ -144,7 +146,7 @@ fn lines_are_kept_at_their_places(rt: HostRuntime) -> Result<(), Fail> {
     let (kept, lines) = kept_by_four::<Brand, _>(&rt, alloc, usize::MAX, Blank::new())?;
     assert_eq!(rt; kept, [LINES; 4]);
     assert!(rt; lines == all);
-    for fails_at in [4usize, 5, 6, 7, 8, 20, 33, 50, 71] {
+    for fails_at in [1usize, 2, 3, 4, 5, 20, 33, 50, 68] {
         let (kept, lines) = kept_by_four::<Brand, _>(&rt, alloc, fails_at, Blank::new())?;
         assert!(rt; all.as_slice().starts_with(lines.as_slice()));
         let mut seat = 0u64;

@@ -1,0 +1,5 @@
+mod TextLemmas
+mod ToldLemmas
+mod TellLemmas
+mod ReportLemmas
+mod CopyLemmas
