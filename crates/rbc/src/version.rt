@@ -4,5 +4,5 @@
 /// of the logic that proves them.
 pub(crate) const VERSION: &str = "\
 0.2.0
-sources c0f4628722c0819096a9b88f0cf17b105e44fa8d11b30eb1be40489606ff5068
+sources 246b831d761500fe6215e3be00a46cb35163be01f8711233de6e9e4252c05e58
 logic dac8208d650f15bf";
