@@ -4,6 +4,7 @@
 mod failure;
 mod history;
 mod journal;
+mod journal_report;
 mod output;
 mod serve;
 mod serve_kept;
@@ -14,6 +15,8 @@ use failure::Failure;
 use history::write_history;
 pub use journal::JournalFault;
 use journal::{run_kept, serve_with};
+pub use journal_report::ReportFault;
+use journal_report::tell_journal;
 use output::{ended, standard_output};
 pub use rbc_certifier::steps;
 pub use rbc_checks::check;
@@ -74,6 +77,7 @@ fn run(
         Task::Show(shown) => show_session(rt, &shown),
         Task::Track(listed) => list_track(rt, &listed),
         Task::Serve(service) => serve_centre(rt, &service),
+        Task::Journal(asked) => tell_journal(rt, &asked),
     }
 }
 

@@ -3,6 +3,7 @@
 
 ghost use Rattle.std.specs.Prelude.{◌≤◌};
 
+use clap::error::ErrorKind;
 use clap::{Arg, ArgAction, ArgMatches, Command, Error, value_parser};
 use rbc_port::Terms;
 use std::alloc::{AllocError, Global};
@@ -27,6 +28,8 @@ pub enum Task<'a> {
     Track(Listed<'a>),
     /// Serve connections.
     Serve(Service<'a>),
+    /// Tell of a journal, or take lines over from one.
+    Journal(Journaled<'a>),
 }
 
 /// How messages are printed.
@@ -67,6 +70,30 @@ pub struct Listed<'a> {
     pub track: &'a str,
     /// Whether it is written as lines.
     pub lines: bool,
+}
+
+/// What is asked of the file of a journal.
+#[derive(Clone, Copy, Debug, PartialEq, Eq)]
+pub struct Journaled<'a> {
+    /// The file.
+    pub file: &'a str,
+    /// The track file, if one is named: always, where the journal is renewed.
+    pub track: Option<&'a str>,
+    /// What is done with it.
+    pub work: JournalWork<'a>,
+}
+
+/// What is done with the file of a journal. It never changes.
+#[derive(Clone, Copy, Debug, PartialEq, Eq)]
+pub enum JournalWork<'a> {
+    /// A report of it is written.
+    Report,
+    /// Its lines are written.
+    Lines,
+    /// So many of its first lines are put into a new journal, in this file.
+    First(u64, &'a str),
+    /// The lines of a journal of format 1 are put into a new journal, in this file.
+    Renew(&'a str),
 }
 
 /// How a centre serves.
@@ -157,6 +184,17 @@ Exit status:
   4  A write fault
   5  No memory";
 
+/// What stands behind the help of `journal`.
+const JOURNAL: &str = "\
+Example:
+  rbc journal day.journal station.toml
+
+Exit status:
+  0  The file is a journal, whole or cut by a crash, and of the track, if one is named; or OUT has the lines
+  3  It is no journal, is damaged, or is of another track or format; or it tells fewer than N lines
+  4  A file can't be read, or OUT is there already, or fails; or a write fault
+  5  No memory";
+
 /// What stands behind the help of `run`.
 const RUN: &str = "\
 Requests, one a line:
@@ -202,7 +240,7 @@ Exit status:
 /// Reads the command line, whose first word is the program's name. A line that asks for help, or for the version, is an
 /// error whose exit code is 0.
 pub fn read<'a>(alloc: Global, version: &'a str, words: &'a [String]) -> Result<Task<'a>, Error> {
-    let command = Command::new(alloc, "rbc")
+    let mut command = Command::new(alloc, "rbc")
         .about("The deciding part of an ETCS Level 2 radio block centre")
         .version(version)
         .after_help(PAGES)
@@ -214,9 +252,37 @@ pub fn read<'a>(alloc: Global, version: &'a str, words: &'a [String]) -> Result<
         .subcommand(run(alloc)?)?
         .subcommand(show(alloc)?)?
         .subcommand(track(alloc)?)?
-        .subcommand(serve(alloc)?)?;
-    let matches = command.try_get_matches_from(words)?;
-    Ok(task_in(&matches))
+        .subcommand(serve(alloc)?)?
+        .subcommand(journal(alloc)?)?;
+    let matches = command.try_get_matches_from_mut(words)?;
+    let Some(journal) = matches.subcommand_matches("journal") else {
+        return Ok(task_in(&matches));
+    };
+    let Some(work) = work_in(journal) else {
+        return Err(command.error(
+            ErrorKind::ValueValidation,
+            "N of '--first <N> <OUT>' is no whole number",
+        )?);
+    };
+    Ok(Task::Journal(Journaled {
+        file: journal.get_str("FILE").unwrap_or(""),
+        track: journal.get_str("TRACK"),
+        work,
+    }))
+}
+
+/// What is done with the file of a journal, which the parser has accepted. None where N is no whole number.
+fn work_in<'a>(matches: &ArgMatches<'a>) -> Option<JournalWork<'a>> {
+    if matches.get_flag("lines") {
+        return Some(JournalWork::Lines);
+    }
+    if let Some(out) = matches.get_str("renew") {
+        return Some(JournalWork::Renew(out));
+    }
+    let Some([_, out]) = matches.get_strs("first") else {
+        return Some(JournalWork::Report);
+    };
+    Some(JournalWork::First(matches.get_one("first")?, *out))
 }
 
 /// What a command line asks for, which the parser has accepted.
@@ -338,6 +404,58 @@ fn track<'a>(alloc: Global) -> Result<Command<'a>, AllocError> {
         .after_help(TRACK)
         .arg(track_file(alloc))?
         .arg(lines)
+}
+
+/// The command that tells of a journal.
+fn journal<'a>(alloc: Global) -> Result<Command<'a>, AllocError> {
+    let file = Arg::new(alloc, "FILE")
+        .help("The file of the journal")
+        .required(true)
+        .action(ArgAction::Set);
+    let track = Arg::new(alloc, "TRACK")
+        .help("The track file that it should be of")
+        .action(ArgAction::Set);
+    Command::new(alloc, "journal")
+        .about(
+            "Tells what the file of a journal has, whether it is damaged, and of which track it is; never changes it",
+        )
+        .after_help(JOURNAL)
+        .arg(file)?
+        .arg(track)?
+        .arg(journal_lines(alloc)?)?
+        .arg(first_lines(alloc)?)?
+        .arg(renewed(alloc)?)
+}
+
+/// Whether the lines of a journal are written.
+fn journal_lines<'a>(alloc: Global) -> Result<Arg<'a>, AllocError> {
+    Arg::new(alloc, "lines")
+        .long("lines")
+        .help("Writes the lines that it tells: those before the damage, if it is damaged")
+        .action(ArgAction::SetTrue)
+        .conflicts_with("first")?
+        .conflicts_with("renew")
+}
+
+/// How many lines of a journal are taken over, and where to.
+fn first_lines<'a>(alloc: Global) -> Result<Arg<'a>, AllocError> {
+    Arg::new(alloc, "first")
+        .long("first")
+        .value_names(&["N", "OUT"])
+        .help("Puts the first N lines that it tells into a new journal, OUT")
+        .num_args(2)
+        .action(ArgAction::Set)
+        .conflicts_with("renew")
+}
+
+/// Where the lines of a journal of format 1 are taken over to.
+fn renewed<'a>(alloc: Global) -> Result<Arg<'a>, AllocError> {
+    Arg::new(alloc, "renew")
+        .long("renew")
+        .value_name("OUT")
+        .help("Puts the lines of a journal of format 1 into a new journal of TRACK, OUT")
+        .action(ArgAction::Set)
+        .requires_arg("TRACK")
 }
 
 /// The track file of a centre.

@@ -25,32 +25,47 @@ pub trait Calls {
     fn replace(&mut self, front: &[u8], rest: &[u8]) -> io::Result<()>;
 }
 
-/// A file of the system, which keeps its lock until it is dropped. It has taken the place of an older one, if there was any.
+/// A file of the system, which keeps its lock until it is dropped.
 #[derive(Drop)]
-pub struct SystemFile(File);
+pub struct SystemFile {
+    file: File,
+    is_new: bool,
+}
 
 impl SystemFile {
-    /// A file that is open for writing.
+    /// A file that has taken the place of an older one, if there was any, and has all that counts in that.
+    pub(crate) fn in_place(file: File) -> SystemFile {
+        SystemFile {
+            file,
+            is_new: false,
+        }
+    }
+
+    /// An empty file that was made just now.
     pub(crate) fn new(file: File) -> SystemFile {
-        SystemFile(file)
+        SystemFile { file, is_new: true }
     }
 }
 
 impl Calls for SystemFile {
     fn write(&mut self, at: u64, bytes: &[u8]) -> io::Result<()> {
-        self.0.seek(SeekFrom::Start(at))?;
-        self.0.write_all(bytes)
+        self.file.seek(SeekFrom::Start(at))?;
+        self.file.write_all(bytes)
     }
 
     fn sync(&mut self) -> io::Result<()> {
-        self.0.sync_data()
+        self.file.sync_data()
     }
 
-    // The new file is in its place already, with these bytes: `Found::replaced` has put it there.
+    // A file in place of another has these bytes already: `Found::replaced` has put it there.
     fn replace(&mut self, front: &[u8], rest: &[u8]) -> io::Result<()> {
-        if self.0.metadata()?.len() != front.len() as u64 + rest.len() as u64 {
+        if self.is_new {
+            self.write(0, front)?;
+            self.file.write_all(rest)?;
+        }
+        if self.file.metadata()?.len() != front.len() as u64 + rest.len() as u64 {
             return Err(ErrorKind::InvalidData.into());
         }
-        self.0.sync_data()
+        self.file.sync_data()
     }
 }

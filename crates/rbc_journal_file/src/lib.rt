@@ -9,7 +9,7 @@ mod place;
 mod recorded;
 
 pub use calls::{Calls, SystemFile};
-pub use opening::{Found, OpenFault, open};
+pub use opening::{Found, OpenFault, create, open};
 pub use past::{Bytes, Past};
 pub use rbc_journal::{ReadFault, Readable, new_file, read, track_digest};
 pub use recorded::{Call, CallFailed, Recorded};

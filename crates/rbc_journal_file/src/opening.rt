@@ -1,7 +1,7 @@
 //! Opening the file of a journal, and the new file that takes its place.
 
 use crate::SystemFile;
-use crate::place::Place;
+use crate::place::{Place, folder_of};
 use std::alloc::{AllocError, AllocGlobal};
 use std::fs::{File, Files, OpenOptions, TryLockError};
 use std::io::{ErrorKind, Read, Write};
@@ -92,6 +92,21 @@ fn locked<R: Files<File = File>>(rt: &R, path: &str) -> Result<Option<File>, Ope
     Ok(Some(file))
 }
 
+/// Makes the file of a new journal, empty and locked.
+///
+/// # Errors
+/// `InUse`, where a file is there already; `File`.
+pub fn create<R: Files<File = File>>(rt: &R, path: &str) -> Result<SystemFile, OpenFault> {
+    let file = match fs::File::create_new(rt, path) {
+        Ok(file) => file,
+        Err(error) if error.kind() == ErrorKind::AlreadyExists => return Err(OpenFault::InUse),
+        Err(error) => return Err(error.into()),
+    };
+    file.try_lock()?;
+    fs::open(rt, folder_of(path))?.sync_all()?;
+    Ok(SystemFile::new(file))
+}
+
 impl Found {
     /// The bytes of the file. None where there is no file.
     pub fn bytes(&self) -> Option<&[u8]> {
@@ -119,7 +134,7 @@ impl Found {
         file.sync_all()?;
         fs::rename(rt, self.place.new_path(), self.place.path())?;
         fs::open(rt, self.place.folder())?.sync_all()?;
-        Ok(SystemFile::new(file))
+        Ok(SystemFile::in_place(file))
     }
 
     /// The new file: empty, and locked.

@@ -55,7 +55,7 @@ fn with_end(alloc: Global, path: &str, end: &str) -> Result<String, AllocError> 
 }
 
 /// The folder in which a path ends.
-fn folder_of(path: &str) -> &str {
+pub(crate) fn folder_of(path: &str) -> &str {
     match path.rsplit_once('/') {
         Some(("", _)) => "/",
         Some((folder, _)) => folder,
