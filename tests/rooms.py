@@ -64,7 +64,10 @@ class Room:
     def run(self, text, *further, **how):
         """How a centre ends over a text, with what it tells, and what it writes."""
         process = self.start(*further, **how)
-        written, told = process.communicate(text.encode(), timeout=LONGEST_WAIT)
+        try:
+            written, told = process.communicate(text.encode(), timeout=LONGEST_WAIT)
+        finally:
+            process.kill()
         return (process.returncode, told.decode()), written.decode()
 
     def files(self):
@@ -209,15 +212,27 @@ class Sender(threading.Thread):
 
 
 def serve(room, each, together, **how):
-    """A centre with a journal, and connections that send so many lines each side by side, so many at once."""
+    """A centre with a journal, and connections that send so many lines each side by side, so many at once; none where it doesn't listen."""
     room.track = f"{room.folder}.toml"
     with open(room.track, "w") as file:
         file.write(served_track())
     server = Server(room.command, room.track, SERVED, WORKERS, "--journal", room.journal, **how)
-    senders = [Sender(server.port, served_lines(number, each), together) for number in range(1, SERVED + 1)]
+    numbers = range(1, SERVED + 1) if server.listening else ()
+    senders = [Sender(server.port, served_lines(number, each), together) for number in numbers]
     for sender in senders:
         sender.start()
     return server, senders
+
+
+def till_the_end(server, senders):
+    """How a centre ends once the connections have sent their lines, with what it tells, and what it writes."""
+    if not server.listening:
+        return (server.status, server.told), server.written
+    for sender in senders:
+        sender.join()
+        sender.talk.end()
+    status, written, told = server.end()
+    return (status, told), written
 
 
 def served_fault(room, senders, swept):
