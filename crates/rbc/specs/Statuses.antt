@@ -15,8 +15,9 @@ use Rattle.rbc.specs.declared.journal.JournalFault.{JournalFault}
 use Rattle.rbc.specs.declared.journal.JournalFault.TheVariants.{InUse, Failed}
 use Rattle.rbc_trackfile.specs.declared.loading.LoadFault.{LoadFault}
 use Rattle.rbc_trackfile.specs.declared.loading.LoadFault.TheVariants.{Memory as NoLoadMemory}
+use Rattle.rbc.specs.Reports.{status_of_report}
 use Rattle.rbc.specs.declared.failure.Failure.{Failure}
-use Rattle.rbc.specs.declared.failure.Failure.TheVariants.{CommandLine, NotText, NotCertified, NotRead, Load, Session, History, Journal, Serve, Memory as NoMemory}
+use Rattle.rbc.specs.declared.failure.Failure.TheVariants.{CommandLine, NotText, NotCertified, NotRead, Load, Session, History, Journal, Report, Serve, Memory as NoMemory}
 
 -- after a command line that asks for help, or that is refused
 abbrev pub status_of_kind : ErrorKind → ℕ
@@ -56,6 +57,7 @@ status_of (Load fault) = status_of_load fault
 status_of (Session fault) = status_of_fault fault
 status_of History = 4
 status_of (Journal fault) = status_of_journal fault
+status_of (Report fault) = status_of_report fault
 status_of (Serve fault) = status_of_serve fault
 status_of NoMemory = 5
 

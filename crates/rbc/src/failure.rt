@@ -6,6 +6,7 @@ ghost use Rattle.rbc.specs.Statuses.{is_help_lost, status_of};
 ghost use Rattle.rbc.specs.declared.failure.Failure.TheVariants.{Session};
 
 use crate::journal::JournalFault;
+use crate::journal_report::ReportFault;
 use crate::output::is_reader_gone;
 use clap::error::ErrorKind;
 use rbc_journal_file::OpenFault;
@@ -47,6 +48,8 @@ pub enum Failure {
     History,
     /// The journal is not opened, or it failed.
     Journal(JournalFault),
+    /// A journal is not told of, or its lines are not taken over.
+    Report(ReportFault),
     /// A centre that serves connections ended early, or could not open its port.
     Serve(ServeFault),
     /// A certificate was refused, as the output tells.
@@ -76,6 +79,7 @@ impl Failure {
             | Failure::Session(SessionFault::Memory)
             | Failure::Serve(ServeFault::Memory)
             | Failure::Memory => NO_MEMORY,
+            Failure::Report(fault) => fault.status(),
             Failure::Session(_) | Failure::History => SESSION_FAULT,
             Failure::Journal(JournalFault::InUse | JournalFault::Failed) => SESSION_FAULT,
             Failure::Load(_) | Failure::Journal(_) => NO_TRACK,
@@ -121,6 +125,7 @@ impl Failure {
             Failure::Session(fault) => eprintln!(rt; "rbc: {fault}"),
             Failure::History => eprintln!(rt; "rbc: history: Unwritable"),
             Failure::Journal(fault) => eprintln!(rt; "rbc: {fault}"),
+            Failure::Report(fault) => eprintln!(rt; "rbc: {fault}"),
             Failure::Serve(fault) => eprintln!(rt; "rbc: {fault}"),
             Failure::NotCertified | Failure::NotRead => Ok(()),
             Failure::Memory => eprintln!(rt; "rbc: out of memory"),

@@ -1,6 +1,7 @@
 //! What is told of the file of a journal, and new journals with lines of an old one.
 
-ghost use Rattle.std.specs.Prelude.{◌≡◌, [], IfOk};
+ghost use Rattle.std.specs.Prelude.{◌≡◌, [], IfOk, IfSome};
+ghost use Rattle.rbc_journal_file.specs.Gates.{IsLine};
 ghost use Rattle.rbc_journal_file.specs.Device.{Only};
 ghost use Rattle.rbc_journal_file.specs.Past.{may_leave, seen};
 ghost use Rattle.rbc_journal_file.specs.Recorded.{past_of};
@@ -70,7 +71,10 @@ fn tell_fault<W: fmt::Write>(
 ) -> fmt::Result {
     match fault {
         ReadFault::NotAJournal => write!(f, "journal: not a journal"),
-        ReadFault::FirstFormat => write!(f, "journal: format 1; renew it with rbc journal FILE --renew OUT"),
+        ReadFault::FirstFormat => write!(
+            f,
+            "journal: format 1; renew it with rbc journal FILE --renew OUT"
+        ),
         ReadFault::OtherFormat(format) => {
             write!(f, "journal: format {format}, and this program writes 2")
         }
@@ -80,7 +84,11 @@ fn tell_fault<W: fmt::Write>(
             line.saturating_sub(1)
         ),
         ReadFault::OtherTrack(own) => {
-            write!(f, "journal: of another track ({}), not of this", Digest(*own))?;
+            write!(
+                f,
+                "journal: of another track ({}), not of this",
+                Digest(*own)
+            )?;
             match given {
                 Some(given) => write!(f, " ({})", Digest(*given)),
                 None => Ok(()),
@@ -96,7 +104,11 @@ struct Digest([u8; 64]);
 impl fmt::Display for Digest {
     fn fmt<W: fmt::Write>(&self, f: &mut fmt::Formatter<W>) -> fmt::Result {
         for digit in self.0 {
-            let shown = if digit.is_ascii_hexdigit() { digit } else { b'?' };
+            let shown = if digit.is_ascii_hexdigit() {
+                digit
+            } else {
+                b'?'
+            };
             write!(f, "{}", char::from(shown))?;
         }
         Ok(())
@@ -130,7 +142,9 @@ pub(crate) fn tell_journal(
 }
 
 /// The digest of the track of this file.
-fn digest_in(rt: &(impl Files + AllocGlobal), path: &str) -> Result<[u8; 64], Failure> {
+fn digest_in(rt: &(impl Files + AllocGlobal), path: &str) -> Result<[u8; 64], Failure>
+    ensures { IfOk result (λ digest. IsLine digest) }
+{
     let Ok(file) = fs::open(rt, path) else {
         return Err(Failure::Load(LoadFault::Unreadable));
     };
@@ -207,7 +221,9 @@ fn take_all(
     bytes: &[u8],
     given: Option<[u8; 64]>,
     out: &str,
-) -> Result<(), Failure> {
+) -> Result<(), Failure>
+    requires { IfSome given (λ digest. IsLine digest) }
+{
     let Some(track) = given else {
         return Err(Failure::Load(LoadFault::Unreadable));
     };
@@ -219,12 +235,7 @@ fn take_all(
 }
 
 /// How the program ends where lines are not taken over. The new file, which was made for them, goes again.
-fn not_copied(
-    rt: &impl Files,
-    fault: CopyFault,
-    given: Option<[u8; 64]>,
-    out: &str,
-) -> Failure {
+fn not_copied(rt: &impl Files, fault: CopyFault, given: Option<[u8; 64]>, out: &str) -> Failure {
     let _ = fs::remove_file(rt, out);
     copy_failure(fault, given)
 }
