@@ -4,5 +4,5 @@
 /// of the logic that proves them.
 pub(crate) const VERSION: &str = "\
 0.3.0
-sources 246b831d761500fe6215e3be00a46cb35163be01f8711233de6e9e4252c05e58
+sources 2482439afd626ddfadf503fd6e92b4ec5cc9d31d7fe07272ef32a8a79eb58737
 logic dac8208d650f15bf";
