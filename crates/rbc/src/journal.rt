@@ -95,7 +95,7 @@ fn fault_of(fault: ReadFault, digest: &[u8; 64]) -> JournalFault {
 ///
 /// `Journal`, where the journal is not opened, or fails; `Memory`; `Session`; `History`.
 pub(crate) fn run_kept(
-    rt: &(impl Files<File = File> + Input + Print + AllocGlobal + Threads + Eprint + Sync + Copy),
+    rt: &(impl Files<File = File> + Input + Print + AllocGlobal + Threads + Eprint + Sync),
     journal: &str,
     history: Option<&str>,
     track: TrackFile,

@@ -138,7 +138,7 @@ fn decode_input<F: Form>(
 /// Runs a centre on the track of a file: it answers the lines of the standard input. However they end, the history that
 /// they led to is written, if a file is named for it.
 fn run_centre(
-    rt: &(impl Files<File = File> + Input + Print + AllocGlobal + Threads + Eprint + Sync + Copy),
+    rt: &(impl Files<File = File> + Input + Print + AllocGlobal + Threads + Eprint + Sync),
     centre: &Centre,
 ) -> Result<(), Failure> {
     let alloc = rt.alloc();
