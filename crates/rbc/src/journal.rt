@@ -1,6 +1,7 @@
 //! Centres whose history is kept in a journal.
 
 ghost use Rattle.std.specs.Prelude.{◌≡◌, [], IfOk};
+ghost use Rattle.rbc_journal_file.specs.Gates.{IsLine};
 ghost use Rattle.rbc_journal_file.specs.Past.{may_leave, seen};
 ghost use Rattle.rbc_journal_file.specs.Recorded.{past_of};
 ghost use Rattle.rbc_journal_file.specs.Seals.{IsWholeText};
@@ -99,7 +100,9 @@ pub(crate) fn run_kept(
     journal: &str,
     history: Option<&str>,
     track: TrackFile,
-) -> Result<(), Failure> {
+) -> Result<(), Failure>
+    requires { IsLine track.digest }
+{
     let alloc = rt.alloc();
     let mut kept = opened(rt, journal, track)?;
     let mut output = standard_output(rt)?;
@@ -131,7 +134,9 @@ pub(crate) fn serve_with(
     journal: &str,
     track: TrackFile,
     service: &Service,
-) -> Result<(), Failure> {
+) -> Result<(), Failure>
+    requires { IsLine track.digest }
+{
     let alloc = rt.alloc();
     let kept = opened(rt, journal, track)?;
     let mut output = standard_output(rt)?;
@@ -153,6 +158,7 @@ fn opened<R: Files<File = File> + AllocGlobal + Threads + Eprint + Sync>(
     path: &str,
     track: TrackFile,
 ) -> Result<Kept<Recorded<SystemFile>>, Failure>
+    requires { IsLine track.digest }
     ensures { IfOk result (λ kept. IsReady (λ file. seen (past_of file)) (λ file. may_leave (past_of file)) kept) }
 {
     let alloc = rt.alloc();

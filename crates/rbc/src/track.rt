@@ -1,5 +1,8 @@
 //! The track of a centre.
 
+ghost use Rattle.std.specs.Prelude.{IfOk};
+ghost use Rattle.rbc_journal_file.specs.Gates.{IsLine};
+
 use crate::failure::Failure;
 use rbc_journal_file::track_digest;
 use rbc_model::limits::LONGEST_FILE;
@@ -20,10 +23,9 @@ pub(crate) struct TrackFile {
 /// # Errors
 ///
 /// `Load`, where it can't be read, or has no track; `Memory` is one of those.
-pub(crate) fn read_track(
-    rt: &(impl Files + AllocGlobal),
-    path: &str,
-) -> Result<TrackFile, Failure> {
+pub(crate) fn read_track(rt: &(impl Files + AllocGlobal), path: &str) -> Result<TrackFile, Failure>
+    ensures { IfOk result (λ file. IsLine file.digest) }
+{
     let alloc = rt.alloc();
     let Ok(file) = fs::open(rt, path) else {
         return Err(Failure::Load(LoadFault::Unreadable));

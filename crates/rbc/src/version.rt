@@ -4,5 +4,5 @@
 /// of the logic that proves them.
 pub(crate) const VERSION: &str = "\
 0.3.0
-sources 2482439afd626ddfadf503fd6e92b4ec5cc9d31d7fe07272ef32a8a79eb58737
+sources e89513d81fd98fe5a79e327c84ae9121d53ecc72af3ced477d643d6d701d155b
 logic dac8208d650f15bf";
