@@ -1,3 +1,4 @@
+#!/usr/bin/env python3
 """The file of a journal, format 2, read and written a second time, as docs/formats.md says ("The file of a journal"); and what a
 centre tells of it. It shares nothing with the program.
 
@@ -5,13 +6,13 @@ A file is a header, puts, and a closed gate. Each of its lines stands behind a g
 list of lines and notes here, without gates, line feeds and seal. Digests and seals are their digits."""
 import hashlib
 import re
+import sys
 from typing import NamedTuple
 
 FORMAT = 2
 FIRST = re.compile(rb"# rbc journal (\d+)")
 TRACK = re.compile(rb"# track ([0-9a-f]{64})")
 SEAL = re.compile(rb"# ([0-9a-f]{16})")
-OLD_LINE = re.compile(rb"(lock|free|leave|ask|yield|report) [ -~]*")  # of a journal of format 1
 IS_NOTED = False  # whether this program's puts have a note behind each request that was granted
 
 
@@ -31,20 +32,10 @@ class Damaged(NamedTuple):
     line: int
 
 
-class NoJournal(NamedTuple):
-    pass
-
-
-class FormatOne(NamedTuple):
-    pass
-
-
-class OtherFormat(NamedTuple):
-    number: int
-
-
-class OtherTrack(NamedTuple):
-    digest: bytes
+NoJournal = NamedTuple("NoJournal", [])
+FormatOne = NamedTuple("FormatOne", [])
+OtherFormat = NamedTuple("OtherFormat", [("number", int)])
+OtherTrack = NamedTuple("OtherTrack", [("digest", bytes)])
 
 
 def digest_of(path):
@@ -155,7 +146,7 @@ def read(file, digest):
     header, lines, tail = parts(file)
     first = FIRST.fullmatch(header[0]) if header else None
     if not first:
-        is_old = header and tail == b"#" and all(map(OLD_LINE.fullmatch, header + lines))
+        is_old = header and tail == b"#" and told_by([header, lines]) == header + lines
         return FormatOne() if is_old else NoJournal()
     if int(first[1]) != FORMAT:
         return OtherFormat(int(first[1]))
@@ -174,8 +165,8 @@ def read(file, digest):
 # ---- told
 
 
-def end_of(reading, file, track):
-    """How a centre ends that opens this file on this track, with an empty input: its status, and what it tells."""
+def end_of(reading, digest):
+    """How a centre ends that opens such a file on the track of this digest, with an empty input: its status, and what it tells."""
     match reading:
         case Whole():
             return 0, ""
@@ -186,13 +177,17 @@ def end_of(reading, file, track):
         case NoJournal():
             return 3, "rbc: journal: not a journal\n"
         case FormatOne():
-            return 3, f"rbc: journal: format 1; renew it with rbc journal {file} --renew OUT\n"
+            return 3, "rbc: journal: format 1; renew it with rbc journal FILE --renew OUT\n"
         case OtherFormat(number):
             return 3, f"rbc: journal: format {number}, and this program writes {FORMAT}\n"
-        case OtherTrack(digest):
-            return 3, f"rbc: journal: of another track ({digest.decode()}), not of {track} ({digest_of(track).decode()})\n"
+        case OtherTrack(other):
+            return 3, f"rbc: journal: of another track ({other.decode()}), not of this ({digest.decode()})\n"
 
 
 def foreign(number):
-    """How it ends where the line of this number, from 1 on, adds no entry."""
+    """How it ends where the line of this number, of those that it tells, from 1 on, adds no entry."""
     return 3, f"rbc: journal: Foreign {number}\n"
+
+
+if __name__ == "__main__":  # a journal of the lines on standard input, each put by itself
+    sys.stdout.buffer.write(at_rest(digest_of(sys.argv[1]), [[line] for line in sys.stdin.buffer.read().splitlines()]))

@@ -33,6 +33,13 @@ def encoded(lines):
     return [line.encode() for line in lines]
 
 
+def lines_at(path, track):
+    """The lines that a journal tells that is whole, or none where it is not."""
+    with open(path, "rb") as file:
+        reading = journals.read(file.read(), journals.digest_of(track))
+    return [line.decode() for line in reading.lines] if isinstance(reading, Whole) else None
+
+
 def replies_in(written):
     """How many whole replies these bytes have."""
     words = [line.split(" ")[0] for line in written.split("\n")[:-1]]
@@ -106,7 +113,7 @@ class Room:
         before = self.files()
         file = before.get("journal", journals.at_rest(self.digest(), []))
         reading = journals.read(file, self.digest())
-        wanted = journals.end_of(reading, self.journal, self.track)
+        wanted = journals.end_of(reading, self.digest())
         end, written = self.run("", "--history", self.history)
         if (end, written) != (wanted, ""):
             return None, f"it ends with {end}, not {wanted}, and writes {written!r}"
