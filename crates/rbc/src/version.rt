@@ -4,5 +4,5 @@
 /// of the logic that proves them.
 pub(crate) const VERSION: &str = "\
 0.3.0
-sources e89513d81fd98fe5a79e327c84ae9121d53ecc72af3ced477d643d6d701d155b
+sources 18a9183e4baa4d9024cfc2abdab0aa429104c0b3e7af0e1110efb6152d1e8a09
 logic dac8208d650f15bf";

@@ -300,19 +300,16 @@ fn a_file_is_one_journal_at_a_time(rt: HostRuntime) -> Result<(), Fail> {
         let Ok(found) = open(&rt, PATH) else {
             return Err("it is opened".into());
         };
-        let Some(bytes) = found.bytes else {
-            let file = new_journal(alloc)?;
-            put(
-                alloc,
-                file.as_slice(),
-                Recorded::opened(found.file, b""),
-                line,
-            )?;
-            continue;
+        let made = new_journal(alloc)?;
+        let bytes = found.bytes().unwrap_or(made.as_slice());
+        assert!(rt; found.bytes().is_none() || matches!(open(&rt, PATH), Err(OpenFault::InUse)));
+        let Some((_gate, text)) = bytes.split_last() else {
+            return Err("it has a closed gate".into());
         };
-        assert!(rt; matches!(open(&rt, PATH), Err(OpenFault::InUse)));
-        let device = Recorded::opened(found.file, bytes.as_slice());
-        put(alloc, bytes.as_slice(), device, line)?;
+        let Ok(file) = found.replaced(&rt, text, b"") else {
+            return Err("a new file takes its place".into());
+        };
+        put(alloc, bytes, Recorded::opened(file, bytes), line)?;
     }
     let bytes = fs::read(&rt, PATH)?;
     assert_eq!(rt;
