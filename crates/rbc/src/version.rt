@@ -4,5 +4,5 @@
 /// of the logic that proves them.
 pub(crate) const VERSION: &str = "\
 0.3.0
-sources 18a9183e4baa4d9024cfc2abdab0aa429104c0b3e7af0e1110efb6152d1e8a09
+sources c6854e58378789d9e6137780c3382b808cfb8be13c9082b7cf0a479b84196fa6
 logic dac8208d650f15bf";
