@@ -2,7 +2,7 @@
 _rbc() {
   local word=${COMP_WORDS[COMP_CWORD]} before=${COMP_WORDS[COMP_CWORD - 1]}
   if [ "$COMP_CWORD" -eq 1 ]; then
-    COMPREPLY=($(compgen -W "steps check decode draw run show track serve help --help --version" -- "$word"))
+    COMPREPLY=($(compgen -W "steps check decode draw run show track serve journal help --help --version" -- "$word"))
     return
   fi
   case $before in
@@ -15,10 +15,11 @@ _rbc() {
     decode) COMPREPLY=($(compgen -W "--json --help" -- "$word")) ;;
     draw) COMPREPLY=($(compgen -W "--help" -- "$word")) ;;
     run) COMPREPLY=($(compgen -W "--history --journal --help" -- "$word")); compopt -o default ;;
-    show) COMPREPLY=($(compgen -W "--each --help" -- "$word")); compopt -o default ;;
+    show) COMPREPLY=($(compgen -W "--each --page --help" -- "$word")); compopt -o default ;;
     track) COMPREPLY=($(compgen -W "--lines --help" -- "$word")); compopt -o default ;;
     serve) COMPREPLY=($(compgen -W "--port --connections --workers --patience --log --journal --help" -- "$word")); compopt -o default ;;
-    help) COMPREPLY=($(compgen -W "steps check decode draw run show track serve help" -- "$word")) ;;
+    journal) COMPREPLY=($(compgen -W "--lines --first --renew --help" -- "$word")); compopt -o default ;;
+    help) COMPREPLY=($(compgen -W "steps check decode draw run show track serve journal help" -- "$word")) ;;
   esac
 }
 complete -F _rbc rbc
