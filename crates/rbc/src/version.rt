@@ -4,5 +4,5 @@
 /// of the logic that proves them.
 pub(crate) const VERSION: &str = "\
 0.3.0
-sources c6854e58378789d9e6137780c3382b808cfb8be13c9082b7cf0a479b84196fa6
+sources 29b4387579b7654b98f803a8d24ee9a849d3f07fd106e29d079c8bed9e08aa7b
 logic dac8208d650f15bf";

@@ -62,10 +62,11 @@ impl Calls for SystemFile {
         if self.is_new {
             self.write(0, front)?;
             self.file.write_all(rest)?;
+            self.file.sync_all()?;
         }
         if self.file.metadata()?.len() != front.len() as u64 + rest.len() as u64 {
             return Err(ErrorKind::InvalidData.into());
         }
-        self.file.sync_data()
+        Ok(())
     }
 }

@@ -83,6 +83,9 @@ fn locked<R: Files<File = File>>(rt: &R, path: &str) -> Result<Option<File>, Ope
         Err(error) if error.kind() == ErrorKind::NotFound => return Ok(None),
         Err(error) => return Err(error.into()),
     };
+    if !file.metadata()?.is_file() {
+        return Err(OpenFault::File(ErrorKind::InvalidInput.into()));
+    }
     file.try_lock()?;
     // Between the two calls another centre may have put a new file in place of it.
     let (here, there) = (file.metadata()?, fs::metadata(rt, path)?);
@@ -127,8 +130,8 @@ impl Found {
         text: &[u8],
         dropped: &[u8],
     ) -> Result<SystemFile, OpenFault> {
-        let mut file = self.begin_new(rt)?;
         self.keep(rt, dropped)?;
+        let mut file = self.begin_new(rt)?;
         file.write_all(text)?;
         file.write_all(b"#")?;
         file.sync_all()?;
@@ -163,6 +166,7 @@ impl Found {
             .open(rt, self.place.cut_path())?;
         file.write_all(dropped)?;
         file.sync_all()?;
+        fs::open(rt, self.place.folder())?.sync_all()?;
         Ok(())
     }
 }

@@ -135,6 +135,7 @@ pub(super) fn opened<D: Device + Drop>(
     requires durable { Only (D.seen device) (D.may_leave device) }
     ensures settled { IfOk result (λ tried. IfOk tried (λ journal. IsSettled D.seen D.may_leave journal)) }
     ensures staged { IfOk result (λ tried. IfOk tried (λ journal. staged journal ≡ [])) }
+    ensures same { IfOk result (λ tried. IfOk tried (λ journal. recovered (D.seen journal.device) ≡ recovered bytes.now)) }
 {
     let Ok(file) = read(bytes, &track_digest(TRACK)) else {
         return Err("a journal can go on from it".into());
