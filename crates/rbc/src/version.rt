@@ -4,5 +4,5 @@
 /// of the logic that proves them.
 pub(crate) const VERSION: &str = "\
 0.3.0
-sources 29b4387579b7654b98f803a8d24ee9a849d3f07fd106e29d079c8bed9e08aa7b
+sources a8fa2943b79bcd8208b867603f23574aa1b52b09bfeeacdf41be284d5faebff9
 logic dac8208d650f15bf";
