@@ -9,13 +9,15 @@ use Rattle.std.proofs.lemmas.List.Folds.{list_all-append}
 use Rattle.rbc_model.specs.declared.limits.TheConstants.{LAST_COUNTRY, LAST_GROUP, LAST_TRAIN, FARTHEST_REPORT, FARTHEST_KEPT, MOST_DOUBT, LONGEST_TRAIN, LAST_TIME}
 use Rattle.rbc_model.specs.declared.refusals.LineFault.{LineFault}
 use Rattle.rbc_model.specs.declared.refusals.LineFault.TheVariants.{Command, Words, Number, Name}
+use Rattle.rbc_model.specs.declared.sessions.Inquiry.{Inquiry}
+use Rattle.rbc_model.specs.declared.sessions.Inquiry.TheVariants.{State, Scene}
 use Rattle.rbc_model.specs.Results.{is_from_to, allowed_value, ◌>>=◌}
 use Rattle.rbc_model.specs.GroupNames.{GroupName, IsGroupName}
 use Rattle.rbc_model.specs.Reports.{IsReport, Report as TrainReport}
 use Rattle.rbc_model.specs.Names.{is_name_byte, is_name}
 use Rattle.rbc_model.specs.Words.{number_in, is_text}
 use Rattle.rbc_model.specs.RequestText.{request_words, number_at, line_in}
-use Rattle.rbc_model.specs.SessionText.{SessionLine, Blank, Report, Lock, Free, Leave, GiveBack, Ask, name_at, group_at, nominal_at, train_at, report_in, give_back_in, only_word, name_in, train_in, words_line, parse_session, group_word, nominal_word, said_words, said_line, IsTrainNumber, IsSayable}
+use Rattle.rbc_model.specs.SessionText.{SessionLine, Blank, Report, Lock, Free, Leave, GiveBack, Ask, Inquire, inquiry_in, name_at, group_at, nominal_at, train_at, report_in, give_back_in, only_word, name_in, train_in, words_line, parse_session, group_word, nominal_word, said_words, said_line, IsTrainNumber, IsSayable}
 use Rattle.rbc_model.proofs.CountingLemmas.{both_of}
 use Rattle.rbc_model.proofs.WordLemmas.{is_visible, visible_is, IsWord, text_of_joined, request_words-joined, number_short, number_is_word, allowed-decimal, no_slash, before_mark, after_mark}
 
@@ -193,6 +195,8 @@ said_are_words (GiveBack train end) fits =
     let high = fits.1 in
     (record { some = lit< tt; short = lit≤ tt; visible = refl }, (train_is_word train fits.0, (number_is_word end (omega arith), tt)))
 said_are_words (Ask train) fits = (record { some = lit< tt; short = lit≤ tt; visible = refl }, (train_is_word train fits, tt))
+said_are_words (Inquire State) fits = (record { some = lit< tt; short = lit≤ tt; visible = refl }, tt)
+said_are_words (Inquire Scene) fits = (record { some = lit< tt; short = lit≤ tt; visible = refl }, tt)
 
 -- and its line is text
 pub said_is_text : (said : SessionLine) → IsSayable said → is_text (said_line said) ≡ true
@@ -203,6 +207,8 @@ said_is_text (Free name) fits = text_of_joined (codes "free") (name ∷ []) (sai
 said_is_text (Leave train) fits = text_of_joined (codes "leave") (decimal train ∷ []) (said_are_words (Leave train) fits)
 said_is_text (GiveBack train end) fits = text_of_joined (codes "yield") (decimal train ∷ decimal end ∷ []) (said_are_words (GiveBack train end) fits)
 said_is_text (Ask train) fits = text_of_joined (codes "ask") (decimal train ∷ []) (said_are_words (Ask train) fits)
+said_is_text (Inquire State) fits = refl
+said_is_text (Inquire Scene) fits = refl
 
 abbrev after_words : Result (Option (List (List ℕ))) LineFault → Result SessionLine LineFault
 after_words found = found >>= (λ words. option_map_or words_line words (Ok Blank))
@@ -231,6 +237,8 @@ said_line_read (GiveBack train end) fits =
 said_line_read (Ask train) fits =
     ap after_words (request_words-joined (codes "ask") (decimal train ∷ []) (said_are_words (Ask train) fits) refl (lit≤ tt))
     ∙ ap (line_in Ask) (allowed-decimal 1 LAST_TRAIN train (Number 2) fits.0 fits.1 (lit< tt))
+said_line_read (Inquire State) fits = refl
+said_line_read (Inquire Scene) fits = refl
 
 -- ---- what is read of a line can be said
 
@@ -354,21 +362,28 @@ gave_back (train ∷ end ∷ []) said h =
     give_back_fits (train_at 2 train) (number_at 3 0 FARTHEST_KEPT end) said (in_range 1 LAST_TRAIN (Number 2) (number_in train)) (in_range 0 FARTHEST_KEPT (Number 3) (number_in end)) h
 gave_back (train ∷ end ∷ other ∷ more) said h = absurd (no_line Words said h)
 
-by_command : (words : List (List ℕ)) (a b c d e f : Bool) (said : SessionLine)
-    → cond a (line_in Report (report_in words)) (cond b (line_in Lock (name_in words)) (cond c (line_in Free (name_in words)) (cond d (line_in Leave (train_in words)) (cond e (give_back_in words) (cond f (line_in Ask (train_in words)) (Err Command)))))) ≡ Ok said
+inquired : (inquiry : Inquiry) (words : List (List ℕ)) (said : SessionLine) → inquiry_in inquiry words ≡ Ok said → IsSayable said
+inquired inquiry [] said h = subst IsSayable (the_said (Inquire inquiry) said h) tt
+inquired inquiry (word ∷ more) said h = absurd (no_line Words said h)
+
+by_command : (words : List (List ℕ)) (a b c d e f g i : Bool) (said : SessionLine)
+    → cond a (line_in Report (report_in words)) (cond b (line_in Lock (name_in words)) (cond c (line_in Free (name_in words)) (cond d (line_in Leave (train_in words)) (cond e (give_back_in words) (cond f (line_in Ask (train_in words)) (cond g (inquiry_in State words) (cond i (inquiry_in Scene words) (Err Command)))))))) ≡ Ok said
     → IsSayable said
-by_command words true b c d e f said h = in_line Report (report_in words) said (reported words) h
-by_command words false true c d e f said h = in_line Lock (name_in words) said (named words) h
-by_command words false false true d e f said h = in_line Free (name_in words) said (named words) h
-by_command words false false false true e f said h = in_line Leave (train_in words) said (numbered words) h
-by_command words false false false false true f said h = gave_back words said h
-by_command words false false false false false true said h = in_line Ask (train_in words) said (numbered words) h
-by_command words false false false false false false said h = absurd (no_line Command said h)
+by_command words true b c d e f g i said h = in_line Report (report_in words) said (reported words) h
+by_command words false true c d e f g i said h = in_line Lock (name_in words) said (named words) h
+by_command words false false true d e f g i said h = in_line Free (name_in words) said (named words) h
+by_command words false false false true e f g i said h = in_line Leave (train_in words) said (numbered words) h
+by_command words false false false false true f g i said h = gave_back words said h
+by_command words false false false false false true g i said h = in_line Ask (train_in words) said (numbered words) h
+by_command words false false false false false false true i said h = inquired State words said h
+by_command words false false false false false false false true said h = inquired Scene words said h
+by_command words false false false false false false false false said h = absurd (no_line Command said h)
 
 worded : (words : List (List ℕ)) (said : SessionLine) → words_line words ≡ Ok said → IsSayable said
 worded [] said h = subst IsSayable (the_said Blank said h) tt
 worded (command ∷ words) said h =
-    by_command words (bytes_eq command (codes "report")) (bytes_eq command (codes "lock")) (bytes_eq command (codes "free")) (bytes_eq command (codes "leave")) (bytes_eq command (codes "yield")) (bytes_eq command (codes "ask")) said h
+    by_command words (bytes_eq command (codes "report")) (bytes_eq command (codes "lock")) (bytes_eq command (codes "free")) (bytes_eq command (codes "leave")) (bytes_eq command (codes "yield")) (bytes_eq command (codes "ask"))
+    (bytes_eq command (codes "state")) (bytes_eq command (codes "scene")) said h
 
 pub read_is_sayable : (line : List ℕ) (said : SessionLine) → parse_session line ≡ Ok said → IsSayable said
 read_is_sayable line said h =

@@ -4,6 +4,8 @@ use Rattle.std.specs.List.{before_first, after_first, join_with_byte}
 use Rattle.rbc_model.specs.declared.limits.TheConstants.{LAST_COUNTRY, LAST_GROUP, LAST_TRAIN, FARTHEST_REPORT, FARTHEST_KEPT, MOST_DOUBT, LONGEST_TRAIN, LAST_TIME}
 use Rattle.rbc_model.specs.declared.refusals.LineFault.{LineFault}
 use Rattle.rbc_model.specs.declared.refusals.LineFault.TheVariants.{Command, Words, Name}
+use Rattle.rbc_model.specs.declared.sessions.Inquiry.{Inquiry}
+use Rattle.rbc_model.specs.declared.sessions.Inquiry.TheVariants.{State, Scene}
 use Rattle.rbc_model.specs.Results.{is_from_to, allowed_value, ◌>>=◌}
 use Rattle.rbc_model.specs.GroupNames.{GroupName}
 use Rattle.rbc_model.specs.Reports.{IsReport, Report as TrainReport}
@@ -22,6 +24,7 @@ pub data SessionLine : Type 0 where
   Leave : ℕ → SessionLine
   GiveBack : ℕ → ℕ → SessionLine
   Ask : ℕ → SessionLine
+  Inquire : Inquiry → SessionLine
 
 -- ---- single words
 
@@ -85,6 +88,11 @@ name_in words = only_word words >>= name_at 2
 abbrev pub train_in : List (List ℕ) → Result ℕ LineFault
 train_in words = only_word words >>= train_at 2
 
+-- behind a command that asks to be shown something there is no word
+abbrev pub inquiry_in : Inquiry → List (List ℕ) → Result SessionLine LineFault
+inquiry_in inquiry [] = Ok (Inquire inquiry)
+inquiry_in inquiry _ = Err Words
+
 -- the words of a line
 abbrev pub words_line : List (List ℕ) → Result SessionLine LineFault
 words_line [] = Ok Blank
@@ -95,6 +103,8 @@ words_line (command ∷ words) =
     else if bytes_eq command (codes "leave") then line_in Leave (train_in words)
     else if bytes_eq command (codes "yield") then give_back_in words
     else if bytes_eq command (codes "ask") then line_in Ask (train_in words)
+    else if bytes_eq command (codes "state") then inquiry_in State words
+    else if bytes_eq command (codes "scene") then inquiry_in Scene words
     else Err Command
 
 -- what the bytes of a line say, without its line feed
@@ -111,6 +121,11 @@ group_word group = decimal group.country ++ 47 ∷ decimal group.number
 abbrev pub nominal_word : Bool → List ℕ
 nominal_word true = codes "nominal"
 nominal_word false = codes "reverse"
+
+-- what is asked to be shown, as a word
+abbrev pub inquiry_word : Inquiry → List ℕ
+inquiry_word State = codes "state"
+inquiry_word Scene = codes "scene"
 
 -- the words of a request; a line without a reply has none
 abbrev pub said_words : SessionLine → List (List ℕ)
@@ -131,6 +146,7 @@ said_words (Free name) = codes "free" ∷ name ∷ []
 said_words (Leave train) = codes "leave" ∷ decimal train ∷ []
 said_words (GiveBack train end) = codes "yield" ∷ decimal train ∷ decimal end ∷ []
 said_words (Ask train) = codes "ask" ∷ decimal train ∷ []
+said_words (Inquire inquiry) = inquiry_word inquiry ∷ []
 
 -- a request as a line, without its line feed
 abbrev pub said_line : SessionLine → List ℕ
@@ -149,3 +165,4 @@ IsSayable (Free name) = IsTrue (is_name name)
 IsSayable (Leave train) = IsTrainNumber train
 IsSayable (GiveBack train end) = IsTrainNumber train × (end ≤ FARTHEST_KEPT)
 IsSayable (Ask train) = IsTrainNumber train
+IsSayable (Inquire inquiry) = Unit {0}

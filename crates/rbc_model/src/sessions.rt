@@ -1,10 +1,19 @@
-//! How a session over lines of text ends.
+//! What a session shows on request, and how it ends.
 
 ghost use Rattle.std.specs.Prelude.{◌≡◌};
 ghost use Rattle.rbc_model.specs.declared.sessions.SessionFault.TheVariants.{Memory as NoMemory};
 
 use crate::Memory;
 use thiserror::Error;
+
+/// What a line of a session asks to be shown. Nothing is entered for it.
+#[derive(Clone, Copy, Debug, PartialEq, Eq)]
+pub enum Inquiry {
+    /// How far the history is: its version, how many trains there are, and how many sections are locked.
+    State,
+    /// The scene, as lines.
+    Scene,
+}
 
 /// Why a session over lines of text ends before the end of its input. `Memory` comes before anything is read. Then, for
 /// each line in order, come `Read`, `Write` and `Overlong`, and after the last line that is treated `Read` and `Lines`.

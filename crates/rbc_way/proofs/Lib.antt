@@ -3,3 +3,4 @@ pub mod StretchLemmas
 pub mod StopOnLegLemmas
 pub mod WayLemmas
 pub mod EndLemmas
+mod BehindLemmas

@@ -160,7 +160,8 @@ fn free_of(train: &Train, begin: u32, metres: u32) -> u32
     }
 }
 
-/// The first obstacle on a leg of the train's way, if there is one before the leg's end.
+/// The first obstacle on a leg of the train's way, if there is one before the leg's end. Where the search begins behind the
+/// leg there is none, and nothing else is looked at.
 pub(crate) fn stop_on(
     alloc: Global,
     locks: &Locks,
@@ -178,6 +179,10 @@ pub(crate) fn stop_on(
 {
     let leg = &way_leg.leg;
     let metres = train.line().track().metres_of(leg);
+    let first = train.start().saturating_sub(way_leg.begin);
+    if first >= metres {
+        return Ok(None);
+    }
     let locked = is_locked(locks, way_leg.before, *leg);
     let others = row_of(alloc, book, train.id(), leg.section)?;
     book.known();
@@ -187,7 +192,6 @@ pub(crate) fn stop_on(
         locked,
         stretches: others.as_slice(),
     };
-    let first = train.start().saturating_sub(way_leg.begin);
     let free = free_of(train, way_leg.begin, metres);
     let clear = met.clear_of(first, free);
     if clear < metres {

@@ -5,6 +5,7 @@ use Rattle.rbc_model.specs.Tracks.{Track}
 use Rattle.rbc_scene_laws.specs.Good.{IsGoodTrain}
 use Rattle.rbc_way.specs.Reaches.{scene_of}
 use Rattle.rbc_way.specs.Stretches.{but, stretches_in, stretches_of}
+use Rattle.rbc_way.proofs.BehindLemmas.{nothing_behind}
 use Rattle.rbc_way.proofs.StopOnLegLemmas.{found_on_leg, none_on_leg}
 use Rattle.rbc_way.proofs.leg_search.stop_on.Goals as goal
 use Rattle.rbc_way.proofs.leg_search.stop_on.Goals.{After-known}
@@ -17,6 +18,11 @@ row c =
     c.in_ok-others.ensures
     ∙ ap (λ n. stretches_of c.args.book.now.track (but n c.args.book.now.trains) c.args.way_leg.now.leg.section) c.id.ensures
     ∙ ap (λ (t : Track). stretches_of t (others (scene_of c.args.locks.now c.args.book.now.trains) c.args.train.now.train) c.args.way_leg.now.leg.section) (sym c.requires.track)
+
+pub returns-then-first-metres-clause-found : goal.returns-then-first-metres-clause-found
+returns-then-first-metres-clause-found c rest =
+    nothing_behind c.args.train.now.track (scene_of c.args.locks.now c.args.book.now.trains) c.args.train.now.train c.args.way_leg.now.before c.args.way_leg.now.begin c.args.way_leg.now.leg
+    c.metres_of-metres.result c.saturating_sub-first.result rest (grind arith) (grind arith) c.if-first-metres.true
 
 pub returns-then-clear-metres-clause-found : goal.returns-then-clear-metres-clause-found
 returns-then-clear-metres-clause-found c rest =
