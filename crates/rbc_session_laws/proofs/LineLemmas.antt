@@ -6,6 +6,7 @@ use Rattle.rbc_model.specs.declared.refusals.Refusal.{Refusal}
 use Rattle.rbc_model.specs.declared.refusals.ViewFault.{ViewFault}
 use Rattle.rbc_model.specs.declared.refusals.ViewFault.TheVariants.{UnknownTrain, Blocked}
 use Rattle.rbc_model.specs.declared.reports.Told.{Told}
+use Rattle.rbc_model.specs.declared.sessions.Inquiry.TheVariants.{State as AskedState, Scene as AskedScene}
 use Rattle.rbc_model.specs.declared.reports.Event.TheVariants.{Tell}
 use Rattle.rbc_model.specs.Tracks.{Track}
 use Rattle.rbc_model.specs.SoundTracks.{IsInForm}
@@ -15,7 +16,7 @@ use Rattle.rbc_model.specs.Views.{View, view}
 use Rattle.rbc_model.specs.Histories.{Entry, Granted, Grants, is_full, replay}
 use Rattle.rbc_model.specs.SessionReply.{SessionRefusal, BadEvent, Full, Memory, accepted_reply, grant_reply, refused_reply}
 use Rattle.rbc_session_laws.specs.declared.demand.Demand.{Demand}
-use Rattle.rbc_session_laws.specs.declared.demand.Demand.TheVariants.{Nothing, Event, Authority}
+use Rattle.rbc_session_laws.specs.declared.demand.Demand.TheVariants.{Nothing, Event, Authority, Show}
 use Rattle.rbc_session_laws.specs.Demands.{demand_in}
 use Rattle.rbc_session_laws.specs.Turns.{IsRefused, IsGivenUp, IsToldInVain, IsAccepted, IsGranted, AnswersAsker, AnswersDemand, AnswersLine}
 use Rattle.rbc_session_laws.specs.Answers.{Answer, refused, told_answer, grant_answer, asker_answer, demand_answer, line_answer, grant_of, speed_prices_of, grade_prices_of}
@@ -68,6 +69,9 @@ module _ (track : Track) (before : List Entry) (reply : List ℕ) (added : Optio
   demanded (Ok Nothing) h = h
   demanded (Ok (Event told)) h = told_by told (is_full before) (step track (replay track before) (Tell told)) h
   demanded (Ok (Authority train)) h = asker train (view track (replay track before) train) refl h
+  demanded (Ok (Show AskedState)) h = h
+  demanded (Ok (Show AskedScene)) (inl h) = h
+  demanded (Ok (Show AskedScene)) (inr h) = never h
   demanded (Err refusal) h = h
 
 pub lines_are_answered : LinesAreAnswered
@@ -105,6 +109,9 @@ module _ (track : Track) (before : List Entry) (reply : List ℕ) (added : Optio
   none_demanded (Ok Nothing) h = h.1
   none_demanded (Ok (Event told)) h = none_told told (is_full before) (step track (replay track before) (Tell told)) h
   none_demanded (Ok (Authority train)) h = none_by_view train (view track (replay track before) train) h
+  none_demanded (Ok (Show AskedState)) h = h.1
+  none_demanded (Ok (Show AskedScene)) (inl h) = h.1
+  none_demanded (Ok (Show AskedScene)) (inr h) = h.1
   none_demanded (Err refusal) h = h.1
 
 pub given_up_adds_none : (track : Track) (before : List Entry) (line reply : List ℕ) (added : Option Entry) → AnswersLine track before line reply added

@@ -15,11 +15,11 @@ use Rattle.rbc_model.specs.Tracks.{Track, section_named, route_named}
 use Rattle.rbc_model.specs.Events.{step}
 use Rattle.rbc_model.specs.Views.{View, view}
 use Rattle.rbc_model.specs.Histories.{Entry, Granted, is_full, replay}
-use Rattle.rbc_model.specs.SessionText.{SessionLine, Blank, Report, Lock, Free, Leave, GiveBack, Ask, parse_session}
+use Rattle.rbc_model.specs.SessionText.{SessionLine, Blank, Report, Lock, Free, Leave, GiveBack, Ask, Inquire, parse_session}
 use Rattle.rbc_model.specs.SessionReply.{SessionRefusal, BadLine, UnknownName}
 use Rattle.rbc_model.specs.HistoryText.{entry_line}
 use Rattle.rbc_session_laws.specs.declared.demand.Demand.{Demand}
-use Rattle.rbc_session_laws.specs.declared.demand.Demand.TheVariants.{Nothing, Event, Authority}
+use Rattle.rbc_session_laws.specs.declared.demand.Demand.TheVariants.{Nothing, Event, Authority, Show}
 use Rattle.rbc_session_laws.specs.Demands.{known, looked_up, demand_in, IsDemandOfTrack}
 use Rattle.rbc_session_laws.specs.Answers.{asker_answer, demand_answer, line_answer, grant_of}
 use Rattle.rbc_session_laws.specs.Retelling.{IsEntryOfTrack, RetoldEntriesAreOfTrack}
@@ -47,6 +47,7 @@ looked_up_there track (Free name) demand h = by_place (section_named track name)
 looked_up_there track (Leave train) demand h = subst (IsDemandOfTrack track) (the_demand (Event (ToldLeave train)) demand h) tt
 looked_up_there track (GiveBack train end) demand h = subst (IsDemandOfTrack track) (the_demand (Event (ToldGiveBack train end)) demand h) tt
 looked_up_there track (Ask train) demand h = subst (IsDemandOfTrack track) (the_demand (Authority train) demand h) tt
+looked_up_there track (Inquire inquiry) demand h = subst (IsDemandOfTrack track) (the_demand (Show inquiry) demand h) tt
 
 read_there : (track : Track) (read : Result SessionLine LineFault) (demand : Demand) → (result_map_both (λ said. said) BadLine read >>= looked_up track) ≡ Ok demand
     → IsDemandOfTrack track demand
@@ -69,6 +70,7 @@ module _ (track : Track) (before : List Entry) (entry : Entry) where
       subst (IsEntryOfTrack track) (told_entry track before entry told (is_full before) (step track (replay track before) (Tell told)) h)
       (read_there track (parse_session line) (Event told) e)
   of_demand line (Ok (Authority train)) e h = of_asker train (view track (replay track before) train) h
+  of_demand line (Ok (Show inquiry)) e h = absurd (none-some entry h)
   of_demand line (Err refusal) e h = absurd (none-some entry h)
 
   of_line : (line : List ℕ) → (line_answer track before line).added ≡ Some entry → IsEntryOfTrack track entry

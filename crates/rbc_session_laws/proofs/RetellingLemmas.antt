@@ -23,14 +23,14 @@ use Rattle.rbc_model.specs.Scenes.{Scene}
 use Rattle.rbc_model.specs.Events.{step}
 use Rattle.rbc_model.specs.Views.{View, view}
 use Rattle.rbc_model.specs.Histories.{Entry, Heard, Granted, is_full, replay}
-use Rattle.rbc_model.specs.SessionText.{SessionLine, Blank, Report, Lock, Free, Leave, GiveBack, Ask, parse_session, IsSayable}
+use Rattle.rbc_model.specs.SessionText.{SessionLine, Blank, Report, Lock, Free, Leave, GiveBack, Ask, Inquire, parse_session, IsSayable}
 use Rattle.rbc_model.specs.SessionReply.{SessionRefusal, BadLine, UnknownName, Full}
 use Rattle.rbc_model.specs.HistoryText.{told_request, entry_request, entry_line, history_text}
 use Rattle.rbc_model.proofs.CountingLemmas.{both_of}
 use Rattle.rbc_model.proofs.SaidLineLemmas.{said_is_text, said_line_read, read_is_sayable}
 use Rattle.rbc_grant_laws.proofs.CandidateLemmas.{view-train}
 use Rattle.rbc_session_laws.specs.declared.demand.Demand.{Demand}
-use Rattle.rbc_session_laws.specs.declared.demand.Demand.TheVariants.{Nothing, Event, Authority}
+use Rattle.rbc_session_laws.specs.declared.demand.Demand.TheVariants.{Nothing, Event, Authority, Show}
 use Rattle.rbc_session_laws.specs.Demands.{known, looked_up, demand_in}
 use Rattle.rbc_session_laws.specs.SessionRuns.{Turn, entries_of, entries_added, lines_treated}
 use Rattle.rbc_session_laws.specs.Answers.{refused, told_answer, grant_answer, asker_answer, demand_answer, line_answer, grant_of, turns_of}
@@ -86,6 +86,7 @@ abbrev demand_request : Track → Demand → SessionLine
 demand_request track Nothing = Blank
 demand_request track (Event told) = told_request track told
 demand_request track (Authority train) = Ask train
+demand_request track (Show inquiry) = Inquire inquiry
 
 pub the_demand : (a b : Demand) → (let r : Result Demand SessionRefusal = Ok a in r) ≡ Ok b → a ≡ b
 the_demand a b e = cc
@@ -109,6 +110,7 @@ looked_back track (Free name) demand h = by_place (section_named track name) ref
 looked_back track (Leave train) demand h = ap (demand_request track) (sym (the_demand (Event (ToldLeave train)) demand h))
 looked_back track (GiveBack train end) demand h = ap (demand_request track) (sym (the_demand (Event (ToldGiveBack train end)) demand h))
 looked_back track (Ask train) demand h = ap (demand_request track) (sym (the_demand (Authority train) demand h))
+looked_back track (Inquire inquiry) demand h = ap (demand_request track) (sym (the_demand (Show inquiry) demand h))
 
 -- a line that says what leads to an entry
 record Leads (track : Track) (line : List ℕ) (entry : Entry) : Type 0 where
@@ -150,6 +152,7 @@ module _ (track : Track) (before : List Entry) (entry : Entry) where
       (ap (entry_request track) (sym (told_entry told (is_full before) (step track (replay track before) (Tell told)) h)))
   demanded_entry line (Ok (Authority train)) e h =
       leads_by track line entry (Authority train) (parse_session line) refl e (asked_entry train (view track (replay track before) train) refl h)
+  demanded_entry line (Ok (Show inquiry)) e h = absurd (none-some entry h)
   demanded_entry line (Err refusal) e h = absurd (none-some entry h)
 
   leads : (line : List ℕ) → (line_answer track before line).added ≡ Some entry → Leads track line entry

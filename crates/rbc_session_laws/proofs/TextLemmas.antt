@@ -1,5 +1,5 @@
 -- The lines of what a session writes are those of its replies, so each reply that says that memory was refused is seen in what was written.
-use Rattle.std.proofs.Common.{◌≡◌, ◌≢◌, ℕ, ◌+◌, Bool, true, false, cond, List, [], ◌∷◌, ◌++◌, length, Option, Result, Ok, Err, ◌⊎◌, inl, inr, refl, ap, sym, ◌∙◌, subst, append_assoc}
+use Rattle.std.proofs.Common.{◌≡◌, ◌≢◌, ℕ, ◌+◌, Bool, true, false, cond, List, [], ◌∷◌, ◌++◌, length, Option, Result, Ok, Err, ◌⊎◌, inl, inr, refl, ap, sym, ◌∙◌, subst, append_assoc, append-nil}
 use Rattle.std.specs.Prelude.{MatchBool, MatchResult, ◌==◌, codes, decimal}
 use Rattle.std.specs.Fmt.{signed_decimal}
 use Rattle.std.specs.List.{AllByRecursion, join_with_byte}
@@ -8,6 +8,8 @@ use Rattle.rbc_model.specs.declared.refusals.Refusal.TheVariants.{UnknownTrain a
 use Rattle.rbc_model.specs.declared.refusals.ViewFault.{ViewFault}
 use Rattle.rbc_model.specs.declared.refusals.ViewFault.TheVariants.{UnknownTrain, Blocked}
 use Rattle.rbc_model.specs.declared.reports.Told.{Told}
+use Rattle.rbc_model.specs.declared.sessions.Inquiry.{Inquiry}
+use Rattle.rbc_model.specs.declared.sessions.Inquiry.TheVariants.{State as AskedState, Scene as AskedScene}
 use Rattle.rbc_model.specs.declared.reports.Event.TheVariants.{Tell}
 use Rattle.rbc_model.specs.Tracks.{Track}
 use Rattle.rbc_model.specs.Scenes.{Scene}
@@ -16,14 +18,17 @@ use Rattle.rbc_model.specs.Views.{View, view}
 use Rattle.rbc_model.specs.Histories.{Entry, Grants, is_full, replay}
 use Rattle.rbc_model.specs.Sessions.{lines_of, with_front}
 use Rattle.rbc_model.specs.Words.{line_of, hex_of}
+use Rattle.rbc_model.specs.Rows.{Row, rows_text}
+use Rattle.rbc_model.specs.Inquiries.{locked_count}
+use Rattle.rbc_model.specs.SceneLines.{scene_body}
 use Rattle.rbc_model.specs.Kinds.{speed_kind, grade_kind}
 use Rattle.rbc_model.specs.Messages.{message_bytes}
 use Rattle.rbc_model.specs.StepsReply.{certificate}
 use Rattle.rbc_model.specs.SessionReply.{SessionRefusal, BadEvent, Full, Memory, refusal_words, grant_reply, obstacle_words, refused_reply}
 use Rattle.rbc_session_laws.specs.declared.demand.Demand.{Demand}
-use Rattle.rbc_session_laws.specs.declared.demand.Demand.TheVariants.{Nothing, Event, Authority}
+use Rattle.rbc_session_laws.specs.declared.demand.Demand.TheVariants.{Nothing, Event, Authority, Show}
 use Rattle.rbc_session_laws.specs.Demands.{demand_in}
-use Rattle.rbc_session_laws.specs.Turns.{IsRefused, IsToldInVain, IsAccepted, IsGranted, AnswersAsker, AnswersDemand, AnswersLine}
+use Rattle.rbc_session_laws.specs.Turns.{IsRefused, IsToldInVain, IsAccepted, IsGranted, IsShown, AnswersAsker, AnswersDemand, AnswersInquiry, AnswersLine}
 
 -- ---- the lines of two texts
 
@@ -82,6 +87,15 @@ all_of_both (x ∷ xs) ys h = let rest = all_of_both xs ys h.1 in ((h.0, rest.0)
 pub line_ends : (words : List (List ℕ)) → EndsLine (line_of words)
 line_ends words = record { front = join_with_byte 32 words; is = refl }
 
+-- rows of text are whole lines
+pub rows_whole : (rows : List Row) → IsWhole (rows_text rows)
+rows_whole [] = inl refl
+rows_whole (row ∷ rows) = inr (behind (rows_text rows) (rows_whole rows))
+  where
+    behind : (rest : List ℕ) → IsWhole rest → EndsLine (line_of row ++ rest)
+    behind rest (inl e) = subst (λ text. EndsLine (line_of row ++ text)) (sym e) (subst EndsLine (sym (append-nil (line_of row))) (line_ends row))
+    behind rest (inr e) = ends_behind (line_of row) rest e
+
 module _ (track : Track) (before : List Entry) (reply : List ℕ) (added : Option Entry) where
   ends : (text : List ℕ) → EndsLine text → reply ≡ text → IsWhole reply
   ends text e same = inr (subst EndsLine (sym same) e)
@@ -123,10 +137,25 @@ module _ (track : Track) (before : List Entry) (reply : List ℕ) (added : Optio
   asker_whole train (Err (Blocked obstacle at)) (inr h) = refused_whole Memory h
   asker_whole train (Err UnknownTrain) h = refused_whole (BadEvent (NoSuchTrain train)) h
 
+  shown_whole : (inquiry : Inquiry) → IsShown track before reply added inquiry → IsWhole reply
+  shown_whole AskedState h =
+      let scene = replay track before in
+      let words = codes "state" ∷ decimal (length before) ∷ decimal (length scene.trains) ∷ decimal (locked_count scene.locks) ∷ [] in
+      ends (line_of words) (line_ends words) h.0
+  shown_whole AskedScene h =
+      let scene = replay track before in
+      subst IsWhole (sym h.0) (rows_whole ((codes "scene" ∷ decimal (length before) ∷ []) ∷ (scene_body track scene ++ (codes "done" ∷ []) ∷ [])))
+
+  inquiry_whole : (inquiry : Inquiry) → AnswersInquiry track before reply added inquiry → IsWhole reply
+  inquiry_whole AskedState h = shown_whole AskedState h
+  inquiry_whole AskedScene (inl h) = shown_whole AskedScene h
+  inquiry_whole AskedScene (inr h) = refused_whole Memory h
+
   demand_whole : (demand : Result Demand SessionRefusal) → AnswersDemand track before reply added demand → IsWhole reply
   demand_whole (Ok Nothing) h = inl h.0
   demand_whole (Ok (Event told)) h = told_whole told (is_full before) (step track (replay track before) (Tell told)) h
   demand_whole (Ok (Authority train)) h = asker_whole train (view track (replay track before) train) h
+  demand_whole (Ok (Show inquiry)) h = inquiry_whole inquiry h
   demand_whole (Err refusal) h = refused_whole refusal h
 
 pub reply_whole : (track : Track) (before : List Entry) (line reply : List ℕ) (added : Option Entry) → AnswersLine track before line reply added → IsWhole reply

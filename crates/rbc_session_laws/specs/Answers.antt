@@ -6,6 +6,7 @@ use Rattle.rbc_model.specs.declared.refusals.ViewFault.{ViewFault}
 use Rattle.rbc_model.specs.declared.refusals.ViewFault.TheVariants.{UnknownTrain, Blocked}
 use Rattle.rbc_model.specs.declared.reports.Told.{Told}
 use Rattle.rbc_model.specs.declared.reports.Event.TheVariants.{Tell}
+use Rattle.rbc_model.specs.Inquiries.{inquiry_reply}
 use Rattle.rbc_model.specs.Levels.{speed_levels, grade_levels}
 use Rattle.rbc_model.specs.Scales.{unit_of}
 use Rattle.rbc_model.specs.Sessions.{lines_of}
@@ -17,7 +18,7 @@ use Rattle.rbc_model.specs.Histories.{Entry, Heard, Granted, Grants, is_full, re
 use Rattle.rbc_model.specs.SessionReply.{SessionRefusal, BadEvent, Full, accepted_reply, grant_reply, blocked_reply, refused_reply}
 use Rattle.rbc_table_laws.specs.LeastTables.{greatest_prices, chosen_steps}
 use Rattle.rbc_session_laws.specs.declared.demand.Demand.{Demand}
-use Rattle.rbc_session_laws.specs.declared.demand.Demand.TheVariants.{Nothing, Event, Authority}
+use Rattle.rbc_session_laws.specs.declared.demand.Demand.TheVariants.{Nothing, Event, Authority, Show}
 use Rattle.rbc_session_laws.specs.Demands.{demand_in}
 use Rattle.rbc_session_laws.specs.SessionRuns.{Turn, entries_of, entries_added, replies_to}
 
@@ -88,6 +89,7 @@ module _ (track : Track) (before : List Entry) where
   demand_answer (Ok Nothing) = record { reply = []; added = None }
   demand_answer (Ok (Event told)) = event_answer told
   demand_answer (Ok (Authority train)) = asker_answer train (view track (replay track before) train)
+  demand_answer (Ok (Show inquiry)) = record { reply = inquiry_reply track (length before) (replay track before) inquiry; added = None }
   demand_answer (Err refusal) = refused refusal
 
   -- and to a line

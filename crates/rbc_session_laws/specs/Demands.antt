@@ -5,11 +5,11 @@ use Rattle.rbc_model.specs.declared.reports.Told.TheVariants.{Report as ToldRepo
 use Rattle.rbc_model.specs.Results.{◌>>=◌}
 use Rattle.rbc_model.specs.RequestText.{line_in}
 use Rattle.rbc_model.specs.Tracks.{Track, section_named, route_named}
-use Rattle.rbc_model.specs.SessionText.{SessionLine, Blank, Report, Lock, Free, Leave, GiveBack, Ask, parse_session}
+use Rattle.rbc_model.specs.SessionText.{SessionLine, Blank, Report, Lock, Free, Leave, GiveBack, Ask, Inquire, parse_session}
 use Rattle.rbc_model.specs.SessionReply.{SessionRefusal, BadLine, UnknownName}
 use Rattle.rbc_model.specs.HistoryText.{IsToldOfTrack}
 use Rattle.rbc_session_laws.specs.declared.demand.Demand.{Demand}
-use Rattle.rbc_session_laws.specs.declared.demand.Demand.TheVariants.{Nothing, Event, Authority}
+use Rattle.rbc_session_laws.specs.declared.demand.Demand.TheVariants.{Nothing, Event, Authority, Show}
 
 -- what the track has by this name, as its number there
 abbrev pub known : List ℕ → Option ℕ → Result ℕ SessionRefusal
@@ -25,6 +25,7 @@ looked_up track (Free name) = line_in (λ section. Event (ToldFree section)) (kn
 looked_up track (Leave train) = Ok (Event (ToldLeave train))
 looked_up track (GiveBack train end) = Ok (Event (ToldGiveBack train end))
 looked_up track (Ask train) = Ok (Authority train)
+looked_up track (Inquire inquiry) = Ok (Show inquiry)
 
 -- what the bytes of a line ask for, or why they ask for nothing: they are no request, or the track has not the name
 abbrev pub demand_in : Track → List ℕ → Result Demand SessionRefusal

@@ -8,6 +8,9 @@ use Rattle.rbc_model.specs.declared.refusals.Refusal.TheVariants.{UnknownTrain a
 use Rattle.rbc_model.specs.declared.reports.Told.{Told}
 use Rattle.rbc_model.specs.declared.reports.Told.TheVariants.{Report}
 use Rattle.rbc_model.specs.declared.reports.Event.TheVariants.{Tell}
+use Rattle.rbc_model.specs.declared.sessions.Inquiry.{Inquiry}
+use Rattle.rbc_model.specs.declared.sessions.Inquiry.TheVariants.{State as AskedState, Scene as AskedScene}
+use Rattle.rbc_model.specs.Inquiries.{inquiry_reply}
 use Rattle.rbc_model.specs.Levels.{speed_levels, grade_levels}
 use Rattle.rbc_model.specs.Profiles.{IsChosenProfile, value_at}
 use Rattle.rbc_model.specs.PriceTables.{IsGreatestSoundTable}
@@ -21,7 +24,7 @@ use Rattle.rbc_model.specs.Views.{View, view}
 use Rattle.rbc_model.specs.Histories.{Entry, Heard, Granted, Grants, IsBest, is_full, replay}
 use Rattle.rbc_model.specs.SessionReply.{SessionRefusal, BadEvent, Full, Memory, accepted_reply, grant_reply, blocked_reply, refused_reply}
 use Rattle.rbc_session_laws.specs.declared.demand.Demand.{Demand}
-use Rattle.rbc_session_laws.specs.declared.demand.Demand.TheVariants.{Nothing, Event, Authority}
+use Rattle.rbc_session_laws.specs.declared.demand.Demand.TheVariants.{Nothing, Event, Authority, Show}
 use Rattle.rbc_session_laws.specs.Demands.{demand_in}
 
 -- ---- what a train is granted
@@ -91,11 +94,21 @@ module _ (track : Track) (before : List Entry) (reply : List ℕ) (added : Optio
   abbrev pub AnswersAuthority : ℕ → Type 0
   AnswersAuthority train = AnswersAsker train (view track (replay track before) train)
 
+  -- what is asked to be shown is shown, as it is after the entries
+  abbrev pub IsShown : Inquiry → Type 0
+  IsShown inquiry = (reply ≡ inquiry_reply track (length before) (replay track before) inquiry) × (added ≡ None)
+
+  -- only for a scene may memory be refused
+  abbrev pub AnswersInquiry : Inquiry → Type 0
+  AnswersInquiry AskedState = IsShown AskedState
+  AnswersInquiry AskedScene = IsShown AskedScene ⊎ IsGivenUp
+
   -- what is asked for
   abbrev pub AnswersDemand : Result Demand SessionRefusal → Type 0
   AnswersDemand (Ok Nothing) = (reply ≡ []) × (added ≡ None)
   AnswersDemand (Ok (Event told)) = AnswersEvent told
   AnswersDemand (Ok (Authority train)) = AnswersAuthority train
+  AnswersDemand (Ok (Show inquiry)) = AnswersInquiry inquiry
   AnswersDemand (Err refusal) = IsRefused refusal
 
 -- After these entries the line is answered by this reply, and adds this entry, or none.

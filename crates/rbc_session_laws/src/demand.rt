@@ -1,6 +1,6 @@
 //! What a line of a session asks the centre for.
 
-use rbc_model::Told;
+use rbc_model::{Inquiry, Told};
 
 /// What a line asks for, its names looked up in the track.
 #[derive(Clone, Copy, Debug, PartialEq, Eq)]
@@ -11,4 +11,6 @@ pub enum Demand {
     Event(Told),
     /// The train of this number asks for an authority.
     Authority(u32),
+    /// Something is to be shown. Nothing is entered for it.
+    Show(Inquiry),
 }
