@@ -205,6 +205,8 @@ Requests, one a line:
   leave T                                  Train T leaves
   yield T END                              Train T gives back its authority from END m past its group on
   ask T                                    Train T asks for an authority
+  state                                    Shows the version, and how many trains and locked sections there are
+  scene                                    Shows the locked sections and the trains, and what each would be granted
 
 Example:
   rbc run station.toml --journal day.journal < morning.txt
@@ -226,6 +228,8 @@ Requests, one a line:
   leave T                                  Train T leaves
   yield T END                              Train T gives back its authority from END m past its group on
   ask T                                    Train T asks for an authority
+  state                                    Shows the version, and how many trains and locked sections there are
+  scene                                    Shows the locked sections and the trains, and what each would be granted
 
 Example:
   rbc serve station.toml --port 7001 --connections 2 --workers 2 --patience 60 --journal day.journal

@@ -8,6 +8,7 @@ use Rattle.rbc_model.specs.declared.refusals.Refusal.{Refusal}
 use Rattle.rbc_model.specs.declared.refusals.ViewFault.{ViewFault}
 use Rattle.rbc_model.specs.declared.refusals.ViewFault.TheVariants.{UnknownTrain, Blocked}
 use Rattle.rbc_model.specs.declared.reports.Told.{Told}
+use Rattle.rbc_model.specs.declared.sessions.Inquiry.{Inquiry}
 use Rattle.rbc_model.specs.declared.reports.Event.TheVariants.{Tell}
 use Rattle.rbc_model.specs.Tracks.{Track}
 use Rattle.rbc_model.specs.SoundTracks.{IsInForm}
@@ -20,7 +21,7 @@ use Rattle.rbc_server.proofs.CentreLemmas.{line_comes}
 use Rattle.rbc_server.specs.Changes.{Comes}
 use Rattle.rbc_server.specs.Records.{HistoryOnTrack, with_entry}
 use Rattle.rbc_session_laws.specs.declared.demand.Demand.{Demand}
-use Rattle.rbc_session_laws.specs.declared.demand.Demand.TheVariants.{Nothing, Event, Authority}
+use Rattle.rbc_session_laws.specs.declared.demand.Demand.TheVariants.{Nothing, Event, Authority, Show}
 use Rattle.rbc_session_laws.specs.Demands.{demand_in}
 use Rattle.rbc_session_laws.specs.Turns.{AnswersAuthority}
 use Rattle.rbc_session_laws.specs.Answers.{refused, told_answer, grant_answer, asker_answer, demand_answer, line_answer}
@@ -37,6 +38,13 @@ pub says_nothing : (track : Track) (history : HistoryOnTrack) (line : List ℕ) 
 says_nothing track history line found is nothing e = (
   added_by history.track history.entries line (Ok Nothing)
       (subst (λ t. demand_in t line ≡ Ok Nothing) is (subst (λ (d : Demand). demand_in track line ≡ Ok d) nothing (sym e))),
+  refl,
+)
+
+pub shows : (track : Track) (history : HistoryOnTrack) (line : List ℕ) (inquiry : Inquiry) (found : Demand) → track ≡ history.track → found ≡ Show inquiry → Ok found ≡ demand_in track line → Follows false history line history
+shows track history line inquiry found is asks e = (
+  added_by history.track history.entries line (Ok (Show inquiry))
+      (subst (λ t. demand_in t line ≡ Ok (Show inquiry)) is (subst (λ (d : Demand). demand_in track line ≡ Ok d) asks (sym e))),
   refl,
 )
 

@@ -26,10 +26,11 @@ use Rattle.rbc_server.specs.Changes.{Comes, Goes}
 use Rattle.rbc_server.specs.Records.{HistoryOnTrack, scene_now}
 use Rattle.rbc_server.proofs.CentreLemmas.{line_comes, printed_comes, refused_comes}
 use Rattle.rbc_server.proofs.KeepingLemmas.{line_asks}
+use Rattle.rbc_model.specs.declared.sessions.Inquiry.{Inquiry}
 use Rattle.rbc_session_laws.specs.declared.demand.Demand.{Demand}
-use Rattle.rbc_session_laws.specs.declared.demand.Demand.TheVariants.{Nothing, Authority}
+use Rattle.rbc_session_laws.specs.declared.demand.Demand.TheVariants.{Nothing, Authority, Show}
 use Rattle.rbc_session_laws.specs.Demands.{looked_up}
-use Rattle.rbc_session_laws.specs.Turns.{AnswersAsker, AnswersDemand}
+use Rattle.rbc_session_laws.specs.Turns.{AnswersAsker, AnswersDemand, AnswersInquiry}
 use Rattle.rbc_kept.specs.Advances.{IsTreated}
 
 -- what is asked for comes to this
@@ -44,6 +45,10 @@ asked track other said found demand is same e =
 -- a blank line comes to nothing
 pub nothing_comes : (history : HistoryOnTrack) → ComesTo (Ok Nothing) history [] history
 nothing_comes history = (None, (refl, refl), ap (λ entries. record { track = history.track; entries = entries }) (sym (append-nil history.entries)))
+
+-- what is asked to be shown changes nothing
+pub shown_comes : (history : HistoryOnTrack) (inquiry : Inquiry) (reply : List ℕ) → AnswersInquiry history.track history.entries reply None inquiry → ComesTo (Ok (Show inquiry)) history reply history
+shown_comes history inquiry reply answers = (None, answers, ap (λ entries. record { track = history.track; entries = entries }) (sym (append-nil history.entries)))
 
 -- a train that is shown a view is given up where there is no memory
 pub given_up : (first now : HistoryOnTrack) (train : ℕ) (shown : View) → now ≡ first → view first.track (scene_now first) train ≡ Ok shown

@@ -117,6 +117,7 @@ impl<D: Device> Kept<D> {
                 let train = TrainId::new(number);
                 self.ask(rt, alloc, &request, train, more, writer)
             }
+            Ok(Demand::Show(inquiry)) => self.show(alloc, inquiry, writer),
             Err(refusal) => self.say(&SessionReply::Refused(refusal), more, writer),
         }
     }

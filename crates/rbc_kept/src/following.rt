@@ -32,6 +32,7 @@ pub fn follow(
         Ok(Demand::Event(told)) => hear(alloc, history, &told),
         Ok(Demand::Authority(number)) => ask(rt, alloc, history, TrainId::new(number)),
         Ok(Demand::Nothing) => Ok(false),
+        Ok(Demand::Show(_)) => Ok(false),
         Err(_) => Ok(false),
     }
 }

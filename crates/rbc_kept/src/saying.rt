@@ -1,20 +1,24 @@
 //! Replies are said: each once the entries of its line and of those before it are on the disk. Up to then it rests.
 
-ghost use Rattle.std.specs.Prelude.{◌≡◌, ◌||◌, ◌+◌, ◌<◌, ◌≤◌, ◌++◌, [], ℕ, List, true, false, is_err, IsTrue, OnOk, OnErr, MatchBool};
+ghost use Rattle.std.specs.Prelude.{◌≡◌, ◌||◌, ◌+◌, ◌<◌, ◌≤◌, ◌++◌, [], ℕ, List, None, true, false, is_err, IsTrue, OnOk, OnErr, MatchBool};
 ghost use Rattle.std.specs.Io.KnownBytes.{Keeps};
 ghost use Rattle.rbc_journal.specs.Device.{LeavesOnly};
 ghost use Rattle.rbc_journal.specs.Journal.{recovered, IsBeforeOrAfter};
 ghost use Rattle.rbc_journal.specs.Settled.{staged, IsSettled};
 ghost use Rattle.rbc_model.specs.Sessions.{Prints};
 ghost use Rattle.rbc_server.specs.Replies.{reply_text, ReplyIsWhole};
+ghost use Rattle.rbc_session_laws.specs.Turns.{AnswersInquiry};
 ghost use Rattle.rbc_kept.specs.Advances.{Holds, IsSaid, RestsOnly};
 ghost use Rattle.rbc_kept.specs.declared.kept.TheConstants.{MOST_TOGETHER};
 
 use crate::Kept;
 use crate::kept::MOST_TOGETHER;
 use rbc_journal::Device;
+use rbc_model::Inquiry;
 use rbc_server::replies::{SessionReply, print};
+use rbc_server::show;
 use rbc_streams::{Sink, WriteFailed, put};
+use std::alloc::Global;
 
 impl<D: Device> Kept<D> {
     /// Says the reply to a line, whose entry is staged if it has one. Where a further line has been read the reply may rest;
@@ -46,6 +50,31 @@ impl<D: Device> Kept<D> {
         }
         self.settle(writer)?;
         print(self.history.track(), reply, writer)
+    }
+
+    /// Shows what is asked for, once all that is staged is on the disk: the reply does not rest.
+    ///
+    /// # Errors
+    ///
+    /// As above.
+    pub(crate) fn show<W: Sink>(
+        &mut self,
+        alloc: Global,
+        inquiry: Inquiry,
+        writer: &mut W,
+    ) -> Result<(), WriteFailed>
+        requires works { W.failed writer.old ≡ false }
+        requires whole { self.old.has_failed ≡ false }
+        requires settled { IsSettled D.seen D.may_leave self.old.journal }
+        requires holds { self.old.replies.failed ≡ false }
+        ensures none_rests { self.new.resting ≡ 0 }
+        ensures shown { (reply : List ℕ) × (text : List ℕ)
+            × AnswersInquiry self.old.history.track self.old.history.entries reply None inquiry
+            × IsSaid D.seen D.may_leave D.moment D.left_since D.faults self.old reply text self.new
+            × Prints (W.written writer.old) (W.written writer.new) (self.new.has_failed || W.failed writer.new) text result }
+    {
+        self.settle(writer)?;
+        show(alloc, &self.history, inquiry, writer)
     }
 
     /// Lets a reply rest behind the others, if it may, and tells whether it does.

@@ -1,11 +1,13 @@
 //! Tracks and scenes as lines of text.
 #![tactic(auto)]
 
+mod inquiry;
 mod next;
 mod scene;
 mod track;
 mod train;
 
+pub use inquiry::{print_shown, print_state};
 pub use rbc_scene::Scene;
 pub use rbc_words::{Sink, WriteFailed};
 pub use scene::{LinesFault, print_scene};

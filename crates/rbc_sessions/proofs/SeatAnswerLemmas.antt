@@ -9,9 +9,9 @@ use Rattle.rbc_model.specs.SessionReply.{SessionRefusal, Full, Memory, refused_r
 use Rattle.rbc_sweep.specs.Later.{IsLater}
 use Rattle.rbc_sweep.specs.Records.{HistoryOnTrack, history_on}
 use Rattle.rbc_session_laws.specs.declared.demand.Demand.{Demand}
-use Rattle.rbc_session_laws.specs.declared.demand.Demand.TheVariants.{Nothing, Event, Authority}
+use Rattle.rbc_session_laws.specs.declared.demand.Demand.TheVariants.{Nothing, Event, Authority, Show}
 use Rattle.rbc_session_laws.specs.Demands.{demand_in}
-use Rattle.rbc_session_laws.specs.Turns.{AnswersLine, AnswersDemand, AnswersEvent}
+use Rattle.rbc_session_laws.specs.Turns.{AnswersLine, AnswersDemand, AnswersEvent, AnswersInquiry}
 use Rattle.rbc_session_laws.proofs.LineLemmas.{lines_are_answered}
 use Rattle.rbc_sessions.specs.Changes.{with_added}
 use Rattle.rbc_sessions.specs.SeatAnswers.{IsLineAnswer, IsHeldUp, AreLineAnswers}
@@ -64,6 +64,8 @@ module _ (begun : HistoryOnTrack) (turn : SeatTurn) (form : IsInForm begun.track
   demanded (Ok (Event told)) e answered kept =
       inr (since (λ track entries added. AnswersEvent track entries turn.reply added told) answered (Ok (Event told)) e answered.answered kept)
   demanded (Ok (Authority train)) e answered kept = asked train answered e kept answered.answered
+  demanded (Ok (Show inquiry)) e answered kept =
+      inr (since (λ track entries added. AnswersInquiry track entries turn.reply added inquiry) answered (Ok (Show inquiry)) e answered.answered kept)
   demanded (Err refusal) e (said, (none, same)) kept = inr (idle (Err refusal) e (said, refl) none same kept)
 
   answered_so : AnswersDemandAtDesk begun turn.told turn.reply turn.receipt (demand_in begun.track turn.line) → IsHeldUp begun.track turn.reply ⊎ IsLineAnswer begun turn

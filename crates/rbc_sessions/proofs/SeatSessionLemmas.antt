@@ -8,7 +8,7 @@ use Rattle.rbc_sweep.specs.Outcomes.{Begins}
 use Rattle.rbc_sweep.specs.Records.{HistoryOnTrack}
 use Rattle.rbc_sweep.proofs.WorkLemmas.{begins_itself, begins_later, begins_still}
 use Rattle.rbc_session_laws.specs.declared.demand.Demand.{Demand}
-use Rattle.rbc_session_laws.specs.declared.demand.Demand.TheVariants.{Nothing, Event, Authority}
+use Rattle.rbc_session_laws.specs.declared.demand.Demand.TheVariants.{Nothing, Event, Authority, Show}
 use Rattle.rbc_sessions.specs.Changes.{with_added}
 use Rattle.rbc_session_laws.specs.Demands.{demand_in}
 use Rattle.rbc_sessions.specs.SeatSessions.{SeatTurn, AreInTurn}
@@ -31,6 +31,7 @@ begins_turn : (begun after : HistoryOnTrack) (reply : List ℕ) (receipt : Optio
 begins_turn begun after reply receipt (Ok Nothing) (said, (none, same)) = begins_idle begun after same
 begins_turn begun after reply receipt (Ok (Event told)) since = begins_since _ begun after receipt since
 begins_turn begun after reply receipt (Ok (Authority train)) since = begins_since _ begun after receipt since
+begins_turn begun after reply receipt (Ok (Show inquiry)) since = begins_since _ begun after receipt since
 begins_turn begun after reply receipt (Err refusal) (said, (none, same)) = begins_idle begun after same
 
 -- the track is still the same

@@ -7,10 +7,10 @@ use Rattle.rbc_model.specs.SessionReply.{SessionRefusal, Full, refused_reply}
 use Rattle.rbc_sweep.specs.Later.{IsLater}
 use Rattle.rbc_sweep.specs.Records.{HistoryOnTrack}
 use Rattle.rbc_session_laws.specs.declared.demand.Demand.{Demand}
-use Rattle.rbc_session_laws.specs.declared.demand.Demand.TheVariants.{Nothing, Event, Authority}
+use Rattle.rbc_session_laws.specs.declared.demand.Demand.TheVariants.{Nothing, Event, Authority, Show}
 use Rattle.rbc_sessions.specs.Changes.{with_added}
 use Rattle.rbc_session_laws.specs.Demands.{demand_in}
-use Rattle.rbc_session_laws.specs.Turns.{IsRefused, IsGivenUp, AnswersEvent, AnswersAuthority}
+use Rattle.rbc_session_laws.specs.Turns.{IsRefused, IsGivenUp, AnswersEvent, AnswersAuthority, AnswersInquiry}
 
 -- the entry that a receipt is for, if there is one
 abbrev pub entry_in : Option Receipt → Option Entry
@@ -52,6 +52,7 @@ module _ (begun after : HistoryOnTrack) (reply : List ℕ) (receipt : Option Rec
   AnswersDemandAtDesk (Ok Nothing) = (reply ≡ []) × IsIdle
   AnswersDemandAtDesk (Ok (Event told)) = IsAnsweredSince (λ track entries added. AnswersEvent track entries reply added told) begun after receipt
   AnswersDemandAtDesk (Ok (Authority train)) = IsAnsweredSince (λ track entries added. AnswersAsked track entries reply added train) begun after receipt
+  AnswersDemandAtDesk (Ok (Show inquiry)) = IsAnsweredSince (λ track entries added. AnswersInquiry track entries reply added inquiry) begun after receipt
   AnswersDemandAtDesk (Err refusal) = (reply ≡ refused_reply begun.track refusal) × IsIdle
 
   -- what the line asks for

@@ -2,6 +2,7 @@
 
 use crate::asking::ask;
 use crate::demand::demand_in;
+use crate::showing::show;
 use crate::telling::tell;
 use rbc_model::limits::LONGEST_LINE;
 use rbc_model::{LineFault, TrainId};
@@ -63,6 +64,7 @@ impl Answers<Centre> for Record {
                 print(self.track(), &reply, writer)
             }
             Ok(Demand::Authority(number)) => ask(rt, alloc, self, TrainId::new(number), writer),
+            Ok(Demand::Show(inquiry)) => show(alloc, self, inquiry, writer),
             Err(refusal) => print(self.track(), &SessionReply::Refused(refusal), writer),
         }
     }

@@ -9,7 +9,7 @@ ghost use Rattle.rbc_model.specs.declared.limits.TheConstants.{MOST_ENTRIES};
 ghost use Rattle.rbc_sweep.specs.Records.{history_on};
 ghost use Rattle.rbc_sweep.specs.Asking.{IsAnswered};
 ghost use Rattle.rbc_replies.specs.Replies.{reply_text, ReplyIsWhole};
-ghost use Rattle.rbc_session_laws.specs.declared.demand.Demand.TheVariants.{Event, Authority};
+ghost use Rattle.rbc_session_laws.specs.declared.demand.Demand.TheVariants.{Event, Authority, Show};
 ghost use Rattle.rbc_session_laws.specs.Demands.{demand_in, looked_up};
 ghost use Rattle.rbc_model.specs.HistoryText.{IsToldOfTrack};
 ghost use Rattle.rbc_replies.specs.SessionLines.{request_view};
@@ -23,7 +23,8 @@ use crate::asking::told_of;
 use crate::demand::looked_up;
 use crate::telling::refusal_of;
 use crate::{Keeper, NotKept, Sitting};
-use rbc_model::{OrMemory, Refusal, Told, TrainId};
+use rbc_lines::{print_shown, print_state};
+use rbc_model::{Inquiry, OrMemory, Refusal, Told, TrainId};
 use rbc_replies::words::{Request, parse};
 use rbc_replies::{SessionRefusal, SessionReply, print};
 use rbc_session_laws::Demand;
@@ -224,6 +225,43 @@ impl<'a, L: DeskName, K: Keeper<L>, G: Gate, R: Wait> Counter<'a, L, K, G, R> {
         }
     }
 
+    /// Shows what is asked for. Nothing is entered.
+    ///
+    /// # Errors
+    ///
+    /// The writer failed.
+    fn show<W: Sink>(
+        &self,
+        alloc: Global,
+        sitting: &mut Sitting<L, K::Pen>,
+        inquiry: Inquiry,
+        writer: &mut W,
+    ) -> Result<(), WriteFailed>
+        requires going { W.failed writer.old ≡ false }
+        requires whole { sitting.old.has_failed ≡ false }
+        ensures goes_on { sitting.new.has_failed ≡ false }
+        ensures treated { IsTreated K.kept (Ok (Show inquiry)) sitting.old sitting.new
+            (W.written writer.old) (W.written writer.new) (W.failed writer.new) result }
+    {
+        // As above.
+        sitting.seat.known();
+        match inquiry {
+            Inquiry::State => {
+                let state = self.desk.state(self.waiting, &mut sitting.seat);
+                print_state(state.version, state.trains, state.locked, writer)
+            }
+            Inquiry::Scene => {
+                match self.desk.scene(self.waiting, alloc, &mut sitting.seat) {
+                    Ok((scene, version)) => print_shown(alloc, version, &scene, writer),
+                    Err(_) => {
+                        let refused = SessionReply::Refused(SessionRefusal::Memory);
+                        print(self.track, &refused, writer)
+                    }
+                }
+            }
+        }
+    }
+
     /// Treats what a line says.
     ///
     /// # Errors
@@ -253,6 +291,7 @@ impl<'a, L: DeskName, K: Keeper<L>, G: Gate, R: Wait> Counter<'a, L, K, G, R> {
                 let train = TrainId::new(number);
                 self.ask(rt, alloc, sitting, request, train, writer)
             }
+            Ok(Demand::Show(inquiry)) => self.show(alloc, sitting, inquiry, writer),
             Err(refusal) => print(self.track, &SessionReply::Refused(refusal), writer),
         }
     }

@@ -52,5 +52,6 @@ pub fn looked_up(track: &Track, request: Request) -> Result<Demand, SessionRefus
         Request::Leave(train) => Ok(Demand::Event(Told::Leave(train))),
         Request::GiveBack(train, end) => Ok(Demand::Event(Told::GiveBack(train, end))),
         Request::Ask(train) => Ok(Demand::Authority(train.number())),
+        Request::Inquire(inquiry) => Ok(Demand::Show(inquiry)),
     }
 }

@@ -13,6 +13,7 @@ mod keeping;
 mod nowhere;
 mod resting;
 mod sessions;
+mod showing;
 mod sitting;
 mod telling;
 
@@ -31,5 +32,6 @@ pub use rbc_sweep::{
     Record, Seat, Sight, Track, View, candidate, sweep,
 };
 pub use sessions::{SessionEnd, run, session};
+pub use showing::show;
 pub use sitting::Sitting;
 pub use telling::{in_vain, tell};

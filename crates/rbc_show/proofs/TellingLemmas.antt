@@ -20,7 +20,7 @@ use Rattle.rbc_model.specs.Scenes.{Scene}
 use Rattle.rbc_model.specs.SceneLines.{scene_lines, scene_body}
 use Rattle.rbc_model.specs.Words.{line_of, without_return}
 use Rattle.rbc_session_laws.specs.declared.demand.Demand.{Demand}
-use Rattle.rbc_session_laws.specs.declared.demand.Demand.TheVariants.{Nothing, Event, Authority}
+use Rattle.rbc_session_laws.specs.declared.demand.Demand.TheVariants.{Nothing, Event, Authority, Show}
 use Rattle.rbc_session_laws.specs.Answers.{line_answer}
 use Rattle.rbc_session_laws.specs.Demands.{demand_in}
 use Rattle.rbc_session_laws.specs.Laws.{SaysNoMemory}
@@ -97,6 +97,7 @@ module _ (track : Track) (before : List Entry) (request reply change : List ℕ)
   kept (Ok Nothing) answers none = subst (λ r. r ≢ refused_reply track Memory) (sym answers.0) (not_memory track [] tt)
   kept (Ok (Event told)) answers none = within none
   kept (Ok (Authority train)) answers none = within none
+  kept (Ok (Show inquiry)) answers none = within none
   kept (Err refusal) answers none = within none
 
 told_whole : (number : ℕ) (track : Track) (before : List Entry) (line reply : List ℕ) (added : Option Entry) → IsWhole reply → IsWhole (told_text number track before line reply added)

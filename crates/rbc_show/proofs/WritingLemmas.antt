@@ -9,7 +9,7 @@ use Rattle.rbc_model.specs.SessionReply.{SessionRefusal}
 use Rattle.rbc_model.specs.Sessions.{WritesPart, WritesText}
 use Rattle.rbc_model.specs.Tracks.{Track}
 use Rattle.rbc_session_laws.specs.declared.demand.Demand.{Demand}
-use Rattle.rbc_session_laws.specs.declared.demand.Demand.TheVariants.{Nothing, Event, Authority}
+use Rattle.rbc_session_laws.specs.declared.demand.Demand.TheVariants.{Nothing, Event, Authority, Show}
 use Rattle.rbc_session_laws.specs.SessionRuns.{entries_of}
 use Rattle.rbc_session_laws.specs.Turns.{AnswersDemand}
 use Rattle.rbc_kept.specs.Records.{HistoryOnTrack}
@@ -67,6 +67,7 @@ pub silent : (track : Track) (before : List Entry) (demand : Result Demand Sessi
 silent track before (Ok Nothing) none = (refl, refl)
 silent track before (Ok (Event told)) none = absurd (let c : ⊥ = cc in c)
 silent track before (Ok (Authority train)) none = absurd (let c : ⊥ = cc in c)
+silent track before (Ok (Show inquiry)) none = absurd (let c : ⊥ = cc in c)
 silent track before (Err refusal) none = absurd (let c : ⊥ = cc in c)
 
 pub not_told : (b : Bool) (text : List ℕ) → b ≡ false → cond b text [] ≡ []

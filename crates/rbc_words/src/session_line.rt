@@ -3,14 +3,14 @@
 ghost use Rattle.std.specs.Prelude.{◌≡◌, ◌∷◌, false, Ok};
 ghost use Rattle.rbc_model.specs.HistoryText.{told_request, IsToldOfTrack};
 ghost use Rattle.rbc_model.specs.SceneLines.{report_words};
-ghost use Rattle.rbc_model.specs.SessionText.{nominal_word, parse_session, said_line, said_words, IsSayable};
+ghost use Rattle.rbc_model.specs.SessionText.{inquiry_word, nominal_word, parse_session, said_line, said_words, IsSayable};
 ghost use Rattle.rbc_model.specs.Sessions.{Prints};
 ghost use Rattle.rbc_model.specs.Words.{line_of};
 ghost use Rattle.rbc_words.specs.SessionLines.{request_view};
 
 use crate::Request;
 use crate::line_words::{Word, print_line};
-use rbc_model::{Report, Told};
+use rbc_model::{Inquiry, Report, Told};
 use rbc_streams::{Sink, WriteFailed, put};
 use rbc_track::Track;
 
@@ -54,6 +54,7 @@ pub fn print_request<W: Sink>(request: &Request, writer: &mut W) -> Result<(), W
             )
         }
         Request::Ask(train) => print_line(b"ask", &[Word::Number(train.number())], writer),
+        Request::Inquire(inquiry) => print_line(inquiry_word(*inquiry), &[], writer),
     }
 }
 
@@ -82,6 +83,16 @@ pub fn print_report<W: Sink>(
         Word::Number(report.time()),
     ];
     print_line(first, &words, writer)
+}
+
+/// What is asked to be shown, as a word.
+fn inquiry_word(inquiry: Inquiry) -> &'static [u8]
+    ensures { result.now ≡ inquiry_word inquiry }
+{
+    match inquiry {
+        Inquiry::State => b"state",
+        Inquiry::Scene => b"scene",
+    }
 }
 
 /// The direction of a train as a word.

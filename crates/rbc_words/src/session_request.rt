@@ -2,7 +2,7 @@
 
 ghost use Rattle.std.specs.Prelude.{◌≡◌, [], ◌∷◌, Err, MatchResult};
 ghost use Rattle.rbc_model.specs.RequestText.{line_in};
-ghost use Rattle.rbc_model.specs.SessionText.{group_at, nominal_at, name_in, train_in, report_in, give_back_in};
+ghost use Rattle.rbc_model.specs.SessionText.{group_at, nominal_at, name_in, train_in, report_in, give_back_in, inquiry_in};
 ghost use Rattle.rbc_model.specs.SessionText.{words_line, parse_session};
 ghost use Rattle.rbc_model.specs.Words.{words_of};
 ghost use Rattle.rbc_words.specs.SessionLines.{request_view};
@@ -14,7 +14,7 @@ use rbc_model::limits::{
     FARTHEST_KEPT, FARTHEST_REPORT, LAST_COUNTRY, LAST_GROUP, LAST_TIME, LAST_TRAIN, LONGEST_TRAIN,
     MOST_DOUBT,
 };
-use rbc_model::{Distance, GroupName, LineFault, Report, ReportFields, TrainId};
+use rbc_model::{Distance, GroupName, Inquiry, LineFault, Report, ReportFields, TrainId};
 use rbc_track::Name;
 
 /// What a line of a session says that is not refused. Whether the track has a route, a section or a group of that
@@ -36,6 +36,8 @@ pub enum Request {
     GiveBack(TrainId, Distance),
     /// The train of this number, 1 to 9,999,999, asks for an authority.
     Ask(TrainId),
+    /// Something is to be shown.
+    Inquire(Inquiry),
 }
 
 /// What the bytes of a line, without its line feed, say. A comment may hold any bytes. It takes no memory.
@@ -46,9 +48,9 @@ pub enum Request {
 ///
 /// - `Overlong`: the line has more than 4,096 bytes, a carriage return counted.
 /// - `NotText`: a byte is no space and no visible character of ASCII.
-/// - `Command`: the first word is none of `report`, `lock`, `free`, `leave`, `yield` and `ask`.
-/// - `Words`: behind `report` stand not just eight words, behind `yield` not just two, or behind another command not
-///   just one.
+/// - `Command`: the first word is none of `report`, `lock`, `free`, `leave`, `yield`, `ask`, `state` and `scene`.
+/// - `Words`: behind `report` stand not just eight words, behind `yield` not just two, behind `state` or `scene` any, or
+///   behind another command not just one.
 /// - `Number` or `Name`, of the first word that is not what stands there: `Number` of a number that is none or out
 ///   of range, `Name` of a group that is none or out of range, of another word than `nominal` and `reverse`, and of a
 ///   name out of its form.
@@ -73,6 +75,8 @@ fn words_line(text: &[u8]) -> Result<Request, LineFault>
         Some((b"leave", words)) => Ok(Request::Leave(train_in(words)?)),
         Some((b"yield", words)) => give_back_in(words),
         Some((b"ask", words)) => Ok(Request::Ask(train_in(words)?)),
+        Some((b"state", words)) => inquiry_in(Inquiry::State, words),
+        Some((b"scene", words)) => inquiry_in(Inquiry::Scene, words),
         Some(_) => Err(LineFault::Command),
     }
 }
@@ -102,6 +106,16 @@ fn give_back_in(words: &[u8]) -> Result<Request, LineFault>
     let train = number_at(2, train, 1, LAST_TRAIN)?;
     let end = number_at(3, end, 0, FARTHEST_KEPT)?;
     Ok(Request::GiveBack(TrainId::new(train), Distance::new(end)))
+}
+
+/// What is asked to be shown, by a command that has no word behind it.
+fn inquiry_in(inquiry: Inquiry, words: &[u8]) -> Result<Request, LineFault>
+    ensures { line_in request_view result ≡ inquiry_in inquiry (words_of words.now) }
+{
+    match next_word(words) {
+        None => Ok(Request::Inquire(inquiry)),
+        Some(_) => Err(LineFault::Words),
+    }
 }
 
 /// The words behind the command `report`, in their order.

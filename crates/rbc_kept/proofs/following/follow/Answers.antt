@@ -1,7 +1,7 @@
 use Rattle.std.proofs.Common.{◌∙◌}
 use Rattle.rbc_server.proofs.CentreLemmas.{demand_is}
 use Rattle.rbc_session_laws.specs.declared.demand.Demand.TheVariants.{Event, Authority}
-use Rattle.rbc_kept.proofs.FollowingLemmas.{says_nothing, is_refused, said_follows}
+use Rattle.rbc_kept.proofs.FollowingLemmas.{says_nothing, is_refused, said_follows, shows}
 use Rattle.rbc_kept.proofs.following.follow.Goals as goal
 
 pub returns-in-Ok-Event-clause-followed : goal.returns-in-Ok-Event-clause-followed
@@ -17,6 +17,10 @@ returns-in-Ok-Authority-clause-followed g c =
 pub returns-in-Ok-Nothing-clause-followed : goal.returns-in-Ok-Nothing-clause-followed
 returns-in-Ok-Nothing-clause-followed g c =
     says_nothing c.deref.result.now c.args.history.now c.args.line.now c.in-Ok-Nothing.field-0 (c.deref.ensures ∙ c.track.ensures) c.in-Ok-Nothing.field-0-is c.in-Ok-Nothing.ensures.demand
+
+pub returns-in-Ok-Show-clause-followed : goal.returns-in-Ok-Show-clause-followed
+returns-in-Ok-Show-clause-followed g c =
+    shows c.deref.result.now c.args.history.now c.args.line.now _ c.in-Ok-Show.field-0 (c.deref.ensures ∙ c.track.ensures) c.in-Ok-Show.field-0-is c.in-Ok-Show.ensures.demand
 
 pub returns-in-Err-clause-followed : goal.returns-in-Err-clause-followed
 returns-in-Err-clause-followed g c = is_refused c.deref.result.now c.args.history.now c.args.line.now _ (c.deref.ensures ∙ c.track.ensures) c.in-Err.ensures.demand

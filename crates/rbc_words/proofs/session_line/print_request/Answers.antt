@@ -23,5 +23,8 @@ returns-in-GiveBack-clause-read_back g c = said_line_read (request_view c.args.r
 pub returns-in-Ask-clause-read_back : goal.returns-in-Ask-clause-read_back
 returns-in-Ask-clause-read_back g c = said_line_read (request_view c.args.request.now)
 
+pub returns-in-Inquire-clause-read_back : goal.returns-in-Inquire-clause-read_back
+returns-in-Inquire-clause-read_back g c = said_line_read (request_view c.args.request.now)
+
 pub returns-in-Report-clause-text : goal.returns-in-Report-clause-text
 returns-in-Report-clause-text g c = rw c.in-Report.is c.print_report.ensures

@@ -1,10 +1,10 @@
 use Rattle.std.proofs.Common.{◌∙◌, Ok, refl}
 use Rattle.rbc_server.specs.Replies.{reply_text, refusal_view}
 use Rattle.rbc_server.specs.SessionReply.TheVariants.{Nothing as NoReply}
-use Rattle.rbc_session_laws.specs.declared.demand.Demand.TheVariants.{Nothing}
+use Rattle.rbc_session_laws.specs.declared.demand.Demand.TheVariants.{Nothing, Show}
 use Rattle.rbc_server.specs.SessionLines.{request_view}
 use Rattle.rbc_kept.proofs.KeepingLemmas.{unchanged}
-use Rattle.rbc_kept.proofs.TreatingLemmas.{asked, goes_by, nothing_comes, refused_said}
+use Rattle.rbc_kept.proofs.TreatingLemmas.{asked, goes_by, nothing_comes, refused_said, shown_comes}
 use Rattle.rbc_kept.proofs.kept.Kept.treat.Goals as goal
 
 pub returns-in-Ok-Nothing-clause-text : goal.returns-in-Ok-Nothing-clause-text
@@ -18,6 +18,20 @@ returns-in-Ok-Nothing-clause-text g c =
           unchanged g.D.Device.seen g.D.Device.may_leave g.D.Device.moment g.D.Device.left_since g.D.Device.faults now c.say.new.self line (reply_text now.history.track NoReply) done.0 c.requires.going
           (goes_by now.history now.history line (reply_text now.history.track NoReply) said (Ok Nothing) read asks (nothing_comes now.history)) done.1,
       done.2,
+    )
+
+pub returns-in-Ok-Show-clause-text : goal.returns-in-Ok-Show-clause-text
+returns-in-Ok-Show-clause-text g c =
+    let now = c.args.self.now in
+    let said = request_view c.args.request in
+    let inquiry = c.in-Ok-Show.inquiry in
+    let asks = asked c.deref.result.now now.history.track said c.in-Ok-Show.field-0 (Show inquiry) (c.deref.ensures ∙ c.track.ensures) c.in-Ok-Show.field-0-is c.in-Ok-Show.ensures.demand in
+    let (reply, text, answers, done, printed) = c.show.ensures.shown in (
+      text,
+      λ line read.
+          unchanged g.D.Device.seen g.D.Device.may_leave g.D.Device.moment g.D.Device.left_since g.D.Device.faults now c.show.new.self line reply text c.requires.going
+          (goes_by now.history now.history line reply said (Ok (Show inquiry)) read asks (shown_comes now.history inquiry reply answers)) done,
+      printed,
     )
 
 pub returns-in-Err-clause-text : goal.returns-in-Err-clause-text
