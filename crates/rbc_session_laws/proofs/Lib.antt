@@ -7,6 +7,7 @@ pub mod RequestLemmas
 pub mod StepsLemmas
 pub mod CheckLemmas
 pub mod AllReadLemmas
+pub mod AskedNextLemmas
 pub mod RetellingLemmas
 pub mod OfTrackLemmas
 pub mod LegalRetellingLemmas

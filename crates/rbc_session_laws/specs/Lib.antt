@@ -7,3 +7,4 @@ pub mod Retelling
 pub mod StepsAnswers
 pub mod CheckAnswers
 pub mod AllRead
+pub mod AskedNext

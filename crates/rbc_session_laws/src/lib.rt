@@ -4,6 +4,7 @@
 
 mod demand;
 
+ghost use Rattle.rbc_session_laws.specs.AskedNext.{NextsAreAsked};
 ghost use Rattle.rbc_session_laws.specs.CheckAnswers.{ChecksAreAnswered};
 ghost use Rattle.rbc_session_laws.specs.Laws.{GrantsAreOne, GrantsAreReadBack, LinesAreAnswered, SessionsAreAnswered, SessionsAreOne, WrittenIsAnswered};
 ghost use Rattle.rbc_session_laws.specs.Retelling.{EntriesAreToldAgain, HistoriesAreSessions, ReadsAreSayable};
@@ -21,6 +22,7 @@ pub fn sessions_are_answered()
     ensures sessions { SessionsAreAnswered }
     ensures one { SessionsAreOne }
     ensures written { WrittenIsAnswered }
+    ensures nexts { NextsAreAsked }
 {}
 
 /// What a session of `rbc steps` answers, line by line and as a whole, where memory is not refused.

@@ -1,3 +1,4 @@
+use Rattle.rbc_session_laws.proofs.AskedNextLemmas.{nexts_are_asked}
 use Rattle.rbc_session_laws.proofs.GrantLemmas.{grants_are_one, grants_are_read_back}
 use Rattle.rbc_session_laws.proofs.LineLemmas.{lines_are_answered}
 use Rattle.rbc_session_laws.proofs.SessionLemmas.{sessions_are_answered, written_is_answered, sessions_are_one}
@@ -20,3 +21,6 @@ returns-clause-one c = sessions_are_one
 
 pub returns-clause-written : goal.returns-clause-written
 returns-clause-written c = written_is_answered
+
+pub returns-clause-nexts : goal.returns-clause-nexts
+returns-clause-nexts c = nexts_are_asked
