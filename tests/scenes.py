@@ -314,7 +314,8 @@ class Shown:
         self.told = []
         while self.lines:
             number, said = words_of(self.lines.pop(0), rf"(?s:request ({NUMBER}) (.*))")
-            reply = self.block("granted") if self.lines[0].startswith("granted ") else [self.lines.pop(0)]
+            first = self.lines[0].split(" ")[0]
+            reply = self.block(first) if first in ("granted", "scene") else [self.lines.pop(0)]
             scene = self.block("scene") if self.lines and self.lines[0].startswith("scene ") else []
             self.told.append(Told(int(number), said, reply, scene))
 
@@ -369,6 +370,10 @@ def fault_behind(track, before, told):
     words = told.reply[0].split(" ")
     if words[0] in ("granted", "blocked") and coming_reply(before, words[1]) != [words[0], *words[4 if words[0] == "granted" else 3:]]:
         return f"it is told {told.reply[0]} behind {coming_reply(before, words[1])}"
+    if words[0] == "scene" and told.reply != before:
+        return "it is shown another scene than the one before"
+    if words[0] == "state" and told.reply != [state_of(before)]:
+        return f"it is told {told.reply[0]} of {state_of(before)}"
     if words[0] not in ("ok", "granted"):
         return "a scene stands where nothing was entered" if told.scene else None
     scene, old, said = scene_in(told.scene), scene_in(before), told.text.split()
@@ -382,6 +387,12 @@ def fault_behind(track, before, told):
     }
     faults = [name for name, is_so in wrong.items() if is_so] + [report_fault(track, train) for train in scene.trains]
     return next(filter(None, faults), None)
+
+
+def state_of(scene):
+    """How a `state` is answered, by the lines of a scene."""
+    firsts = [line.split(" ")[0] for line in scene]
+    return f"state {scene[0].split(' ')[1]} {firsts.count('train')} {firsts.count('locked')}"
 
 
 def report_of(said):

@@ -7,7 +7,7 @@ ghost use Rattle.rbc_session_laws.specs.Turns.{AnswersInquiry};
 use rbc_lines::{print_shown, print_state};
 use rbc_model::Inquiry;
 use rbc_streams::{Sink, WriteFailed};
-use rbc_sweep::{Record, locked_count};
+use rbc_sweep::{Record, State};
 use std::alloc::Global;
 
 /// Prints what is asked to be shown of a record.
@@ -27,12 +27,10 @@ pub fn show<W: Sink>(
 {
     let scene = history.scene();
     match inquiry {
-        Inquiry::State => print_state(
-            history.version(),
-            scene.book().len(),
-            locked_count(scene),
-            writer,
-        ),
+        Inquiry::State => {
+            let state = State::of(history.version(), scene);
+            print_state(state.version, state.trains, state.locked, writer)
+        }
         Inquiry::Scene => print_shown(alloc, history.version(), scene, writer),
     }
 }
