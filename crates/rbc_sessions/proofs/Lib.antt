@@ -13,6 +13,7 @@ pub mod SittingLemmas
 pub mod KeepingLemmas
 pub mod GrantLemmas
 pub mod TreatingLemmas
+pub mod ShowingLemmas
 pub use Rattle.rbc_sweep.proofs.AskingLemmas as DeskAskingLemmas
 pub use Rattle.rbc_sweep.proofs.CrewLemmas
 pub use Rattle.rbc_sweep.proofs.WorkLemmas

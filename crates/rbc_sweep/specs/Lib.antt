@@ -14,9 +14,11 @@ pub use Rattle.rbc_desk.specs.Records
 pub use Rattle.rbc_desk.specs.SameViews
 pub use Rattle.rbc_desk.specs.Seats
 pub use Rattle.rbc_desk.specs.Sights
+pub use Rattle.rbc_desk.specs.States
 pub use Rattle.rbc_desk.specs.Steps
 pub use Rattle.rbc_desk.specs.Telling
 pub use Rattle.rbc_desk.specs.Trains
 pub use Rattle.rbc_desk.specs.declared.faults.AskFault
 pub use Rattle.rbc_desk.specs.declared.faults.CloseFault
 pub use Rattle.rbc_desk.specs.declared.granted.Granted
+pub use Rattle.rbc_desk.specs.declared.state.State

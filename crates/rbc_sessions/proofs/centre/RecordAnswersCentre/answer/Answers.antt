@@ -1,9 +1,10 @@
-use Rattle.std.proofs.Common.{◌∙◌, Ok}
+use Rattle.std.proofs.Common.{◌∙◌, None, Ok}
 use Rattle.rbc_replies.specs.Replies.{reply_text, refusal_view}
 use Rattle.rbc_model.specs.SessionReply.{refused_reply}
-use Rattle.rbc_session_laws.specs.declared.demand.Demand.TheVariants.{Event, Authority}
+use Rattle.rbc_session_laws.specs.declared.demand.Demand.TheVariants.{Event, Authority, Show}
 use Rattle.rbc_session_laws.specs.Turns.{AnswersDemand}
 use Rattle.rbc_sessions.proofs.CentreLemmas.{printed_comes, line_comes, demand_is, refused_comes}
+use Rattle.rbc_sessions.proofs.TellingLemmas.{nothing_added}
 use Rattle.rbc_sessions.proofs.centre.RecordAnswersCentre.answer.Goals as goal
 
 pub returns-in-Ok-Event-clause-reply : goal.returns-in-Ok-Event-clause-reply
@@ -26,6 +27,16 @@ returns-in-Ok-Authority-clause-reply g c = (
       (demand_is c.deref.result.now c.args.line.now c.in-Ok-Authority.field-0 (Authority c.in-Ok-Authority.number) c.in-Ok-Authority.field-0-is c.in-Ok-Authority.ensures.demand) (rw c.new.ensures at c.ask.ensures.1),
   c.ask.ensures.2,
 )
+
+pub returns-in-Ok-Show-clause-reply : goal.returns-in-Ok-Show-clause-reply
+returns-in-Ok-Show-clause-reply g c =
+    let now = c.args.self.now in
+    let (reply, answers, printed) = c.show.ensures in (
+      reply,
+      line_comes now now c.args.line.now reply (Ok (Show c.in-Ok-Show.inquiry)) c.deref.result.now (c.deref.ensures ∙ c.track.ensures)
+          (demand_is c.deref.result.now c.args.line.now c.in-Ok-Show.field-0 (Show c.in-Ok-Show.inquiry) c.in-Ok-Show.field-0-is c.in-Ok-Show.ensures.demand) (None, answers, nothing_added now),
+      printed,
+    )
 
 pub returns-in-Err-clause-reply : goal.returns-in-Err-clause-reply
 returns-in-Err-clause-reply g c = (

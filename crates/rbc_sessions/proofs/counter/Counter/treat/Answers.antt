@@ -1,7 +1,7 @@
 use Rattle.std.proofs.Common.{Ok, ◌∙◌, ap, sym}
 use Rattle.rbc_replies.specs.Replies.{refusal_view}
 use Rattle.rbc_session_laws.specs.Demands.{looked_up}
-use Rattle.rbc_session_laws.specs.declared.demand.Demand.TheVariants.{Nothing, Event, Authority}
+use Rattle.rbc_session_laws.specs.declared.demand.Demand.TheVariants.{Nothing, Event, Authority, Show}
 use Rattle.rbc_replies.specs.SessionLines.{request_view}
 use Rattle.rbc_sessions.proofs.TreatingLemmas.{asked_for, nothing_treated, refused_for, refused_treated, treated_as}
 use Rattle.rbc_sessions.proofs.counter.Counter.treat.Goals as goal
@@ -37,6 +37,13 @@ returns-in-Ok-Authority-clause-treated g c =
     treated_as g.K.Keeper.kept _ _ _ _ _ _ (Ok (Authority c.in-Ok-Authority.number)) (looked_up c.args.sitting.now.seat.told.track (request_view c.args.request.now))
     (asked_for c.args.self.now.track.now c.args.sitting.now.seat.told.track (request_view c.args.request.now) c.in-Ok-Authority.field-0 (Authority c.in-Ok-Authority.number) (c.args.self.now.of_desk ∙ sym later.track)
     c.in-Ok-Authority.field-0-is c.in-Ok-Authority.ensures.demand) (rw c.new-train.ensures at c.ask.ensures.treated)
+
+pub returns-in-Ok-Show-clause-treated : goal.returns-in-Ok-Show-clause-treated
+returns-in-Ok-Show-clause-treated g c =
+    let later = c.known.ensures in
+    treated_as g.K.Keeper.kept _ _ _ _ _ _ (Ok (Show c.in-Ok-Show.inquiry)) (looked_up c.args.sitting.now.seat.told.track (request_view c.args.request.now))
+    (asked_for c.args.self.now.track.now c.args.sitting.now.seat.told.track (request_view c.args.request.now) c.in-Ok-Show.field-0 (Show c.in-Ok-Show.inquiry) (c.args.self.now.of_desk ∙ sym later.track)
+    c.in-Ok-Show.field-0-is c.in-Ok-Show.ensures.demand) c.show.ensures.treated
 
 pub returns-in-Err-clause-treated : goal.returns-in-Err-clause-treated
 returns-in-Err-clause-treated g c =
