@@ -5,19 +5,20 @@ ghost use Rattle.std.specs.Prelude.{map, replicate, slice_get, All, Some, Ok, Er
 ghost use Rattle.std.specs.Arc.{arc_value};
 ghost use Rattle.rbc_model.specs.Histories.{Heard, IsLegal, Matches};
 ghost use Rattle.rbc_snap.specs.Steps.{IsOfTrack};
-ghost use Rattle.rbc_snap.specs.Later.{IsLater};
+ghost use Rattle.rbc_snap.specs.Later.{IsLater, scene_of};
 ghost use Rattle.rbc_desk.specs.Asking.{seen_by, IsAnsweredAt, IsAnsweredThen, IsMadeIn, IsTriedAt, IsViewIn};
 ghost use Rattle.rbc_desk.specs.Closing.{all_receipts, IsUnmatched};
 ghost use Rattle.rbc_desk.specs.Seats.{seated};
+ghost use Rattle.rbc_desk.specs.States.{state_of};
 ghost use Rattle.rbc_desk.specs.Telling.{IsToldAt};
 ghost use Rattle.rbc_desk.specs.Trains.{numbers_of};
 ghost use Rattle.rbc_desk.specs.declared.faults.CloseFault.TheVariants.{Missing};
 
 use crate::shared::{Shared, fault_at};
-use crate::{AskFault, Blank, CloseFault, DeskName, Gate, Granted, Hold, Seat};
+use crate::{AskFault, Blank, CloseFault, DeskName, Gate, Granted, Hold, Seat, State};
 use crossbeam_utils::Backoff;
 use rbc_model::{Memory, OrMemory, Told, TrainId};
-use rbc_snap::{ApplyFault, Candidate, Eye, EyeFault, Press, Receipt, Record, View};
+use rbc_snap::{ApplyFault, Candidate, Eye, EyeFault, Press, Receipt, Record, Scene, View};
 use rbc_track::Track;
 use std::alloc::Global;
 use std::marker::PhantomData;
@@ -99,6 +100,17 @@ fn look_by_eye<L: DeskName, R: Wait>(
     ensures denied { IfErr result (λ fault. IsAnsweredThen seat.old.told seat.new.told train (Err fault)) }
 {
     seen_by(seat.eye.view(rt, alloc, train))
+}
+
+/// The published scene by the seat's eye, with its version. None where that is behind what the seat was told, or can't be
+/// shared once more.
+fn scene_by_eye<L: DeskName, R: Wait>(rt: &R, seat: &mut Seat<L>) -> Option<(Arc<Scene>, u64)>
+    ensures scene { IfSome result (λ seen. arc_value seen.0 ≡ scene_of seat.new.told) }
+    ensures version { IfSome result (λ seen. seen.1 ≡ length seat.new.told.entries) }
+    ensures later { IsLater seat.old.told seat.new.told }
+    ensures receipts { seat.new.receipts ≡ seat.old.receipts }
+{
+    seat.eye.scene(rt).ok()
 }
 
 impl<L: DeskName> Desk<L> {
@@ -434,6 +446,47 @@ impl<L: DeskName> Desk<L> {
         let answer = (*shared).trains(rt, alloc, seat);
         MutexGuard::unlock(shared);
         answer
+    }
+
+    /// The scene that the history has led to, with its version: that which is published, by the seat's eye and without the lock,
+    /// or a copy under the lock where the seat was told more than is published. The seat is told that history.
+    ///
+    /// # Errors
+    ///
+    /// [`Memory`], where the allocator refuses room for the copy.
+    pub fn scene<R: Wait>(
+        &self,
+        rt: &R,
+        alloc: Global,
+        seat: &mut Seat<L>,
+    ) -> Result<(Arc<Scene>, u64), Memory>
+        ensures scene { IfOk result (λ seen. arc_value seen.0 ≡ scene_of seat.new.told) }
+        ensures version { IfOk result (λ seen. seen.1 ≡ length seat.new.told.entries) }
+        ensures later { IsLater seat.old.told seat.new.told }
+        ensures receipts { seat.new.receipts ≡ seat.old.receipts }
+    {
+        if !seat.is_ahead
+            && let Some(seen) = scene_by_eye(rt, seat)
+        {
+            return Ok(seen);
+        }
+        let shared = self.lock(rt);
+        let answer = (*shared).scene(rt, alloc, seat);
+        MutexGuard::unlock(shared);
+        answer
+    }
+
+    /// How far the history is: its version, and how many trains and locked sections its scene has. The seat is told that
+    /// history. It takes no memory.
+    pub fn state<R: Wait>(&self, rt: &R, seat: &mut Seat<L>) -> State
+        ensures state { result ≡ state_of seat.new.told }
+        ensures later { IsLater seat.old.told seat.new.told }
+        ensures receipts { seat.new.receipts ≡ seat.old.receipts }
+    {
+        let shared = self.lock(rt);
+        let state = (*shared).state(rt, seat);
+        MutexGuard::unlock(shared);
+        state
     }
 
     /// Ends the desk, and gives the record back if the receipts of all seats are exactly its entries since the desk

@@ -13,6 +13,7 @@ mod hold;
 mod name;
 mod seat;
 mod shared;
+mod state;
 
 pub use blank::Blank;
 pub use desk::Desk;
@@ -28,3 +29,4 @@ pub use rbc_snap::{
 };
 pub use rbc_track::Track;
 pub use seat::Seat;
+pub use state::State;

@@ -2,6 +2,7 @@
 
 ghost use Rattle.std.specs.Prelude.{◌≡◌, ◌≢◌, ◌+◌, ◌≤◌, ◌<◌, ◌++◌, ◌∷◌, [], length, take, vec_len, true, false};
 ghost use Rattle.std.specs.Prelude.{All, None, Ok, Err, IfOk, IfErr, IfSome, IfNone, MatchResult, OnErr};
+ghost use Rattle.std.specs.Arc.{arc_value};
 ghost use Rattle.std.specs.List.{list_any};
 ghost use Rattle.rbc_model.specs.Histories.{IsLegal, Matches};
 ghost use Rattle.rbc_model.specs.declared.memory.OrMemory.TheVariants.{Memory as NoMemory};
@@ -12,20 +13,21 @@ ghost use Rattle.rbc_snap.specs.Ends.{pressed};
 ghost use Rattle.rbc_snap.specs.Present.{has_train};
 ghost use Rattle.rbc_snap.specs.Steps.{IsOfTrack};
 ghost use Rattle.rbc_desk.specs.Closing.{all_receipts, IsUnmatchedIn};
+ghost use Rattle.rbc_desk.specs.States.{state_of};
 ghost use Rattle.rbc_desk.specs.Trains.{numbers_of};
-ghost use Rattle.rbc_snap.specs.Later.{IsLater};
+ghost use Rattle.rbc_snap.specs.Later.{IsLater, scene_of};
 ghost use Rattle.rbc_desk.specs.Asking.{fault_at, shown, tried, IsAnsweredAt, IsMadeIn, IsRefused, IsTriedAt, IsViewIn, Tries};
 ghost use Rattle.rbc_desk.specs.Telling.{IsToldAt, IsToldThen};
 
 use crate::closing::take_all;
-use crate::{AskFault, CloseFault, DeskName, Granted, Seat};
+use crate::{AskFault, CloseFault, DeskName, Granted, Seat, State};
 use rbc_model::{Memory, OrMemory, Told, TrainId, ViewFault};
 use rbc_snap::{
-    ApplyFault, Candidate, CommitFault, Eye, Grant, Press, Receipt, Record, View, candidate,
+    ApplyFault, Candidate, CommitFault, Eye, Grant, Press, Receipt, Record, Scene, View, candidate,
 };
 use std::alloc::Global;
-use std::sync::Wait;
 use std::sync::ledger::{Book, Share};
+use std::sync::{Arc, Wait};
 use std::thread::Threads;
 
 /// What lies under the lock: the record, the press that publishes it, and the book that counts its entries from the desk's
@@ -383,6 +385,33 @@ impl<L: DeskName> Shared<L> {
     {
         self.bring(rt, seat);
         trains_of(alloc, &self.log)
+    }
+
+    /// A copy of the scene, with the version of the history. The seat is told all that the record has.
+    pub(crate) fn scene<R: Wait>(
+        &self,
+        rt: &R,
+        alloc: Global,
+        seat: &mut Seat<L>,
+    ) -> Result<(Arc<Scene>, u64), Memory>
+        ensures scene { IfOk result (λ seen. arc_value seen.0 ≡ scene_of seat.new.told) }
+        ensures version { IfOk result (λ seen. seen.1 ≡ length seat.new.told.entries) }
+        ensures later { IsLater seat.old.told seat.new.told }
+        ensures receipts { seat.new.receipts ≡ seat.old.receipts }
+    {
+        self.bring(rt, seat);
+        let scene = Arc::new(alloc, self.log.snapshot(alloc)?)?;
+        Ok((scene, self.log.version()))
+    }
+
+    /// How far the history is. The seat is told all that the record has.
+    pub(crate) fn state<R: Wait>(&self, rt: &R, seat: &mut Seat<L>) -> State
+        ensures state { result ≡ state_of seat.new.told }
+        ensures later { IsLater seat.old.told seat.new.told }
+        ensures receipts { seat.new.receipts ≡ seat.old.receipts }
+    {
+        self.bring(rt, seat);
+        State::of(self.log.version(), self.log.scene())
     }
 
     /// Gives the record back if the receipts of all seats are exactly its entries from the desk's start on.

@@ -1,5 +1,5 @@
 -- The lines of a scene as the texts that are printed one behind another.
-use Rattle.std.proofs.Common.{◌≡◌, ℕ, zero, suc, arith, ◌+◌, ◌<◌, ◌≤◌, Bool, List, [], ◌∷◌, ◌++◌, length, drop, map, Option, Some, None, Result, refl, sym, ap, ◌∙◌, subst, append_assoc, append-nil, add-one}
+use Rattle.std.proofs.Common.{◌≡◌, ℕ, zero, suc, arith, ◌+◌, ◌<◌, ◌≤◌, List, [], ◌∷◌, ◌++◌, length, drop, Option, refl, sym, ap, ◌∙◌, append_assoc, append-nil, add-one}
 use Rattle.std.specs.Prelude.{flat_map, codes, decimal}
 use Rattle.std.proofs.lemmas.Grind.{flat_map-append}
 use Rattle.std.proofs.lemmas.List.{at_drop_all}
@@ -10,8 +10,7 @@ use Rattle.rbc_model.specs.Trains.{Train}
 use Rattle.rbc_model.specs.Scenes.{Scene}
 use Rattle.rbc_model.specs.Reports.{Report}
 use Rattle.rbc_model.specs.Rows.{Row}
-use Rattle.rbc_model.specs.Sessions.{Prints}
-use Rattle.rbc_model.specs.SceneLines.{holds_line, locked_line, locked_lines, next_line, pieces_of, report_words, places_line, row_lines, scene_body, scene_lines, stands_line, train_lines, way_lines}
+use Rattle.rbc_model.specs.SceneLines.{holds_line, locked_lines, next_line, pieces_of, report_words, places_line, row_lines, scene_body, scene_lines, stands_line, train_lines, way_lines}
 use Rattle.rbc_model.specs.Words.{line_of}
 
 -- one line

@@ -5,6 +5,7 @@ use Rattle.rbc_model.specs.declared.memory.OrMemory.TheVariants.{Refused, Memory
 use Rattle.rbc_model.specs.Views.{View, view}
 use Rattle.rbc_record.specs.Present.{has_train}
 use Rattle.rbc_record.specs.Records.{HistoryOnTrack, scene_now}
+use Rattle.rbc_snap.specs.declared.faults.Behind.{Behind as BehindFault}
 use Rattle.rbc_snap.specs.declared.faults.EyeFault.{EyeFault}
 use Rattle.rbc_snap.specs.declared.faults.EyeFault.TheVariants.{Behind, Unshown}
 
@@ -22,3 +23,9 @@ IsOfVersion published new (Ok seen) = seen.1 ≡ published
 IsOfVersion published new (Err (Refused (Unshown fault version))) = version ≡ published
 IsOfVersion published new (Err (Refused (Behind version))) = version ≡ published
 IsOfVersion published new (Err Memory) = length new.entries ≡ published
+
+-- The whole scene is not shown: what is published has fewer entries than had been told, and nothing more is told; or it can't be shared once more,
+-- and what is then told has as many entries as are published.
+abbrev pub IsUnshared : HistoryOnTrack → HistoryOnTrack → ℕ → OrMemory BehindFault → Type 0
+IsUnshared old new published (Refused fault) = (new ≡ old) × (fault.version < length old.entries) × (fault.version ≡ published)
+IsUnshared old new published Memory = length new.entries ≡ published

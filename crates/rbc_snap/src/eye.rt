@@ -1,27 +1,34 @@
 //! A reader's end, which stands in a seat.
 
-ghost use Rattle.std.specs.Prelude.{◌≡◌, ◌≤◌, length, Ok};
+ghost use Rattle.std.specs.Prelude.{◌≡◌, ◌≤◌, length, Ok, IfErr, IfOk};
+ghost use Rattle.std.specs.Arc.{arc_value};
 ghost use Rattle.left_right.specs.Sides.{view as known_to};
 ghost use Rattle.rbc_model.specs.Histories.{IsLegal};
 ghost use Rattle.rbc_snap.specs.Ends.{watching};
 ghost use Rattle.rbc_snap.specs.Knowing.{knower, knower_of};
-ghost use Rattle.rbc_snap.specs.Later.{IsLater};
-ghost use Rattle.rbc_snap.specs.Looks.{IsOfVersion, IsSeenIn};
+ghost use Rattle.rbc_snap.specs.Later.{IsLater, scene_of};
+ghost use Rattle.rbc_snap.specs.Looks.{IsOfVersion, IsSeenIn, IsUnshared};
 ghost use Rattle.rbc_snap.specs.Sights.{seen_of};
 
 use crate::rule::{Known, OneHistory, Sees};
-use crate::{EyeFault, HistoryName, Published, Sight};
+use crate::{Behind, EyeFault, HistoryName, Published, Sight};
 use core::mem::replace_with;
 use left_right::reader::{Reader, Reading};
 use rbc_model::{OrMemory, TrainId};
-use rbc_record::{View, view};
+use rbc_record::{Scene, View, view};
 use std::alloc::Global;
 use std::marker::{Model, PhantomData};
-use std::sync::Wait;
+use std::sync::{Arc, Wait};
 
 pub(crate) type End = Reader<Published, Known, OneHistory>;
 
 type Seeing = Reading<Published, Known, OneHistory>;
+
+/// The view of a train, with the version.
+type Viewed = Result<(View, u64), OrMemory<EyeFault>>;
+
+/// The whole scene, with the version.
+type Shown = Result<(Arc<Scene>, u64), OrMemory<Behind>>;
 
 /// An eye, through which a seat views the published scene. Contracts see it as what its seat was told, and as how many
 /// entries it knows to be published.
@@ -45,13 +52,13 @@ impl<J: HistoryName> Model for Eye<J> {
 }
 
 /// What a look answers, and what is told by it.
-struct Answered {
-    answer: Result<(View, u64), OrMemory<EyeFault>>,
+struct Answered<A> {
+    answer: A,
     told: Sight,
 }
 
 /// The view of a train in what is published, where that is not behind what was told.
-fn look(shown: &Published, told: &Sight, alloc: Global, train: TrainId) -> Answered
+fn look(shown: &Published, told: &Sight, alloc: Global, train: TrainId) -> Answered<Viewed>
     requires { shown.now.sight.book ≡ told.now.book }
     ensures book { result.told.book ≡ told.now.book }
     ensures later { IsLater told.now.history result.told.history }
@@ -83,6 +90,37 @@ fn look(shown: &Published, told: &Sight, alloc: Global, train: TrainId) -> Answe
     }
 }
 
+/// The scene that is published, where that is not behind what was told.
+fn share(published: &Published, told: &Sight) -> Answered<Shown>
+    requires { published.now.sight.book ≡ told.now.book }
+    ensures book { result.told.book ≡ told.now.book }
+    ensures later { IsLater told.now.history result.told.history }
+    ensures scene { IfOk result.answer (λ seen. arc_value seen.0 ≡ scene_of result.told.history) }
+    ensures version { IfOk result.answer (λ seen. (seen.1 ≡ length result.told.history.entries)
+        × (seen.1 ≡ length published.now.sight.history.entries)) }
+    ensures unshared { IfErr result.answer (IsUnshared told.now.history result.told.history
+        (length published.now.sight.history.entries)) }
+{
+    told.known();
+    let version = published.sight.version();
+    if published.sight.is_behind(told) {
+        return Answered {
+            answer: Err(OrMemory::Refused(Behind { version })),
+            told: told.again(),
+        };
+    }
+    match Arc::try_clone(&published.scene) {
+        Ok(scene) => Answered {
+            answer: Ok((scene, version)),
+            told: published.sight.again(),
+        },
+        Err(_) => Answered {
+            answer: Err(OrMemory::Memory),
+            told: published.sight.again(),
+        },
+    }
+}
+
 /// A reader finds nothing published only where the press is gone.
 fn enter<J: HistoryName, R: Wait>(rt: &R, mut reader: End) -> Seeing
     requires { known_to reader.place ≡ knower J.book (known_to reader.place).entries }
@@ -105,7 +143,7 @@ fn enter_and_look<J: HistoryName, R: Wait>(
     told: &Sight,
     alloc: Global,
     number: u32,
-) -> (End, Answered)
+) -> (End, Answered<Viewed>)
     requires knows { known_to reader.place ≡ knower J.book (known_to reader.place).entries }
     requires told { told.now.book ≡ J.book }
     ensures knows { known_to result.0.place ≡ knower J.book (known_to result.0.place).entries }
@@ -117,6 +155,28 @@ fn enter_and_look<J: HistoryName, R: Wait>(
 {
     let reading = enter::<J, R>(rt, reader);
     let seen = look(reading.get(), told, alloc, TrainId::new(number));
+    (reading.leave(), seen)
+}
+
+fn enter_and_share<J: HistoryName, R: Wait>(
+    rt: &R,
+    reader: End,
+    told: &Sight,
+) -> (End, Answered<Shown>)
+    requires knows { known_to reader.place ≡ knower J.book (known_to reader.place).entries }
+    requires told { told.now.book ≡ J.book }
+    ensures knows { known_to result.0.place ≡ knower J.book (known_to result.0.place).entries }
+    ensures known { (known_to reader.place).entries ≤ (known_to result.0.place).entries }
+    ensures book { result.1.told.book ≡ J.book }
+    ensures later { IsLater told.now.history result.1.told.history }
+    ensures scene { IfOk result.1.answer (λ seen. arc_value seen.0 ≡ scene_of result.1.told.history) }
+    ensures version { IfOk result.1.answer (λ seen. (seen.1 ≡ length result.1.told.history.entries)
+        × (seen.1 ≡ (known_to result.0.place).entries)) }
+    ensures unshared { IfErr result.1.answer (IsUnshared told.now.history result.1.told.history
+        (known_to result.0.place).entries) }
+{
+    let reading = enter::<J, R>(rt, reader);
+    let seen = share(reading.get(), told);
     (reading.leave(), seen)
 }
 
@@ -161,6 +221,31 @@ impl<J: HistoryName> Eye<J> {
             enter_and_look::<J, R>(x.0, reader, x.1, x.2, x.3)
         });
         let Answered { answer, told: then } = look;
+        *told = then;
+        answer
+    }
+
+    /// The published scene, shared and not copied, with its version, which is never below one that this eye has seen. The
+    /// seat is told all that the scene stands for.
+    ///
+    /// # Errors
+    ///
+    /// `Refused` with `Behind`, which has the published version, where that is below what the seat was told: nothing more is
+    /// told then. `Memory`, where the scene can't be shared once more.
+    pub fn scene<R: Wait>(&mut self, rt: &R) -> Result<(Arc<Scene>, u64), OrMemory<Behind>>
+        ensures later { IsLater self.old.told self.new.told }
+        ensures scene { IfOk result (λ seen. arc_value seen.0 ≡ scene_of self.new.told) }
+        ensures version { IfOk result (λ seen. (seen.1 ≡ length self.new.told.entries)
+            × (seen.1 ≡ self.new.published)) }
+        ensures unshared { IfErr result (IsUnshared self.old.told self.new.told self.new.published) }
+        ensures known { self.old.published ≤ self.new.published }
+    {
+        let Eye { reader, told, .. } = self;
+        let now: &Sight = told;
+        let shown = replace_with(reader, (rt, now), |reader, x| {
+            enter_and_share::<J, R>(x.0, reader, x.1)
+        });
+        let Answered { answer, told: then } = shown;
         *told = then;
         answer
     }

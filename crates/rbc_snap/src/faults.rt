@@ -1,4 +1,4 @@
-//! Why an eye shows no view.
+//! Why an eye shows no view, or no scene.
 
 use rbc_model::ViewFault;
 use thiserror::Error;
@@ -12,4 +12,12 @@ pub enum EyeFault {
     /// The train is shown no end, for this reason, in the scene of this version.
     #[error("no end is shown")]
     Unshown(ViewFault, u64),
+}
+
+/// The published scene is behind what the eye's seat was told.
+#[derive(Clone, Copy, Debug, PartialEq, Eq, Error)]
+#[error("the published scene is behind")]
+pub struct Behind {
+    /// The version of what is published.
+    pub version: u64,
 }

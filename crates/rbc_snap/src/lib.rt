@@ -1,5 +1,5 @@
-//! Published scenes: a press shows finished scenes of a record, and eyes view trains in them without a lock. What is seen
-//! goes on from all that was told before.
+//! Published scenes: a press shows finished scenes of a record, and eyes view trains in them, or share them, without a lock.
+//! What is seen goes on from all that was told before.
 #![tactic(auto)]
 
 mod eye;
@@ -13,7 +13,7 @@ mod rule;
 mod sight;
 
 pub use eye::Eye;
-pub use faults::EyeFault;
+pub use faults::{Behind, EyeFault};
 pub use journal::Journal;
 pub use law::Law;
 pub use name::HistoryName;

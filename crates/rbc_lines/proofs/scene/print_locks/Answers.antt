@@ -1,4 +1,4 @@
-use Rattle.std.proofs.Common.{◌≡◌, ◌<◌, ◌≤◌, length, Ok, rules}
+use Rattle.std.proofs.Common.{◌<◌, ◌≤◌, length, Ok, rules}
 use Rattle.rbc_words.proofs.PrintingLemmas.{prints_nothing, prints_then, prints_stopped}
 use Rattle.rbc_lines.proofs.LineTextLemmas.{rows-next, rows-end}
 use Rattle.rbc_lines.proofs.StopOfTrackLemmas.{before_of_track}

@@ -1,4 +1,4 @@
-use Rattle.std.proofs.Common.{◌≡◌, [], ◌∷◌, List, Ok, ◌∙◌, ap, sym, subst, arith, rules}
+use Rattle.std.proofs.Common.{◌≡◌, [], ◌∷◌, List, Ok, ◌∙◌, ap, sym, subst, arith}
 use Rattle.std.specs.Prelude.{map, flat_map}
 use Rattle.std.proofs.lemmas.Grind.{common_steps}
 use mathlib.Core.List.{map-map, map-id}
@@ -7,7 +7,6 @@ use Rattle.rbc_model.specs.Sessions.{Prints}
 use Rattle.rbc_model.specs.Tracks.{Track}
 use Rattle.rbc_model.specs.Trains.{Train}
 use Rattle.rbc_model.specs.Words.{line_of}
-use Rattle.rbc_scene.specs.TrainsOnTracks.{TrainOnTrack}
 use Rattle.rbc_scene.specs.Entries.{on_track}
 use Rattle.rbc_scene_laws.specs.Good.{IsGoodTrain}
 use Rattle.rbc_replies.specs.Replies.{ObstacleIsOfTrack}

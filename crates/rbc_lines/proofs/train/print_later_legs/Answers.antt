@@ -1,4 +1,4 @@
-use Rattle.std.proofs.Common.{◌≡◌, Ok, ◌∷◌, ◌++◌, sym, ap, ◌∙◌, ◌<◌, length, codes, map}
+use Rattle.std.proofs.Common.{Ok, ◌∷◌, sym, ap, ◌∙◌, ◌<◌, length, codes, map}
 use Rattle.std.specs.Prelude.{decimal}
 use Rattle.rbc_model.specs.declared.places.Leg.{Leg}
 use Rattle.rbc_model.specs.SessionReply.{leg_word}
