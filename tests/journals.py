@@ -119,8 +119,9 @@ def is_left_by_a_crash(before, tail):
     lines, rest = lines_of(b" " + tail[1:])
     puts, further = puts_in(before, lines)
     if tail[:1] == b"#":
-        # no gate is open behind a put whose own gate is closed
-        return not puts or (b" " + tail[1:])[len(sealed(before, puts[:1])[0]):][:1] != b" "
+        # no gate is open behind a put whose own gate is closed, but for a closed one at the end of the file that was torn
+        behind = (b" " + tail[1:])[len(sealed(before, puts[:1])[0]):]
+        return not puts or behind[:1] != b" " or len(behind) == 1
     return bool(puts) and not further and rest == b"#"
 
 

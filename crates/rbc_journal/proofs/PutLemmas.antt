@@ -1,7 +1,6 @@
 -- What whole puts add to what was read.
 use Rattle.std.proofs.Common.{◌≡◌, ℕ, ◌-◌, ◌*◌, ◌≤◌, Bool, true, false, List, [], ◌∷◌, ◌++◌, length, All, Option, Some, None, take, drop, refl, sym, ◌∙◌, ap, arith, append_assoc, length-append, if◌then◌else◌}
-use Rattle.std.specs.Prelude.{fold, not, bytes_eq, IfNone, IfSome, is_some}
-use Rattle.std.specs.Borrow.{Bor}
+use Rattle.std.specs.Prelude.{fold, not, bytes_eq, IfNone}
 use Rattle.std.proofs.lemmas.Bool.{not-true, not-false}
 use Rattle.std.proofs.lemmas.List.{append-nil, take_at, drop_at}
 use Rattle.std.proofs.lemmas.List.Sums.{fold-append}
@@ -10,7 +9,7 @@ use Rattle.std.proofs.lemmas.List.Elements.{All-nil, All-head, All-tail, All-con
 use Rattle.std.proofs.lemmas.Slice.Eq.{bytes_eq-Decides}
 use Rattle.rbc_journal.specs.Gates.{lines_from, counted, text, IsLine}
 use Rattle.rbc_journal.specs.Seals.{Chain, with_line, with_seal, has_seal_form, seal_line, seal_of}
-use Rattle.rbc_journal.specs.Reading.{first_put, begins_open, is_open_behind, goes_on}
+use Rattle.rbc_journal.specs.Reading.{first_put, begins_open, opens_more, is_open_behind, goes_on}
 use Rattle.rbc_journal.specs.Puts.{IsPut, ArePuts, at_put}
 use Rattle.rbc_journal.proofs.LineLemmas.{text-append, counted-line, counted-text}
 
@@ -119,10 +118,10 @@ module _ (before bytes : List ℕ) (put : List (List ℕ)) (seal rest : List ℕ
       ∙ first_inners before [] put (seal_line seal ∷ counted rest) is.inner
       ∙ first_right before put (seal_line seal) (counted rest) is.form (same_bytes (seal_line seal) (seal_line (seal_of before put)) (ap seal_line is.right))
 
-  pub put_goes_on : goes_on before bytes ≡ begins_open rest
+  pub put_goes_on : goes_on before bytes ≡ opens_more rest
   put_goes_on =
-      ap (is_open_behind bytes) put_first ∙ ap (λ (l : List ℕ). begins_open (drop (length (text (put ++ seal_line seal ∷ []))) l)) is.split
-      ∙ ap begins_open (drop_at (text (put ++ seal_line seal ∷ [])) rest (length (text (put ++ seal_line seal ∷ []))) refl)
+      ap (is_open_behind bytes) put_first ∙ ap (λ (l : List ℕ). opens_more (drop (length (text (put ++ seal_line seal ∷ []))) l)) is.split
+      ∙ ap opens_more (drop_at (text (put ++ seal_line seal ∷ [])) rest (length (text (put ++ seal_line seal ∷ []))) refl)
 
   pub puts_of_put : ArePuts before bytes all seal rest
   puts_of_put = record {
@@ -202,7 +201,3 @@ module _ (behind rest line after : List ℕ) (put : List (List ℕ)) (split : 32
 pub counted_shut : (bytes : List ℕ) → begins_open bytes ≡ false → counted bytes ≡ []
 counted_shut [] shut = refl
 counted_shut (gate ∷ rest) shut = ap (λ (b : Bool). if b then lines_from (Some []) rest else []) shut
-
-pub opened : (o : Option (Bor (List ℕ))) (bytes : List ℕ) → IfSome o (λ rest. bytes ≡ 32 ∷ rest.now) → IfNone o (begins_open bytes ≡ false) → is_some o ≡ begins_open bytes
-opened None bytes some none = sym none
-opened (Some rest) bytes some none = sym (ap begins_open some)

@@ -2,7 +2,7 @@
 use Rattle.std.proofs.Common.{◌≡◌, ◌≢◌, ◌⊎◌, inl, inr, ℕ, zero, suc, ◌+◌, ◌-◌, ◌<◌, ◌≤◌, Bool, true, false, List, [], ◌∷◌, ◌++◌, length, All, Option, Some, None, Result, Ok, Err, get_or, take, drop, refl, sym, ◌∙◌, ap, subst, arith, append_assoc, length-append, take-append-drop, if◌then◌else◌, ◌==◌}
 use Rattle.std.specs.Prelude.{fold, not, bytes_eq}
 use Rattle.std.proofs.lemmas.Bool.{cases_eq, cases_lt, cases_Bool, eq-eqb, ne_eqb, and_from}
-use Rattle.std.proofs.lemmas.List.{take_at, drop_at, take_all, drop_more, take-append-le}
+use Rattle.std.proofs.lemmas.List.{take_at, drop_at, take_all, drop_more, take-append-le, length-drop}
 use Rattle.std.proofs.Math.Seq.{take-append-add}
 use Rattle.std.proofs.lemmas.List.Sums.{fold-append}
 use Rattle.std.proofs.lemmas.List.Elements.{All-nil, All-head, All-tail, All-cons, All-append}
@@ -12,7 +12,7 @@ use Rattle.rbc_journal.specs.Gates.{counted, text, at_rest, behind, IsLine}
 use Rattle.rbc_journal.specs.Seals.{Chain, start, with_line, chain_of, seal_line, seal_of}
 use Rattle.rbc_journal.specs.Headers.{format_in, digest_in}
 use Rattle.rbc_journal.specs.Puts.{IsPut, at_put}
-use Rattle.rbc_journal.specs.Reading.{Parts, is_whole, chain_behind, begins_open, is_open_behind, goes_on, ends_well, dropped_of, tail_of, by_end, by_chain, by_header, by_format, reading}
+use Rattle.rbc_journal.specs.Reading.{Parts, is_whole, chain_behind, first_put, opens_more, is_open_behind, goes_on, ends_well, dropped_of, tail_of, by_end, by_chain, by_header, by_format, reading}
 use Rattle.rbc_journal.specs.ReadingLaws.{AreJournal, ArePut, with_its_seal, IsReadAs, MayLeave, IsForged, IsRefused}
 use Rattle.rbc_journal.specs.declared.reading.ReadFault.{ReadFault}
 use Rattle.rbc_journal.specs.declared.reading.ReadFault.TheVariants.{NotAJournal, Damaged, OtherTrack}
@@ -60,7 +60,7 @@ module _ (seal : List ℕ) (put : List (List ℕ)) (is : ArePut put) where
   pub stops : goes_on seal (at_rest (with_its_seal seal put)) ≡ false
   stops =
       ap (λ (o : Option (List (List ℕ))). is_open_behind (at_rest (with_its_seal seal put)) o) (put_first seal (at_rest (with_its_seal seal put)) put (seal_of seal put) (35 ∷ []) more_put)
-      ∙ ap begins_open (drop_at (text (with_its_seal seal put)) (35 ∷ []) (length (text (with_its_seal seal put))) refl)
+      ∙ ap opens_more (drop_at (text (with_its_seal seal put)) (35 ∷ []) (length (text (with_its_seal seal put))) refl)
 
   pub ends : ends_well seal (at_rest (with_its_seal seal put)) ≡ true
   ends =
@@ -100,28 +100,53 @@ gate_behind : (put : List (List ℕ)) (line : List ℕ) → 32 ∷ behind (put +
 gate_behind [] line = ap (λ (l : List ℕ). 32 ∷ l) (sym (append_assoc line (10 ∷ []) (35 ∷ [])))
 gate_behind (first ∷ put) line = ap (λ (l : List ℕ). 32 ∷ l) (sym (append_assoc first (10 ∷ text (put ++ line ∷ [])) (35 ∷ [])))
 
+opens_two : (bytes : List ℕ) → opens_more bytes ≡ true → 2 ≤ length bytes
+opens_two [] opens = cc opens
+opens_two (gate ∷ []) opens = cc opens
+opens_two (gate ∷ next ∷ rest) opens = omega arith
+
+-- a put with an open gate behind it, and more
+open_behind : (found : Option (List (List ℕ))) (bytes : List ℕ) → is_open_behind bytes found ≡ true
+    → (others : List (List ℕ)) × (found ≡ Some others) × (length (text others) + 2 ≤ length bytes)
+open_behind None bytes opens = cc opens
+open_behind (Some others) bytes opens =
+    (others, refl, omega (arith, opens_two (drop (length (text others)) bytes) opens, length-drop (length (text others)) bytes))
+
+-- what stands behind the old end is no longer than the range
+dropped_short : (at n : ℕ) (file old : List ℕ) → Torn at n old file → at ≡ length old → length (drop at file) ≤ n
+dropped_short at n file old torn end = omega (arith, torn.no_longer, end, length-drop at file)
+
 module _ (track : List ℕ) (lines : List (List ℕ)) (seal : List ℕ) (put : List (List ℕ)) (is : AreJournal track lines seal) (more : ArePut put) where
   abbrev Outcome : List ℕ → Type 0
   Outcome file =
-      ((dropped : List ℕ) × IsReadAs track file lines seal dropped) ⊎ IsReadAs track file (lines ++ with_its_seal seal put) (seal_of seal put) [] ⊎ IsForged lines seal file
+      ((dropped : List ℕ) × IsReadAs track file lines seal dropped) ⊎ IsReadAs track file (lines ++ with_its_seal seal put) (seal_of seal put) [] ⊎ IsForged lines seal (with_its_seal seal put) file
 
   length-at_rest : length (at_rest lines) ≡ length (text lines) + 1
   length-at_rest = length-append (text lines) (35 ∷ [])
 
+  length-behind : length (behind (with_its_seal seal put)) ≡ length (text (with_its_seal seal put))
+  length-behind = omega (arith, ap length (gate_behind put (seal_line (seal_of seal put))), length-append (text (with_its_seal seal put)) (35 ∷ []))
+
   -- torn bytes behind the closed gate
-  closed_gate : (torn file : List ℕ) → torn ≡ drop (length (at_rest lines)) file → file ≡ text lines ++ 35 ∷ torn → Outcome file
-  closed_gate torn file from whole = elim (cases_Bool (goes_on seal (32 ∷ torn))) [
-    | inl forged ↦ inr (inr (subst (λ (t : List ℕ). goes_on seal (32 ∷ t) ≡ true) from forged))
+  closed_gate : (torn file : List ℕ) → torn ≡ drop (length (at_rest lines)) file → length torn ≤ length (behind (with_its_seal seal put)) → file ≡ text lines ++ 35 ∷ torn → Outcome file
+  closed_gate torn file from short whole = elim (cases_Bool (goes_on seal (32 ∷ torn))) [
+    | inl forged ↦
+        let found = open_behind (first_put seal [] (counted (32 ∷ torn))) (32 ∷ torn) forged in
+        inr (inr (record {
+          others = found.0;
+          sealed = subst (λ (t : List ℕ). first_put seal [] (counted (32 ∷ t)) ≡ Some found.0) from found.1;
+          shorter = omega (arith, found.2, short, length-behind);
+        }))
     | inr stopped ↦
         let drops : dropped_of seal (35 ∷ torn) ≡ Some torn = ap (λ (b : Bool). if not b then Some torn else None) stopped in
         inl (torn, subst (λ (f : List ℕ). IsReadAs track f lines seal torn) (sym whole) (read_dropped track lines seal is (35 ∷ torn) torn (closed 35 torn (omega arith)) drops))
   ]
 
-  torn_behind : (n : ℕ) (file : List ℕ) → Torn (length (at_rest lines)) n (at_rest lines) file → Outcome file
-  torn_behind n file torn =
+  torn_behind : (file : List ℕ) → Torn (length (at_rest lines)) (length (behind (with_its_seal seal put))) (at_rest lines) file → Outcome file
+  torn_behind file torn =
       let at = length (at_rest lines) in
       let front : take (length (at_rest lines)) file ≡ at_rest lines = torn.before ∙ take_all (length (at_rest lines)) (at_rest lines) (omega arith) in
-      closed_gate (drop (length (at_rest lines)) file) file refl
+      closed_gate (drop (length (at_rest lines)) file) file refl (dropped_short (length (at_rest lines)) (length (behind (with_its_seal seal put))) file (at_rest lines) torn refl)
       (sym (take-append-drop (length (at_rest lines)) file) ∙ ap (λ (l : List ℕ). l ++ drop (length (at_rest lines)) file) front
       ∙ append_assoc (text lines) (35 ∷ []) (drop (length (at_rest lines)) file))
 
@@ -179,7 +204,7 @@ module _ (track : List ℕ) (lines : List (List ℕ)) (seal : List ℕ) (put : L
       (sym (take-append-drop (length (text lines)) file) ∙ ap (λ (l : List ℕ). l ++ drop (length (text lines)) file) front ∙ ap (λ (l : List ℕ). text lines ++ l) back)
 
   pub crash_is_read : (file : List ℕ) → MayLeave lines (with_its_seal seal put) file → Outcome file
-  crash_is_read file (inl torn) = torn_behind (length (behind (with_its_seal seal put))) file torn
+  crash_is_read file (inl torn) = torn_behind file torn
   crash_is_read file (inr torn) = torn_gate file torn
 
 -- ---- a cut

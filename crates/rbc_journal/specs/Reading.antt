@@ -41,12 +41,19 @@ abbrev pub begins_open : List ℕ → Bool
 begins_open [] = false
 begins_open (gate ∷ rest) = gate == 32
 
+-- whether bytes begin with an open gate, and more stands behind it
+abbrev pub opens_more : List ℕ → Bool
+opens_more [] = false
+opens_more (gate ∷ []) = false
+opens_more (gate ∷ next ∷ rest) = gate == 32
+
 abbrev pub is_open_behind : List ℕ → Option (List (List ℕ)) → Bool
 is_open_behind bytes None = false
-is_open_behind bytes (Some put) = begins_open (drop (length (text put)) bytes)
+is_open_behind bytes (Some put) = opens_more (drop (length (text put)) bytes)
 
--- Whether bytes begin with a put whose seal is right, and an open gate behind it. No crash leaves that behind a closed gate: nothing is written
--- behind a put before the gate in front of it is open.
+-- Whether bytes begin with a put whose seal is right, an open gate behind it, and more. No crash leaves that behind a closed gate: nothing is
+-- written behind a put before the gate in front of it is open. An open gate that ends the file is the closed one of a put that was being written,
+-- torn.
 abbrev pub goes_on : List ℕ → List ℕ → Bool
 goes_on seal bytes = is_open_behind bytes (first_put seal [] (counted bytes))
 

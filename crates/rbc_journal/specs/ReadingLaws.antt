@@ -1,10 +1,10 @@
 -- What holds of each journal file at rest, whatever program wrote it.
-use Rattle.std.specs.Prelude.{◌≡◌, ◌≢◌, ◌⊎◌, ℕ, ◌<◌, true, false, List, [], ◌∷◌, ◌++◌, length, take, drop, All, Some, Ok, Err}
+use Rattle.std.specs.Prelude.{◌≡◌, ◌≢◌, ◌⊎◌, ℕ, ◌<◌, false, List, [], ◌∷◌, ◌++◌, length, take, drop, All, Some, Ok, Err}
 use Rattle.rbc_journal.specs.Device.{Torn}
-use Rattle.rbc_journal.specs.Gates.{IsLine, text, at_rest, behind}
+use Rattle.rbc_journal.specs.Gates.{IsLine, text, counted, at_rest, behind}
 use Rattle.rbc_journal.specs.Seals.{AreSealed, has_seal_form, seal_line, seal_of}
 use Rattle.rbc_journal.specs.Headers.{format_in, digest_in}
-use Rattle.rbc_journal.specs.Reading.{goes_on, reading}
+use Rattle.rbc_journal.specs.Reading.{first_put, reading}
 use Rattle.rbc_journal.specs.declared.reading.ReadFault.TheVariants.{NotAJournal, Damaged}
 
 -- lines of a journal of format 2 of this track, each vouched for, and the last seal
@@ -34,15 +34,17 @@ abbrev pub MayLeave : List (List ℕ) → List (List ℕ) → List ℕ → Type 
 MayLeave lines put file =
     Torn (length (at_rest lines)) (length (behind put)) (at_rest lines) file ⊎ Torn (length (text lines)) 1 (text lines ++ 35 ∷ behind put) file
 
--- torn bytes behind the closed gate that happen to hold lines, the right seal of them, and an open gate behind it
-abbrev pub IsForged : List (List ℕ) → List ℕ → List ℕ → Type 0
-IsForged lines seal file = goes_on seal (32 ∷ drop (length (at_rest lines)) file) ≡ true
+-- torn bytes behind the closed gate that happen to begin with lines and the right seal of them, though these are other lines than the put's: shorter ones
+pub record IsForged (lines : List (List ℕ)) (seal : List ℕ) (put : List (List ℕ)) (file : List ℕ) : Type 0 where
+  pub others : List (List ℕ)
+  pub sealed : first_put seal [] (counted (32 ∷ drop (length (at_rest lines)) file)) ≡ Some others
+  pub shorter : length (text others) < length (text put)
 
 -- A file that a crash leaves is read as the lines from before, with all of the new put or none of it.
 abbrev pub CrashIsRead : Type 0
 CrashIsRead =
     (track : List ℕ) (lines : List (List ℕ)) (seal : List ℕ) (put : List (List ℕ)) (file : List ℕ) → AreJournal track lines seal → ArePut put → MayLeave lines (with_its_seal seal put) file
-    → ((dropped : List ℕ) × IsReadAs track file lines seal dropped) ⊎ IsReadAs track file (lines ++ with_its_seal seal put) (seal_of seal put) [] ⊎ IsForged lines seal file
+    → ((dropped : List ℕ) × IsReadAs track file lines seal dropped) ⊎ IsReadAs track file (lines ++ with_its_seal seal put) (seal_of seal put) [] ⊎ IsForged lines seal (with_its_seal seal put) file
 
 -- ---- a cut is told
 

@@ -8,7 +8,7 @@ ghost use Rattle.rbc_journal.specs.Journal.{told_of, recovered};
 ghost use Rattle.rbc_journal.specs.Headers.{named_in_header, digest_in};
 ghost use Rattle.rbc_journal.specs.Puts.{IsPut, ArePuts, BeginsWithHeader};
 ghost use Rattle.rbc_journal.specs.ReadingLaws.{AreJournal};
-ghost use Rattle.rbc_journal.specs.Reading.{Parts, first_put, begins_open, goes_on, ends_well, is_crash, dropped_of, is_first_format, tail_of, by_header, reading};
+ghost use Rattle.rbc_journal.specs.Reading.{Parts, first_put, begins_open, opens_more, goes_on, ends_well, is_crash, dropped_of, is_first_format, tail_of, by_header, reading};
 
 use crate::header::{FORMAT, TRACK_DIGITS, format_in, header_in};
 use crate::lines::{line_behind, next_line};
@@ -201,14 +201,21 @@ fn is_crash(seal: &[u8; 16], gate: u8, rest: &[u8]) -> bool
     }
 }
 
-/// Whether bytes behind a gate that is read as open begin with a put whose seal is right, and an open gate behind it.
+/// Whether bytes behind a gate that is read as open begin with a put whose seal is right, an open gate behind it, and more.
 fn goes_on(seal: &[u8; 16], behind: &[u8]) -> bool
     ensures { result ≡ goes_on seal.now (32 ∷ behind.now) }
 {
     let Some(put) = put_behind(seal, behind) else {
         return false;
     };
-    behind_open(put.rest).is_some()
+    opens_more(put.rest)
+}
+
+/// Whether bytes begin with an open gate, and more stands behind it.
+fn opens_more(bytes: &[u8]) -> bool
+    ensures { result ≡ opens_more bytes.now }
+{
+    matches!(bytes, [b' ', _, ..])
 }
 
 /// Whether bytes behind a gate that is read as open are puts whose seals are right, and a closed gate at their end.
