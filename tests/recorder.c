@@ -4,20 +4,21 @@
  *   RECORDER_FOLDER PATH   the folder, which is watched with all that lies in it
  *   RECORDER_LOG FILE      each call becomes a line of this file, once it is done. F is the number of an open file, -1 where there
  *                          is none, and bytes are told as digits:
- *                            open F PATH    write F AT BYTES    cut F LENGTH    sync F    lock F    close F
+ *                            open F PATH    write F AT BYTES    cut F LENGTH    sync F    lock F    mode F    close F
  *                            rename -1 PATH PATH    unlink -1 PATH
  *                            say F BYTES    (before they go to standard output or to a connection)
- *                            fail F WORD    (a call of this name that is made to fail)
+ *                            fail F WORD    (a call of this name that is made to fail; behind open and rename stands the path)
  *   RECORDER_CALL N        the N-th of the calls on the folder fails, and no other; those that close are not counted
  *   RECORDER_HALF 1        if that is a write, half of its bytes are written all the same
  *   RECORDER_BYTES N       writes to the folder fail once N bytes were written
+ *   RECORDER_ERROR N       calls that fail give this number of the system, and else 5, which is EIO
  */
 /* It includes no file, so that any compiler for Linux on x86-64 will do. */
 typedef __SIZE_TYPE__ size_t;
 typedef long ssize_t;
 enum { EIO = 5, O_WRONLY = 1, O_CREAT = 64, O_TRUNC = 512, O_APPEND = 1024, SEEK_CUR = 1, FILES = 4096 };
 enum { SYS_WRITE = 1, SYS_OPEN = 2, SYS_CLOSE = 3, SYS_LSEEK = 8, SYS_PWRITE = 18, SYS_YIELD = 24, SYS_SENDTO = 44, SYS_FLOCK = 73,
-       SYS_FSYNC = 74, SYS_FDATASYNC = 75, SYS_FTRUNCATE = 77, SYS_RENAME = 82, SYS_UNLINK = 87, SYS_ACCEPT4 = 288 };
+       SYS_FSYNC = 74, SYS_FDATASYNC = 75, SYS_FTRUNCATE = 77, SYS_RENAME = 82, SYS_UNLINK = 87, SYS_FCHMOD = 91, SYS_ACCEPT4 = 288 };
 #define LONG_MAX __LONG_MAX__
 #define errno (*__errno_location())
 extern int *__errno_location(void);
@@ -34,7 +35,7 @@ enum kind { UNWATCHED, OF_THE_FOLDER, SPEAKING };
 static const char *folder;
 static int log_file = -1;
 static long calls, call_to_fail, bytes_left;
-static int writes_half;
+static int writes_half, error_told;
 static unsigned char kinds[FILES];
 static int is_noting;
 
@@ -50,6 +51,7 @@ __attribute__((constructor)) static void begin(void) {
   call_to_fail = number("RECORDER_CALL", 0);
   bytes_left = number("RECORDER_BYTES", LONG_MAX);
   writes_half = number("RECORDER_HALF", 0) != 0;
+  error_told = (int)number("RECORDER_ERROR", EIO);
   kinds[1] = SPEAKING;
 }
 
@@ -143,14 +145,16 @@ static int is_in_folder(const char *path) {
   return length && !strncmp(path, folder, length) && (path[length] == '/' || !path[length]);
 }
 
-/* Whether a call of this name has to fail, as it is the N-th or for another reason. */
-static int fails(const char *word, int file, int has_reason) {
+/* Whether a call of this name, on a file or a path, has to fail, as it is the N-th or for another reason. */
+static int fails_on(const char *word, int file, const char *path, int has_reason) {
   int is_due = __atomic_add_fetch(&calls, 1, __ATOMIC_SEQ_CST) == call_to_fail || has_reason;
   if (!is_due) return 0;
-  note("fail", file, word, (void *)0);
-  errno = EIO;
+  note("fail", file, word, path);
+  errno = error_told;
   return 1;
 }
+
+static int fails(const char *word, int file, int has_reason) { return fails_on(word, file, (void *)0, has_reason); }
 
 static int sync(int file, long how) {
   if (kind_of(file) != OF_THE_FOLDER) return (int)syscall(how, file);
@@ -171,6 +175,14 @@ int ftruncate(int file, long length) {
   return answer;
 }
 
+int fchmod(int file, unsigned mode) {
+  if (kind_of(file) != OF_THE_FOLDER) return (int)syscall(SYS_FCHMOD, file, mode);
+  if (fails("mode", file, 0)) return -1;
+  int answer = (int)syscall(SYS_FCHMOD, file, mode);
+  if (!answer) note("mode", file, (void *)0, (void *)0);
+  return answer;
+}
+
 int flock(int file, int how) {
   if (kind_of(file) != OF_THE_FOLDER) return (int)syscall(SYS_FLOCK, file, how);
   if (fails("lock", file, 0)) return -1;
@@ -181,7 +193,7 @@ int flock(int file, int how) {
 
 int rename(const char *from, const char *to) {
   if (!is_in_folder(from) && !is_in_folder(to)) return (int)syscall(SYS_RENAME, from, to);
-  if (fails("rename", -1, 0)) return -1;
+  if (fails_on("rename", -1, from, 0)) return -1;
   int answer = (int)syscall(SYS_RENAME, from, to);
   if (!answer) note("rename", -1, from, to);
   return answer;
@@ -211,7 +223,7 @@ static ssize_t written(int file, const char *bytes, size_t count, long at) {
     bytes_left -= moved;
     note_write(file, at < 0 ? syscall(SYS_LSEEK, file, 0, SEEK_CUR) - moved : at, bytes, (size_t)moved);
   }
-  if (is_failing) errno = EIO;
+  if (is_failing) errno = error_told;
   return is_failing ? -1 : moved;
 }
 
@@ -255,7 +267,7 @@ int open(const char *path, int flags, ...) {
   __builtin_va_start(more, flags);
   int mode = __builtin_va_arg(more, int), is_watched = is_in_folder(path);
   __builtin_va_end(more);
-  if (is_watched && fails("open", -1, 0)) return -1;
+  if (is_watched && fails_on("open", -1, path, 0)) return -1;
   int file = (int)syscall(SYS_OPEN, path, flags, mode);
   set_kind(file, is_watched ? OF_THE_FOLDER : UNWATCHED);
   if (is_watched && file >= 0) note("open", file, path, (void *)0);

@@ -1,5 +1,6 @@
 """Rooms with a journal, and what centres make of it: what tests/crash, tests/damage and tests/power share."""
 import os
+import re
 import shutil
 import subprocess
 import tempfile
@@ -11,7 +12,8 @@ from journals import Cut, Whole
 
 TRACK = f"{ROOT}/examples/branch.toml"
 TOGETHER = 64  # lines that are put together, at most
-FAULT = (4, "rbc: journal fault\n")
+FAULT = "rbc: journal fault\n"
+CALL_FAILED = re.compile(r"rbc: journal: (\S+) of (\S+): .+ \(os error (\d+)\)\n")
 MEMORY = "/dev/shm"  # a folder that waits for no disk, on most systems
 
 
@@ -38,6 +40,19 @@ def lines_at(path, track):
     with open(path, "rb") as file:
         reading = journals.read(file.read(), journals.digest_of(track))
     return [line.decode() for line in reading.lines] if isinstance(reading, Whole) else None
+
+
+def failed(end):
+    """The call that failed where a centre ends so with a journal fault: its word, the path of its file, and the number of the system."""
+    status, told = end
+    _, fault, reason = told.rpartition(FAULT)
+    found = CALL_FAILED.fullmatch(reason)
+    return (found[1], found[2], int(found[3])) if status == 4 and fault and found else None
+
+
+def fault_of(reason):
+    """How a centre ends with a journal fault for this reason."""
+    return 4, f"{FAULT}rbc: journal: {reason}\n"
 
 
 def replies_in(written):

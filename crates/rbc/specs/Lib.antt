@@ -1,3 +1,2 @@
 pub mod Statuses
 pub mod Listening
-pub mod Reports

@@ -11,13 +11,12 @@ use Rattle.rbc_model.specs.declared.sessions.SessionFault.{SessionFault}
 use Rattle.rbc_model.specs.declared.sessions.SessionFault.TheVariants.{Memory, Write}
 use Rattle.rbc_show.specs.ServeFault.{ServeFault}
 use Rattle.rbc_show.specs.ServeFault.TheVariants.{Memory as NoServeMemory, Close, Write as ServeWrite}
-use Rattle.rbc.specs.declared.journal.JournalFault.{JournalFault}
-use Rattle.rbc.specs.declared.journal.JournalFault.TheVariants.{InUse, Failed}
+use Rattle.rbc.specs.declared.journal_fault.JournalFault.{JournalFault}
+use Rattle.rbc.specs.declared.journal_fault.JournalFault.TheVariants.{InUse, Failed, Unreadable, IsThere}
 use Rattle.rbc_trackfile.specs.declared.loading.LoadFault.{LoadFault}
 use Rattle.rbc_trackfile.specs.declared.loading.LoadFault.TheVariants.{Memory as NoLoadMemory}
-use Rattle.rbc.specs.Reports.{status_of_report}
 use Rattle.rbc.specs.declared.failure.Failure.{Failure}
-use Rattle.rbc.specs.declared.failure.Failure.TheVariants.{CommandLine, NotText, NotCertified, NotRead, Load, Session, History, Journal, Report, Serve, Memory as NoMemory}
+use Rattle.rbc.specs.declared.failure.Failure.TheVariants.{CommandLine, NotText, NotCertified, NotRead, Load, Session, History, Journal, Serve, Memory as NoMemory}
 
 -- after a command line that asks for help, or that is refused
 abbrev pub status_of_kind : ErrorKind → ℕ
@@ -41,10 +40,12 @@ status_of_serve NoServeMemory = 5
 status_of_serve (Close fault) = 6
 status_of_serve _ = 4
 
--- after a journal that is not opened, or that failed
+-- after a journal that is not opened, not gone on with or not told of
 abbrev pub status_of_journal : JournalFault → ℕ
 status_of_journal InUse = 4
-status_of_journal Failed = 4
+status_of_journal (Failed call) = 4
+status_of_journal Unreadable = 4
+status_of_journal IsThere = 4
 status_of_journal _ = 3
 
 -- after any of them
@@ -56,8 +57,7 @@ status_of NotRead = 1
 status_of (Load fault) = status_of_load fault
 status_of (Session fault) = status_of_fault fault
 status_of History = 4
-status_of (Journal fault) = status_of_journal fault
-status_of (Report fault) = status_of_report fault
+status_of (Journal fault place) = status_of_journal fault
 status_of (Serve fault) = status_of_serve fault
 status_of NoMemory = 5
 

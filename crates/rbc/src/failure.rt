@@ -5,14 +5,13 @@ ghost use Rattle.rbc_model.specs.declared.sessions.SessionFault.TheVariants.{Wri
 ghost use Rattle.rbc.specs.Statuses.{is_help_lost, status_of};
 ghost use Rattle.rbc.specs.declared.failure.Failure.TheVariants.{Session};
 
-use crate::journal::JournalFault;
-use crate::journal_report::ReportFault;
+use crate::journal_fault::{JournalFault, Misread};
 use crate::output::is_reader_gone;
 use clap::error::ErrorKind;
-use rbc_journal_file::OpenFault;
+use rbc_journal_file::{OpenFault, Place, ReadFault, Recorded, SystemFile};
 use rbc_model::Memory;
+use rbc_show::kept::KeptFault;
 use rbc_show::kept::server::{ServeFault, Unserved};
-use rbc_show::kept::{KeptFault, RunFault};
 use rbc_show::{SessionFault, WriteFailed};
 use rbc_trackfile::LoadFault;
 use std::alloc::AllocError;
@@ -46,10 +45,9 @@ pub enum Failure {
     Session(SessionFault),
     /// The file of the history can't be written.
     History,
-    /// The journal is not opened, or it failed.
-    Journal(JournalFault),
-    /// A journal is not told of, or its lines are not taken over.
-    Report(ReportFault),
+    /// A journal is not opened, not gone on with, not told of, or its lines are not taken over; and where its files stand,
+    /// if one of them may have failed.
+    Journal(JournalFault, Option<Place>),
     /// A centre that serves connections ended early, or could not open its port.
     Serve(ServeFault),
     /// A certificate was refused, as the output tells.
@@ -79,14 +77,18 @@ impl Failure {
             | Failure::Session(SessionFault::Memory)
             | Failure::Serve(ServeFault::Memory)
             | Failure::Memory => NO_MEMORY,
-            Failure::Report(fault) => fault.status(),
+            Failure::Journal(fault, _) => fault.status(),
             Failure::Session(_) | Failure::History => SESSION_FAULT,
-            Failure::Journal(JournalFault::InUse | JournalFault::Failed) => SESSION_FAULT,
-            Failure::Load(_) | Failure::Journal(_) => NO_TRACK,
+            Failure::Load(_) => NO_TRACK,
             Failure::Serve(ServeFault::Close(_)) => UNMATCHED,
             Failure::Serve(ServeFault::Port | ServeFault::Write | ServeFault::Journal) =>
                 SESSION_FAULT,
         }
+    }
+
+    /// That a file is not read as a journal of the track with this digest, if one is given.
+    pub(crate) fn unread(fault: ReadFault, given: Option<[u8; 64]>) -> Failure {
+        JournalFault::Read(Misread { fault, given }).into()
     }
 
     /// Prints what went wrong, or the help that is asked for, and gives what the program ends with: a write fault where help
@@ -124,12 +126,44 @@ impl Failure {
             Failure::Load(fault) => eprintln!(rt; "rbc: {fault}"),
             Failure::Session(fault) => eprintln!(rt; "rbc: {fault}"),
             Failure::History => eprintln!(rt; "rbc: history: Unwritable"),
-            Failure::Journal(fault) => eprintln!(rt; "rbc: {fault}"),
-            Failure::Report(fault) => eprintln!(rt; "rbc: {fault}"),
+            Failure::Journal(fault, place) => tell_journal_fault(rt, fault, place.as_ref()),
             Failure::Serve(fault) => eprintln!(rt; "rbc: {fault}"),
             Failure::NotCertified | Failure::NotRead => Ok(()),
             Failure::Memory => eprintln!(rt; "rbc: out of memory"),
         }
+    }
+}
+
+/// Prints what is wrong with a journal, and then which call failed on which of its files, where that is known.
+fn tell_journal_fault(
+    rt: &impl Eprint,
+    fault: &JournalFault,
+    place: Option<&Place>,
+) -> io::Result<()> {
+    eprintln!(rt; "rbc: {fault}")?;
+    let (Some(failed), Some(place)) = (fault.call_failed(), place) else {
+        return Ok(());
+    };
+    let path = place.of(failed.role);
+    eprintln!(rt; "rbc: journal: {} of {path}: {}", failed.call, failed.error)
+}
+
+/// That the file of a journal failed.
+pub(crate) fn file_failed(file: &Recorded<SystemFile>) -> Failure {
+    JournalFault::Failed(file.failed().copied()).into()
+}
+
+/// An outcome with the place of the journal's files, if it is a fault of them.
+pub(crate) fn at_place(outcome: Result<(), Failure>, place: Place) -> Result<(), Failure> {
+    match outcome {
+        Err(Failure::Journal(fault, _)) => Err(Failure::Journal(fault, Some(place))),
+        outcome => outcome,
+    }
+}
+
+impl From<JournalFault> for Failure {
+    fn from(fault: JournalFault) -> Failure {
+        Failure::Journal(fault, None)
     }
 }
 
@@ -154,8 +188,9 @@ impl<P: Drop, Q: Drop, G: Drop> From<Unserved<P, Q, G>> for Failure {
 impl From<OpenFault> for Failure {
     fn from(fault: OpenFault) -> Failure {
         match fault {
-            OpenFault::InUse => Failure::Journal(JournalFault::InUse),
-            OpenFault::File(_) => Failure::Journal(JournalFault::Failed),
+            OpenFault::InUse => JournalFault::InUse.into(),
+            OpenFault::OtherName => JournalFault::OtherName.into(),
+            OpenFault::File(failed) => JournalFault::Failed(Some(failed)).into(),
             OpenFault::Memory => Failure::Memory,
         }
     }
@@ -164,18 +199,9 @@ impl From<OpenFault> for Failure {
 impl From<KeptFault> for Failure {
     fn from(fault: KeptFault) -> Failure {
         match fault {
-            KeptFault::Foreign(line) => Failure::Journal(JournalFault::Foreign(line)),
-            KeptFault::Full | KeptFault::Device => Failure::Journal(JournalFault::Failed),
+            KeptFault::Foreign(line) => JournalFault::Foreign(line).into(),
+            KeptFault::Full | KeptFault::Device => JournalFault::Failed(None).into(),
             KeptFault::Memory => Failure::Memory,
-        }
-    }
-}
-
-impl From<RunFault> for Failure {
-    fn from(fault: RunFault) -> Failure {
-        match fault {
-            RunFault::Session(fault) => Failure::Session(fault),
-            RunFault::Journal => Failure::Journal(JournalFault::Failed),
         }
     }
 }

@@ -7,87 +7,24 @@ ghost use Rattle.rbc_journal_file.specs.Recorded.{past_of};
 ghost use Rattle.rbc_journal_file.specs.Seals.{IsWholeText};
 ghost use Rattle.rbc_show.specs.Kept.{IsReady};
 
-use crate::failure::Failure;
+use crate::failure::{Failure, at_place, file_failed};
 use crate::history::write_history;
 use crate::output::{ended, standard_output};
 use crate::serve::open_port;
 use crate::serve_kept::serve_kept;
 use crate::track::TrackFile;
 use rbc_command_line::Service;
-use rbc_journal_file::{Found, ReadFault, Readable, Recorded, SystemFile, new_file, read};
+use rbc_journal_file::{Found, Place, Readable, Recorded, SystemFile, new_file, read};
 use rbc_model::Memory;
 use rbc_show::Stream;
 use rbc_show::kept::server::Record;
-use rbc_show::kept::{self, Kept, replay};
-use std::fmt;
-use std::fmt::Display;
+use rbc_show::kept::{self, Kept, KeptFault, RunFault, replay};
 use std::fs::{File, Files};
 use std::io::Eprint;
 use std::net::{Net, TcpListener, TcpStream};
 use std::sync::{Arc, Wait};
 use std::thread::Threads;
 use std::time::Clock;
-use thiserror::Error;
-
-/// Why there is no journal.
-#[derive(Clone, Copy, Debug, PartialEq, Eq, Error)]
-pub enum JournalFault {
-    /// Another centre has its file.
-    #[error("journal: in use")]
-    InUse,
-    /// The file is no journal.
-    #[error("journal: not a journal")]
-    NotAJournal,
-    /// It is a journal of the format before this.
-    #[error("journal: format 1; renew it with rbc journal FILE --renew OUT")]
-    FirstFormat,
-    /// It is a journal of the format of this number.
-    #[error("journal: format {0}, and this program writes 2")]
-    OtherFormat(u64),
-    /// A byte of it is wrong, or it was cut: no crash leaves it so. The line of the first number, from 1 on, is the first that
-    /// can't be vouched for; as many as the second stand before it.
-    #[error("journal: damaged at line {0}; the {1} lines before it stand")]
-    Damaged(u64, u64),
-    /// It is of the track with the first digest, and not of the one that is given, with the second.
-    #[error("journal: of another track ({0}), not of this ({1})")]
-    OtherTrack(Digest, Digest),
-    /// The line of this number, of those that it tells, from 1 on, adds nothing to the history: it was written by hand, or by
-    /// another program.
-    #[error("journal: Foreign {0}")]
-    Foreign(u64),
-    /// Its file failed.
-    #[error("journal fault")]
-    Failed,
-}
-
-/// The digest of a track file, 64 hex digits.
-#[derive(Clone, Copy, Debug, PartialEq, Eq)]
-pub struct Digest([u8; 64]);
-
-impl Display for Digest {
-    fn fmt<W: fmt::Write>(&self, f: &mut fmt::Formatter<W>) -> fmt::Result {
-        for digit in &self.0 {
-            let shown = if digit.is_ascii_hexdigit() {
-                *digit
-            } else {
-                b'?'
-            };
-            f.write_char(char::from(shown))?;
-        }
-        Ok(())
-    }
-}
-
-/// Why a file is no journal of the track with this digest.
-fn fault_of(fault: ReadFault, digest: &[u8; 64]) -> JournalFault {
-    match fault {
-        ReadFault::NotAJournal => JournalFault::NotAJournal,
-        ReadFault::FirstFormat => JournalFault::FirstFormat,
-        ReadFault::OtherFormat(number) => JournalFault::OtherFormat(number),
-        ReadFault::Damaged(line) => JournalFault::Damaged(line, line.saturating_sub(1)),
-        ReadFault::OtherTrack(other) => JournalFault::OtherTrack(Digest(other), Digest(*digest)),
-    }
-}
 
 /// Runs a centre over the standard input, from what a journal tells on: an empty record gains that first. The history
 /// that this leads to is written, if a file is named for it, unless the journal fails.
@@ -103,8 +40,22 @@ pub(crate) fn run_kept(
 ) -> Result<(), Failure>
     requires { IsLine track.digest }
 {
+    let place = Place::at(rt, journal)?;
+    let outcome = run_at(rt, &place, history, track);
+    at_place(outcome, place)
+}
+
+/// The same, where the journal's files stand there.
+fn run_at(
+    rt: &(impl Files<File = File> + Input + Print + AllocGlobal + Threads + Eprint + Sync),
+    place: &Place,
+    history: Option<&str>,
+    track: TrackFile,
+) -> Result<(), Failure>
+    requires { IsLine track.digest }
+{
     let alloc = rt.alloc();
-    let mut kept = opened(rt, journal, track)?;
+    let mut kept = opened(rt, place, track)?;
     let mut output = standard_output(rt)?;
     let reader = &mut Stream::reader(rt.reader());
     let answered = kept::run(rt, alloc, reader, &mut output, &mut kept);
@@ -112,7 +63,12 @@ pub(crate) fn run_kept(
         (Some(path), Some(history)) => write_history(rt, path, history),
         _ => Ok(()),
     };
-    ended(output, answered.map_err(Failure::from))?;
+    let outcome = match answered {
+        Ok(()) => Ok(()),
+        Err(RunFault::Session(fault)) => Err(fault.into()),
+        Err(RunFault::Journal) => Err(file_failed(&kept.into_device())),
+    };
+    ended(output, outcome)?;
     written
 }
 
@@ -137,8 +93,30 @@ pub(crate) fn serve_with(
 ) -> Result<(), Failure>
     requires { IsLine track.digest }
 {
+    let place = Place::at(rt, journal)?;
+    let outcome = serve_at(rt, &place, track, service);
+    at_place(outcome, place)
+}
+
+/// The same, where the journal's files stand there.
+fn serve_at(
+    rt: &(impl Files<File = File>
+        + Print
+        + AllocGlobal
+        + Threads
+        + Wait
+        + Clock
+        + Eprint
+        + Net<Listener = TcpListener, Stream = TcpStream>
+        + Sync),
+    place: &Place,
+    track: TrackFile,
+    service: &Service,
+) -> Result<(), Failure>
+    requires { IsLine track.digest }
+{
     let alloc = rt.alloc();
-    let kept = opened(rt, journal, track)?;
+    let kept = opened(rt, place, track)?;
     let mut output = standard_output(rt)?;
     let outcome = match open_port(rt, service, &mut output) {
         Ok(port) => serve_kept(rt, alloc, port, kept, service, &mut output),
@@ -155,7 +133,7 @@ pub(crate) fn serve_with(
 /// `Journal`, where the file is no journal of this track, is damaged, or fails; `Memory`.
 fn opened<R: Files<File = File> + AllocGlobal + Threads + Eprint + Sync>(
     rt: &R,
-    path: &str,
+    place: &Place,
     track: TrackFile,
 ) -> Result<Kept<Recorded<SystemFile>>, Failure>
     requires { IsLine track.digest }
@@ -164,7 +142,7 @@ fn opened<R: Files<File = File> + AllocGlobal + Threads + Eprint + Sync>(
     let alloc = rt.alloc();
     let TrackFile { track, digest } = track;
     let empty = Record::new(alloc, Arc::new(alloc, track).map_err(Memory::from)?)?;
-    let found = rbc_journal_file::open(rt, path)?;
+    let found = rbc_journal_file::open(rt, place)?;
     let Some(bytes) = found.bytes() else {
         let bytes = new_file(alloc, &digest)?;
         let read = readable(bytes.as_slice(), &digest)?;
@@ -191,7 +169,7 @@ fn readable<'a>(bytes: &'a [u8], digest: &[u8; 64]) -> Result<Readable<'a>, Fail
 {
     match read(bytes, digest) {
         Ok(file) => Ok(file),
-        Err(fault) => Err(Failure::Journal(fault_of(fault, digest))),
+        Err(fault) => Err(Failure::unread(fault, Some(*digest))),
     }
 }
 
@@ -205,7 +183,7 @@ fn recovered<R: Files<File = File> + AllocGlobal + Threads + Sync>(
     rt: &R,
     empty: Record,
     read: &Readable<'_>,
-    found: &Found,
+    found: &Found<'_>,
 ) -> Result<Kept<Recorded<SystemFile>>, Failure>
     requires empty { empty.entries ≡ [] }
     requires whole { IsWholeText read.now.text.now read.now.seal }
@@ -217,6 +195,7 @@ fn recovered<R: Files<File = File> + AllocGlobal + Threads + Sync>(
     let device = Recorded::opened(file, read.text);
     match Kept::over(rt.alloc(), history, read, device) {
         Ok(kept) => Ok(kept),
+        Err((KeptFault::Device, file)) => Err(file_failed(&file)),
         Err((fault, _)) => Err(fault.into()),
     }
 }

@@ -4,6 +4,7 @@
 mod failure;
 mod history;
 mod journal;
+mod journal_fault;
 mod journal_report;
 mod output;
 mod serve;
@@ -13,9 +14,8 @@ mod version;
 
 use failure::Failure;
 use history::write_history;
-pub use journal::JournalFault;
 use journal::{run_kept, serve_with};
-pub use journal_report::ReportFault;
+pub use journal_fault::JournalFault;
 use journal_report::tell_journal;
 use output::{ended, standard_output};
 pub use rbc_certifier::steps;

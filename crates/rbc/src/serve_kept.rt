@@ -1,14 +1,17 @@
 //! A centre that serves connections, and keeps its history in a journal.
 
 ghost use Rattle.std.specs.Prelude.{◌≡◌, ◌<◌, ◌≤◌, false};
+ghost use Rattle.rbc_journal_file.specs.Past.{may_leave, seen};
+ghost use Rattle.rbc_journal_file.specs.Recorded.{past_of};
 ghost use Rattle.rbc_show.specs.Kept.{IsReady};
 
-use crate::failure::Failure;
+use crate::failure::{Failure, file_failed};
 use crate::serve::Opening;
 use rbc_command_line::Service;
+use rbc_journal_file::{Recorded, SystemFile};
 use rbc_show::kept::scribe::{self, ScribeName};
-use rbc_show::kept::server::{Client, Clients, DeskName, Served, Staff, serve};
-use rbc_show::kept::{self, DeskJournal, Device, Kept, Opened, SeatTold, close};
+use rbc_show::kept::server::{Client, Clients, DeskName, ServeFault, Served, Staff, serve};
+use rbc_show::kept::{self, DeskJournal, Kept, Opened, SeatTold, close};
 use rbc_show::{Sink, Source};
 use std::alloc::Global;
 use std::io::Eprint;
@@ -30,22 +33,21 @@ pub(crate) fn serve_kept<
     C: Client<Reader = I, Writer = O, Gone = G> + Send + Drop,
     P: Clients<Each = C> + Drop,
     W: Sink,
-    D: Device + Send + Drop,
     T: Threads + Wait + Clock + Eprint + Sync,
 >(
     rt: &T,
     alloc: Global,
     port: P,
-    kept: Kept<D>,
+    kept: Kept<Recorded<SystemFile>>,
     service: &Service,
     writer: &mut W,
 ) -> Result<(), Failure>
     requires going { W.failed writer.old ≡ false }
-    requires ready { IsReady D.seen D.may_leave kept }
+    requires ready { IsReady (λ file. seen (past_of file)) (λ file. may_leave (past_of file)) kept }
 {
     let opening = Opening::new(kept, service);
     let stamps = scribe::Blank::new();
-    open::<Brand, Brand, I, O, G, C, P, W, D, T>(rt, alloc, port, opening, stamps, writer)
+    open::<Brand, Brand, I, O, G, C, P, W, T>(rt, alloc, port, opening, stamps, writer)
 }
 
 /// Serves connections at a desk over the record, each from a seat with its pen. At the end the journal is closed.
@@ -58,18 +60,17 @@ fn open<
     C: Client<Reader = I, Writer = O, Gone = G> + Send + Drop,
     P: Clients<Each = C> + Drop,
     W: Sink,
-    D: Device + Send + Drop,
     T: Threads + Wait + Clock + Eprint + Sync,
 >(
     rt: &T,
     alloc: Global,
     port: P,
-    opening: Opening<Kept<D>>,
+    opening: Opening<Kept<Recorded<SystemFile>>>,
     stamps: scribe::Blank,
     writer: &mut W,
 ) -> Result<(), Failure>
     requires going { W.failed writer.old ≡ false }
-    requires ready { IsReady D.seen D.may_leave opening.history }
+    requires ready { IsReady (λ file. seen (past_of file)) (λ file. may_leave (past_of file)) opening.history }
     requires opened { opening.history.history ≡ L.opened }
     requires name { opening.blank.ledger.name ≡ L.name }
     requires parts { opening.blank.ledger.parts ≡ L.parts }
@@ -86,7 +87,7 @@ fn open<
         connections,
         blank,
     } = opening;
-    let opened = kept::open::<L, D, N, T>(rt, alloc, kept, seats, blank, stamps);
+    let opened = kept::open::<L, _, N, T>(rt, alloc, kept, seats, blank, stamps);
     let Opened {
         desk,
         seats,
@@ -102,8 +103,15 @@ fn open<
         return Err(Failure::Memory);
     };
     let journal = DeskJournal::over(&scribe);
-    let served = serve(rt, alloc, port, &journal, desk, staff, writer)?;
-    let Served { told, pens, .. } = served;
-    let _page = close(rt, scribe, &SeatTold::<L>::seen(told), pens.as_slice());
-    Ok(())
+    match serve(rt, alloc, port, &journal, desk, staff, writer) {
+        Ok(Served { told, pens, .. }) => {
+            let _page = close(rt, scribe, &SeatTold::<L>::seen(told), pens.as_slice());
+            Ok(())
+        }
+        Err(unserved) if matches!(unserved.fault, ServeFault::Journal) => {
+            let (file, _) = scribe.close().into_parts();
+            Err(file_failed(&file))
+        }
+        Err(unserved) => Err(unserved.into()),
+    }
 }

@@ -2,7 +2,7 @@
 
 use std::fs::File;
 use std::io;
-use std::io::{ErrorKind, Seek, SeekFrom, Write};
+use std::io::{Seek, SeekFrom, Write};
 
 /// The calls on a file that is open for writing.
 pub trait Calls {
@@ -65,7 +65,7 @@ impl Calls for SystemFile {
             self.file.sync_all()?;
         }
         if self.file.metadata()?.len() != front.len() as u64 + rest.len() as u64 {
-            return Err(ErrorKind::InvalidData.into());
+            return Err(io::Error::other("it has another length"));
         }
         Ok(())
     }

@@ -2,14 +2,17 @@
 //! says what a crash may leave of it.
 #![tactic(auto)]
 
+mod asked;
 mod calls;
 mod opening;
 mod past;
 mod place;
 mod recorded;
 
+pub use asked::{Call, CallFailed, Role};
 pub use calls::{Calls, SystemFile};
 pub use opening::{Found, OpenFault, create, open};
 pub use past::{Bytes, Past};
+pub use place::Place;
 pub use rbc_journal::{ReadFault, Readable, new_file, read, track_digest};
-pub use recorded::{Call, CallFailed, Recorded};
+pub use recorded::Recorded;

@@ -1,63 +1,64 @@
 //! Opening the file of a journal, and the new file that takes its place.
 
-use crate::SystemFile;
-use crate::place::{Place, folder_of};
-use std::alloc::{AllocError, AllocGlobal};
-use std::fs::{File, Files, OpenOptions, TryLockError};
+use crate::place::is_link;
+use crate::{Call, CallFailed, Place, Role, SystemFile};
+use std::alloc::AllocGlobal;
+use std::fs::{File, Files, Metadata, OpenOptions, TryLockError};
 use std::io::{ErrorKind, Read, Write};
-use std::os::unix::fs::MetadataExt;
+use std::os::unix::fs::{MetadataExt, OpenOptionsExt, fchown};
 use std::{fs, io};
 
 /// Why the file of a journal is not opened.
-#[derive(Debug, Drop)]
+#[derive(Clone, Copy, Debug)]
 pub enum OpenFault {
     /// Another centre has it.
     InUse,
-    /// The file, the new one or their folder failed.
-    File(io::Error),
+    /// It has another name, a hard link: a new file in its place would not have that.
+    OtherName,
+    /// The file, another one of the journal's or their folder failed.
+    File(CallFailed),
     /// The allocator refused memory.
     Memory,
 }
 
-impl From<io::Error> for OpenFault {
-    fn from(error: io::Error) -> Self {
+impl OpenFault {
+    /// That this call on this file failed.
+    fn of(call: Call, role: Role, error: io::Error) -> OpenFault {
         match error.kind() {
             ErrorKind::OutOfMemory => OpenFault::Memory,
-            _ => OpenFault::File(error),
+            _ => OpenFault::File(CallFailed { call, role, error }),
         }
     }
 }
 
-impl From<TryLockError> for OpenFault {
-    fn from(error: TryLockError) -> Self {
-        match error {
-            TryLockError::WouldBlock => OpenFault::InUse,
-            TryLockError::Error(error) => error.into(),
-        }
-    }
-}
-
-impl From<AllocError> for OpenFault {
-    fn from(_: AllocError) -> Self {
-        OpenFault::Memory
+/// The answer to a call on a file.
+///
+/// # Errors
+/// `File`; `Memory`.
+fn asked<T>(call: Call, role: Role, answer: io::Result<T>) -> Result<T, OpenFault> {
+    match answer {
+        Ok(value) => Ok(value),
+        Err(error) => Err(OpenFault::of(call, role, error)),
     }
 }
 
 /// What was found where a journal stands. Until it is dropped no other centre can open the file.
 #[derive(Drop)]
-pub struct Found {
+pub struct Found<'a> {
     bytes: Option<Vec<u8>>,
-    place: Place,
+    place: &'a Place,
     file: Option<File>,
 }
 
 /// Looks for the file of a journal. Nothing is written, and none is made if it is missing.
 ///
 /// # Errors
-/// `InUse`, before the file is read; `File`; `Memory`.
-pub fn open<R: Files<File = File> + AllocGlobal>(rt: &R, path: &str) -> Result<Found, OpenFault> {
-    let place = Place::of(rt.alloc(), path)?;
-    let Some(mut file) = locked(rt, path)? else {
+/// `InUse` or `OtherName`, before the file is read; `File`, also where a link leads nowhere; `Memory`.
+pub fn open<'a, R: Files<File = File> + AllocGlobal>(
+    rt: &R,
+    place: &'a Place,
+) -> Result<Found<'a>, OpenFault> {
+    let Some(mut file) = locked(rt, place.of(Role::Journal))? else {
         return Ok(Found {
             bytes: None,
             place,
@@ -65,7 +66,7 @@ pub fn open<R: Files<File = File> + AllocGlobal>(rt: &R, path: &str) -> Result<F
         });
     };
     let mut bytes = Vec::new(rt.alloc());
-    file.read_to_end(&mut bytes)?;
+    asked(Call::Read, Role::Journal, file.read_to_end(&mut bytes))?;
     Ok(Found {
         bytes: Some(bytes),
         place,
@@ -78,39 +79,76 @@ pub fn open<R: Files<File = File> + AllocGlobal>(rt: &R, path: &str) -> Result<F
 /// # Errors
 /// Those of [`open`].
 fn locked<R: Files<File = File>>(rt: &R, path: &str) -> Result<Option<File>, OpenFault> {
+    if is_link(rt, path) {
+        return Err(refused("a link that leads to no file"));
+    }
     let file = match OpenOptions::new().read(true).write(true).open(rt, path) {
         Ok(file) => file,
         Err(error) if error.kind() == ErrorKind::NotFound => return Ok(None),
-        Err(error) => return Err(error.into()),
+        Err(error) => return Err(OpenFault::of(Call::Open, Role::Journal, error)),
     };
-    if !file.metadata()?.is_file() {
-        return Err(OpenFault::File(ErrorKind::InvalidInput.into()));
+    if !metadata(&file, Role::Journal)?.is_file() {
+        return Err(refused("no regular file"));
     }
-    file.try_lock()?;
+    lock(&file, Role::Journal)?;
     // Between the two calls another centre may have put a new file in place of it.
-    let (here, there) = (file.metadata()?, fs::metadata(rt, path)?);
+    let here = metadata(&file, Role::Journal)?;
+    let there = asked(Call::Open, Role::Journal, fs::symlink_metadata(rt, path))?;
     if here.dev() != there.dev() || here.ino() != there.ino() {
         return Err(OpenFault::InUse);
     }
+    if here.nlink() > 1 {
+        return Err(OpenFault::OtherName);
+    }
     Ok(Some(file))
+}
+
+/// That a journal's file is not opened for this reason.
+fn refused(reason: &str) -> OpenFault {
+    let error = io::Error::new(ErrorKind::InvalidInput, reason);
+    OpenFault::of(Call::Open, Role::Journal, error)
+}
+
+/// What the system knows of an open file.
+fn metadata(file: &File, role: Role) -> Result<Metadata, OpenFault> {
+    asked(Call::Open, role, file.metadata())
+}
+
+/// Locks a file.
+///
+/// # Errors
+/// `InUse`, where another centre has locked it; `File`.
+fn lock(file: &File, role: Role) -> Result<(), OpenFault> {
+    match file.try_lock() {
+        Ok(()) => Ok(()),
+        Err(TryLockError::WouldBlock) => Err(OpenFault::InUse),
+        Err(TryLockError::Error(error)) => Err(OpenFault::of(Call::Lock, role, error)),
+    }
+}
+
+/// Puts the names in a folder on the disk.
+fn sync_folder<R: Files<File = File>>(rt: &R, place: &Place) -> Result<(), OpenFault> {
+    let folder = fs::open(rt, place.of(Role::Folder));
+    let folder = asked(Call::Open, Role::Folder, folder)?;
+    asked(Call::Sync, Role::Folder, folder.sync_all())
 }
 
 /// Makes the file of a new journal, empty and locked.
 ///
 /// # Errors
 /// `InUse`, where a file is there already; `File`.
-pub fn create<R: Files<File = File>>(rt: &R, path: &str) -> Result<SystemFile, OpenFault> {
-    let file = match fs::File::create_new(rt, path) {
+pub fn create<R: Files<File = File>>(rt: &R, place: &Place) -> Result<SystemFile, OpenFault> {
+    let file = match File::create_new(rt, place.of(Role::Journal)) {
         Ok(file) => file,
         Err(error) if error.kind() == ErrorKind::AlreadyExists => return Err(OpenFault::InUse),
-        Err(error) => return Err(error.into()),
+        Err(error) => return Err(OpenFault::of(Call::Open, Role::Journal, error)),
     };
-    file.try_lock()?;
-    fs::open(rt, folder_of(path))?.sync_all()?;
+    lock(&file, Role::Journal)?;
+    sync_folder(rt, place)?;
     Ok(SystemFile::new(file))
 }
 
-impl Found {
+impl Found<'_> {
     /// The bytes of the file. None where there is no file.
     pub fn bytes(&self) -> Option<&[u8]> {
         match &self.bytes {
@@ -132,27 +170,60 @@ impl Found {
     ) -> Result<SystemFile, OpenFault> {
         self.keep(rt, dropped)?;
         let mut file = self.begin_new(rt)?;
-        file.write_all(text)?;
-        file.write_all(b"#")?;
-        file.sync_all()?;
-        fs::rename(rt, self.place.new_path(), self.place.path())?;
-        fs::open(rt, self.place.folder())?.sync_all()?;
+        asked(Call::Write, Role::New, file.write_all(text))?;
+        asked(Call::Write, Role::New, file.write_all(b"#"))?;
+        asked(Call::Sync, Role::New, file.sync_all())?;
+        let (new, path) = (self.place.of(Role::New), self.place.of(Role::Journal));
+        asked(Call::Rename, Role::New, fs::rename(rt, new, path))?;
+        sync_folder(rt, self.place)?;
         Ok(SystemFile::in_place(file))
     }
 
-    /// The new file: empty, and locked.
+    /// The new file: empty, locked, and for its owner alone until it is like the one that was found.
     fn begin_new<R: Files<File = File>>(&self, rt: &R) -> Result<File, OpenFault> {
         let file = OpenOptions::new()
             .read(true)
             .write(true)
             .create(true)
-            .open(rt, self.place.new_path())?;
-        file.try_lock()?;
-        if self.file.is_none() && fs::exists(rt, self.place.path())? {
+            .mode(self.first_mode())
+            .open(rt, self.place.of(Role::New));
+        let file = asked(Call::Open, Role::New, file)?;
+        lock(&file, Role::New)?;
+        if self.file.is_none() && self.is_there(rt)? {
             return Err(OpenFault::InUse);
         }
-        file.set_len(0)?;
+        asked(Call::Write, Role::New, file.set_len(0))?;
+        self.liken(&file, Role::New)?;
         Ok(file)
+    }
+
+    /// Whether a file is there by now.
+    fn is_there<R: Files<File = File>>(&self, rt: &R) -> Result<bool, OpenFault> {
+        let there = fs::exists(rt, self.place.of(Role::Journal));
+        asked(Call::Open, Role::Journal, there)
+    }
+
+    /// The permissions with which a file is made: for its owner alone, until it is like the one that was found.
+    fn first_mode(&self) -> u32 {
+        if self.file.is_some() { 0o600 } else { 0o666 }
+    }
+
+    /// Gives a file the permissions of the one that was found, and its owner and group, if the system lets it.
+    fn liken(&self, file: &File, role: Role) -> Result<(), OpenFault> {
+        let Some(found) = &self.file else {
+            return Ok(());
+        };
+        let (old, new) = (metadata(found, Role::Journal)?, metadata(file, role)?);
+        if old.gid() != new.gid() {
+            let _ = fchown(file, None, Some(old.gid()));
+        }
+        if old.uid() != new.uid() {
+            let _ = fchown(file, Some(old.uid()), None);
+        }
+        if old.mode() != new.mode() {
+            asked(Call::Permit, role, file.set_permissions(old.permissions()))?;
+        }
+        Ok(())
     }
 
     /// Keeps what is dropped: it is put behind what is in the file for it, and on the disk.
@@ -160,13 +231,15 @@ impl Found {
         if dropped.is_empty() {
             return Ok(());
         }
-        let mut file = OpenOptions::new()
+        let file = OpenOptions::new()
             .append(true)
             .create(true)
-            .open(rt, self.place.cut_path())?;
-        file.write_all(dropped)?;
-        file.sync_all()?;
-        fs::open(rt, self.place.folder())?.sync_all()?;
-        Ok(())
+            .mode(self.first_mode())
+            .open(rt, self.place.of(Role::Cut));
+        let mut file = asked(Call::Open, Role::Cut, file)?;
+        self.liken(&file, Role::Cut)?;
+        asked(Call::Write, Role::Cut, file.write_all(dropped))?;
+        asked(Call::Sync, Role::Cut, file.sync_all())?;
+        sync_folder(rt, self.place)
     }
 }

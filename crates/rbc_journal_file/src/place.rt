@@ -1,10 +1,13 @@
 //! Where the file of a journal stands, and those beside it that are its own.
 
-use std::alloc::{AllocError, Global};
+use crate::Role;
+use std::alloc::{AllocError, AllocGlobal, Global};
+use std::fs::{self, Files};
+use std::io::ErrorKind;
 
 /// The paths of a journal: its file, the new one that takes its place, what is kept of dropped bytes, and their folder.
 #[derive(Debug, Drop)]
-pub(crate) struct Place {
+pub struct Place {
     path: String,
     new_path: String,
     cut_path: String,
@@ -12,11 +15,27 @@ pub(crate) struct Place {
 }
 
 impl Place {
-    /// The place of the file with this path.
+    /// The place of the file with this path, or of the one that a symbolic link at this path leads to.
     ///
     /// # Errors
     /// The allocator refused memory.
-    pub(crate) fn of(alloc: Global, path: &str) -> Result<Place, AllocError> {
+    pub fn at<R: Files + AllocGlobal>(rt: &R, path: &str) -> Result<Place, AllocError> {
+        let alloc = rt.alloc();
+        if !is_link(rt, path) {
+            return Place::just_at(alloc, path);
+        }
+        match fs::canonicalize(rt, path) {
+            Ok(end) => Place::just_at(alloc, end.as_str()),
+            Err(error) if error.kind() == ErrorKind::OutOfMemory => Err(AllocError),
+            Err(_) => Place::just_at(alloc, path),
+        }
+    }
+
+    /// The place at just this path.
+    ///
+    /// # Errors
+    /// As above.
+    fn just_at(alloc: Global, path: &str) -> Result<Place, AllocError> {
         Ok(Place {
             path: with_end(alloc, path, "")?,
             new_path: with_end(alloc, path, ".new")?,
@@ -25,25 +44,20 @@ impl Place {
         })
     }
 
-    /// The path of the journal's file.
-    pub(crate) fn path(&self) -> &str {
-        self.path.as_str()
+    /// The path of this file.
+    pub fn of(&self, role: Role) -> &str {
+        match role {
+            Role::Journal => self.path.as_str(),
+            Role::New => self.new_path.as_str(),
+            Role::Cut => self.cut_path.as_str(),
+            Role::Folder => self.folder.as_str(),
+        }
     }
+}
 
-    /// That of the file that takes its place when it is opened.
-    pub(crate) fn new_path(&self) -> &str {
-        self.new_path.as_str()
-    }
-
-    /// That of the file that keeps what is dropped.
-    pub(crate) fn cut_path(&self) -> &str {
-        self.cut_path.as_str()
-    }
-
-    /// That of the folder with all of them.
-    pub(crate) fn folder(&self) -> &str {
-        self.folder.as_str()
-    }
+/// Whether a symbolic link stands at a path.
+pub(crate) fn is_link(rt: &impl Files, path: &str) -> bool {
+    fs::symlink_metadata(rt, path).is_ok_and(|there| there.is_symlink())
 }
 
 /// A path with an end.
@@ -55,7 +69,7 @@ fn with_end(alloc: Global, path: &str, end: &str) -> Result<String, AllocError> 
 }
 
 /// The folder in which a path ends.
-pub(crate) fn folder_of(path: &str) -> &str {
+fn folder_of(path: &str) -> &str {
     match path.rsplit_once('/') {
         Some(("", _)) => "/",
         Some((folder, _)) => folder,

@@ -5,31 +5,11 @@ ghost use Rattle.rbc_journal.specs.Device.{Only};
 ghost use Rattle.rbc_journal_file.specs.Past.{seen, may_leave, moment, left_since, faults, syncs};
 ghost use Rattle.rbc_journal_file.specs.PastLaws.{counts_now, only_now};
 
-use crate::{Bytes, Calls, Past};
+use crate::{Bytes, Call, CallFailed, Calls, Past, Role};
 use rbc_journal::{Device, DeviceFailed};
 use std::io;
 use std::mem::replace;
 use std::snapshot::Snapshot;
-
-/// What is asked of a file.
-#[derive(Clone, Copy, Debug, PartialEq, Eq)]
-pub enum Call {
-    /// That bytes be written.
-    Write,
-    /// That all of it be on the disk.
-    Sync,
-    /// That a new file take its place.
-    Replace,
-}
-
-/// The call that failed, and why.
-#[derive(Debug, Drop)]
-pub struct CallFailed {
-    /// The call.
-    pub call: Call,
-    /// What the system said.
-    pub error: io::Error,
-}
 
 /// A file, and what was asked of it. Once it has failed it is asked for nothing more.
 #[derive(Drop)]
@@ -69,7 +49,8 @@ impl<C: Calls> Recorded<C> {
 /// Notes of the answer to a call whether it failed.
 fn note(failed: &mut Option<CallFailed>, call: Call, answer: io::Result<()>) {
     if let Err(error) = answer {
-        *failed = Some(CallFailed { call, error });
+        let role = Role::Journal;
+        *failed = Some(CallFailed { call, role, error });
     }
 }
 

@@ -127,6 +127,13 @@ impl<D: Device> Kept<D> {
         Some(&self.history)
     }
 
+    /// The file of the journal, which may have failed.
+    pub fn into_device(self) -> D
+        ensures { result ≡ self.journal.device }
+    {
+        self.journal.into_device()
+    }
+
     /// The record and its journal, between two sessions.
     pub fn into_parts(self) -> (Record, Journal<D>)
         requires { IsReady D.seen D.may_leave self }

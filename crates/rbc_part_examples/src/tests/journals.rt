@@ -6,7 +6,7 @@ ghost use Rattle.rbc_journal.specs.Journal.{recovered};
 ghost use Rattle.rbc_journal.specs.Settled.{IsSettled, staged};
 
 use rbc_journal::{Device, Journal, is_told, new_file, next_told, read, track_digest};
-use rbc_journal_file::{Calls, OpenFault, Recorded, open};
+use rbc_journal_file::{Calls, OpenFault, Place, Recorded, open};
 use std::alloc::{AllocError, Global};
 use std::test::Fail;
 use std::{fs, io};
@@ -283,13 +283,14 @@ fn a_file_is_one_journal_at_a_time(rt: HostRuntime) -> Result<(), Fail> {
     const PATH: &str = "rbc_journal_test.txt";
     let alloc = rt.alloc();
     let _ = fs::remove_file(&rt, PATH);
+    let place = Place::at(&rt, PATH)?;
     for line in LINES {
-        let Ok(found) = open(&rt, PATH) else {
+        let Ok(found) = open(&rt, &place) else {
             return Err("it is opened".into());
         };
         let made = new_journal(alloc)?;
         let bytes = found.bytes().unwrap_or(made.as_slice());
-        assert!(rt; found.bytes().is_none() || matches!(open(&rt, PATH), Err(OpenFault::InUse)));
+        assert!(rt; found.bytes().is_none() || matches!(open(&rt, &place), Err(OpenFault::InUse)));
         let Some((_gate, text)) = bytes.split_last() else {
             return Err("it has a closed gate".into());
         };
