@@ -9,6 +9,7 @@ mod publishing;
 mod records;
 mod replays;
 mod sessions;
+mod showing;
 mod sweeps;
 mod telling;
 
