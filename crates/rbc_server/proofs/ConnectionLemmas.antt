@@ -288,11 +288,11 @@ module _ {H V L P : Type 0} (keeps : P → ℕ → Type 0) (came : H → Coming)
 
 -- ---- seats and what is left of clients, apart
 
-map_twice : {V G A : Type 0} (f : V → G) (h : G → A) (vs : List V) → map h (map f vs) ≡ map (λ v. h (f v)) vs
+pub map_twice : {V G A : Type 0} (f : V → G) (h : G → A) (vs : List V) → map h (map f vs) ≡ map (λ v. h (f v)) vs
 map_twice f h [] = refl
 map_twice f h (v ∷ vs) = ap (λ l. h (f v) ∷ l) (map_twice f h vs)
 
-none_failed : {V : Type 0} (failed : V → Bool) (vs : List V) → list_any failed vs ≡ false → All (λ v. failed v ≡ false) vs
+pub none_failed : {V : Type 0} (failed : V → Bool) (vs : List V) → list_any failed vs ≡ false → All (λ v. failed v ≡ false) vs
 none_failed failed [] none = All-nil (λ v. failed v ≡ false)
 none_failed failed (v ∷ vs) none =
     let parts = or_parts (failed v) (list_any failed vs) none in

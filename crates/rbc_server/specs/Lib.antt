@@ -6,8 +6,11 @@ pub use Rattle.rbc_sessions.specs.Keeping
 pub use Rattle.rbc_sessions.specs.Later
 pub use Rattle.rbc_sessions.specs.Records
 pub use Rattle.rbc_sessions.specs.Replies
+pub use Rattle.rbc_sessions.specs.SeatSessions
 pub use Rattle.rbc_sessions.specs.Seats
 pub use Rattle.rbc_sessions.specs.SessionLines
 pub use Rattle.rbc_sessions.specs.SessionRefusal
 pub use Rattle.rbc_sessions.specs.SessionReply
 pub use Rattle.rbc_sessions.specs.Sights
+pub use Rattle.rbc_sessions.specs.Sittings
+pub use Rattle.rbc_sessions.specs.declared.sitting.Sitting

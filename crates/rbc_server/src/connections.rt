@@ -43,9 +43,11 @@ impl From<PortFailed> for ConnectFault {
 
 /// A sitting that a client was served from, and what is left of the client.
 #[derive(Drop)]
-struct Visit<L: DeskName, Q, G> {
-    sitting: Sitting<L, Q>,
-    gone: G,
+pub struct Visit<L: DeskName, Q, G> {
+    /// The sitting, after it.
+    pub sitting: Sitting<L, Q>,
+    /// What is left of the client, which tells how its session ended.
+    pub gone: G,
 }
 
 /// The client is served from the sitting.
@@ -65,7 +67,7 @@ impl<L: DeskName, K: Keeper<L, Pen = Q>, Q, G, C: Client<Gone = G>> Promise<Visi
 }
 
 /// A session with a client, from this sitting. A fault of the session ends the connection, and nothing else.
-fn connection<
+pub fn connection<
     'a,
     L: DeskName,
     Q: Drop,

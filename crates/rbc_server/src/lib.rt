@@ -8,12 +8,13 @@ mod outcomes;
 mod serving;
 mod staff;
 
+pub use connections::{Visit, connection};
 pub use rbc_port::{Client, Clients, Closed, Ends, Port, PortFailed, Terms};
 pub use rbc_sessions::{
     Blank, Candidate, Centre, Counter, Desk, DeskName, KeepFault, Keeper, NoJournal, NotKept,
-    Nowhere, Receipt, Record, Seat, SessionEnd, SessionFault, Sight, Sitting, View, candidate,
-    commit, demand_in, in_vain, looked_up, print_history, replies, run, session, show, stopped,
-    tell, words,
+    Nowhere, OpenGate, Receipt, Record, Seat, SessionEnd, SessionFault, Sight, Sitting, View,
+    candidate, commit, demand_in, in_vain, looked_up, print_history, replies, run, session, show,
+    stopped, tell, words,
 };
-pub use serving::{ServeFault, Served, Unserved, serve};
+pub use serving::{ServeFault, Served, Unserved, close_desk, serve};
 pub use staff::{Staff, no_pens};

@@ -317,7 +317,7 @@ fn attend<
 ///
 /// - `Close`: the desk could not be closed,
 /// - `Write`: the writer failed.
-fn close_desk<L: DeskName, W: Sink, T: Wait>(
+pub fn close_desk<L: DeskName, W: Sink, T: Wait>(
     rt: &T,
     desk: Desk<L>,
     seats: Vec<Seat<L>>,
