@@ -32,7 +32,7 @@ pub struct Connection<S> {
     stream: S,
     caller: Caller,
     lines: u64,
-    was_waited_for: bool,
+    stopped: Option<Parting>,
     log: Log,
 }
 
@@ -42,7 +42,7 @@ impl<S> Connection<S> {
             stream,
             caller: Caller { number, address },
             lines: 0,
-            was_waited_for: false,
+            stopped: None,
             log,
         }
     }
@@ -53,11 +53,10 @@ impl<S> Connection<S> {
 
     // Why its session ended so.
     fn parting(&self, ended: Result<(), SessionFault>) -> Parting {
-        match ended {
-            Ok(()) => Parting::End,
-            Err(SessionFault::Read | SessionFault::Write) if self.was_waited_for =>
-                Parting::Patience,
-            Err(fault) => Parting::Fault(fault),
+        match (ended, self.stopped) {
+            (Ok(()), _) => Parting::End,
+            (Err(SessionFault::Read | SessionFault::Write), Some(parting)) => parting,
+            (Err(fault), _) => Parting::Fault(fault),
         }
     }
 }
@@ -217,7 +216,7 @@ impl<S: Read> Read for Connection<S> {
         let outcome = self.stream.read(buf);
         match &outcome {
             Ok(count) => self.lines = self.lines.saturating_add(line_feeds(&buf[..*count])),
-            Err(error) => self.was_waited_for = is_out_of_time(error),
+            Err(error) => self.stopped = stopped_by(error),
         }
         outcome
     }
@@ -229,7 +228,7 @@ impl<S: Write> Write for Connection<S> {
     fn write(&mut self, buf: &[u8]) -> io::Result<usize> {
         let outcome = self.stream.write(buf);
         if let Err(error) = &outcome {
-            self.was_waited_for = is_out_of_time(error);
+            self.stopped = stopped_by(error);
         }
         outcome
     }
@@ -237,15 +236,19 @@ impl<S: Write> Write for Connection<S> {
     fn flush(&mut self) -> io::Result<()> {
         let outcome = self.stream.flush();
         if let Err(error) = &outcome {
-            self.was_waited_for = is_out_of_time(error);
+            self.stopped = stopped_by(error);
         }
         outcome
     }
 }
 
-// Whether a call failed since it waited for as long as it may.
-fn is_out_of_time(error: &Error) -> bool {
-    error.kind() == ErrorKind::WouldBlock
+// Why the client goes where a call failed so, if the error tells more than that.
+fn stopped_by(error: &Error) -> Option<Parting> {
+    match error.kind() {
+        ErrorKind::WouldBlock => Some(Parting::Patience),
+        ErrorKind::UnexpectedEof => Some(Parting::WithinALine),
+        _ => None,
+    }
 }
 
 // How many lines end in these bytes.

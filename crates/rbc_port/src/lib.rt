@@ -2,12 +2,16 @@
 #![tactic(auto)]
 
 mod clients;
+mod closing;
 mod connection;
 mod ends;
 mod log;
+mod place;
 mod port;
 
 pub use clients::{Client, Clients, Closed, Ends};
+pub use closing::{Closing, PortEnd};
 pub use connection::{Connection, Gone};
+pub use place::{Place, PlaceStream, open_places};
 pub use port::{Port, PortFailed, Terms};
 pub use rbc_model::SessionFault;

@@ -22,6 +22,8 @@ pub(crate) enum Parting {
     End,
     /// It said nothing, or took nothing, for as long as it was waited for.
     Patience,
+    /// Its input ended within a line.
+    WithinALine,
     /// Its session ended with this fault.
     Fault(SessionFault),
 }
@@ -31,6 +33,7 @@ impl Display for Parting {
         match self {
             Parting::End => f.write_str("end of input"),
             Parting::Patience => f.write_str("out of patience"),
+            Parting::WithinALine => f.write_str("end of input within a line"),
             Parting::Fault(fault) => fault.fmt(f),
         }
     }

@@ -8,6 +8,8 @@ use crate::log::Log;
 use std::alloc::Global;
 use std::io::{Eprint, Error, ErrorKind, Read, Write};
 use std::net::{OpenListener, OpenStream, SocketAddr};
+use std::sync::Arc;
+use std::sync::atomic::{AtomicUsize, Ordering};
 use std::time::{Clock, Duration};
 use std::{io, thread};
 use thiserror::Error as ThisError;
@@ -43,7 +45,29 @@ pub struct Port<N> {
     listener: N,
     patience: Option<Duration>,
     log: Log,
-    accepted: usize,
+    accepted: Accepted,
+}
+
+/// How many clients were accepted.
+#[derive(Drop)]
+enum Accepted {
+    /// At this port.
+    Here(usize),
+    /// At this and all others that share the number.
+    Together(Arc<AtomicUsize>),
+}
+
+impl Accepted {
+    // Counts a client, and gives its number, from 1 on.
+    fn next(&mut self) -> usize {
+        match self {
+            Accepted::Here(count) => {
+                *count = count.saturating_add(1);
+                *count
+            }
+            Accepted::Together(count) => count.fetch_add(1, Ordering::SeqCst).wrapping_add(1),
+        }
+    }
 }
 
 /// Why an accept failed.
@@ -64,7 +88,22 @@ impl<N> Port<N> {
             listener,
             patience: terms.patience,
             log: Log::new(rt, terms.is_logged),
-            accepted: 0,
+            accepted: Accepted::Here(0),
+        }
+    }
+
+    // The same, with a log and a number of clients that it shares with other ports.
+    pub(crate) fn sharing(
+        listener: N,
+        terms: Terms,
+        log: Log,
+        accepted: Arc<AtomicUsize>,
+    ) -> Port<N> {
+        Port {
+            listener,
+            patience: terms.patience,
+            log,
+            accepted: Accepted::Together(accepted),
         }
     }
 }
@@ -85,8 +124,8 @@ impl<S: Read + Write + OpenStream + Drop, N: OpenListener<Stream = S>> Clients f
         for _ in 0..=MOST_RETRIES {
             match self.try_accept() {
                 Ok((stream, address)) => {
-                    self.accepted = self.accepted.saturating_add(1);
-                    let client = Connection::new(stream, address, self.accepted, self.log);
+                    let number = self.accepted.next();
+                    let client = Connection::new(stream, address, number, self.log);
                     client.tell_began(rt, alloc);
                     return Ok(client);
                 }
