@@ -1,5 +1,5 @@
 -- A reply is said: it rests, or it is written behind those that rested, once all lines that are staged are put.
-use Rattle.std.proofs.Common.{◌≡◌, ℕ, ◌<◌, ◌≤◌, Bool, true, false, cond, ◌||◌, List, [], ◌++◌, Option, Result, Ok, Err, inl, inr, refl, sym, ap, ◌∙◌, subst, arith, append_assoc}
+use Rattle.std.proofs.Common.{◌≡◌, ℕ, ◌<◌, ◌≤◌, Bool, true, false, cond, ◌||◌, List, [], ◌++◌, length, Option, None, Result, Ok, Err, inl, inr, refl, sym, ap, ◌∙◌, subst, arith, append_assoc}
 use Rattle.std.specs.Prelude.{is_err}
 use Rattle.std.specs.Io.KnownBytes.{Appends, Keeps}
 use Rattle.std.proofs.KnownBytes.{Appends-nil, Appends-kept, Appends-trans}
@@ -8,7 +8,13 @@ use Rattle.rbc_journal.specs.Device.{LeavesOnly}
 use Rattle.rbc_journal.specs.Journal.{recovered, IsBeforeOrAfter}
 use Rattle.rbc_journal.specs.Settled.{IsSettled, staged}
 use Rattle.rbc_journal.specs.declared.journal.Journal.{Journal}
+use Rattle.rbc_model.specs.declared.sessions.Inquiry.{Inquiry}
+use Rattle.rbc_model.specs.declared.sessions.Inquiry.TheVariants.{State as AskedState, Scene as AskedScene}
+use Rattle.rbc_model.specs.Histories.{Entry, replay}
+use Rattle.rbc_model.specs.Inquiries.{inquiry_reply}
 use Rattle.rbc_model.specs.Sessions.{Prints, WritesText}
+use Rattle.rbc_model.specs.Tracks.{Track}
+use Rattle.rbc_session_laws.specs.Turns.{AnswersInquiry}
 use Rattle.rbc_kept.specs.Advances.{Holds, IsSaid}
 use Rattle.rbc_kept.specs.declared.kept.Kept.{Kept}
 use Rattle.rbc_kept.specs.declared.kept.TheConstants.{MOST_TOGETHER}
@@ -101,3 +107,8 @@ pub prints_behind : {E F : Type 0} (a b c : Option (List ℕ)) (broken before fa
     → (let e : Result (Unit {0}) E = Ok tt in Prints a b before held e) → Prints b c failed reply r → Prints a c (broken || failed) (cond broken [] (held ++ reply)) r
 prints_behind a b c broken before failed held reply r whole first second =
     rw whole (record { text = then_text a b c held reply r first.text second.text; failed = second.failed })
+
+-- what is asked to be shown has a reply
+pub shown_itself : (track : Track) (entries : List Entry) (inquiry : Inquiry) → AnswersInquiry track entries (inquiry_reply track (length entries) (replay track entries) inquiry) None inquiry
+shown_itself track entries AskedState = (refl, refl)
+shown_itself track entries AskedScene = inl (refl, refl)

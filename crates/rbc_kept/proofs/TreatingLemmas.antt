@@ -16,7 +16,7 @@ use Rattle.rbc_model.specs.declared.refusals.LineFault.TheVariants.{Overlong}
 use Rattle.rbc_model.specs.Results.{◌>>=◌}
 use Rattle.rbc_model.specs.Tracks.{Track}
 use Rattle.rbc_model.specs.Views.{View, view}
-use Rattle.rbc_model.specs.SessionText.{SessionLine, Ask, Blank, Free, GiveBack, Leave, Lock, Report, parse_session, said_line, IsSayable}
+use Rattle.rbc_model.specs.SessionText.{SessionLine, Ask, Inquire, Blank, Free, GiveBack, Leave, Lock, Report, parse_session, said_line, IsSayable}
 use Rattle.rbc_model.specs.SessionReply.{SessionRefusal, BadLine, refused_reply}
 use Rattle.rbc_server.specs.Replies.{reply_text}
 use Rattle.rbc_server.specs.SessionRefusal.TheVariants.{Memory as NoMemory}
@@ -27,6 +27,7 @@ use Rattle.rbc_server.specs.Records.{HistoryOnTrack, scene_now}
 use Rattle.rbc_server.proofs.CentreLemmas.{line_comes, printed_comes, refused_comes}
 use Rattle.rbc_server.proofs.KeepingLemmas.{line_asks}
 use Rattle.rbc_model.specs.declared.sessions.Inquiry.{Inquiry}
+use Rattle.rbc_model.specs.declared.sessions.Inquiry.TheVariants.{State as AskedState, Scene as AskedScene}
 use Rattle.rbc_session_laws.specs.declared.demand.Demand.{Demand}
 use Rattle.rbc_session_laws.specs.declared.demand.Demand.TheVariants.{Nothing, Authority, Show}
 use Rattle.rbc_session_laws.specs.Demands.{looked_up}
@@ -130,6 +131,8 @@ said_no_comment (Free name) = refl
 said_no_comment (Leave train) = refl
 said_no_comment (GiveBack train end) = refl
 said_no_comment (Ask train) = refl
+said_no_comment (Inquire AskedState) = refl
+said_no_comment (Inquire AskedScene) = refl
 
 pub said_is_told : (said : SessionLine) → IsSayable said → IsTold (said_line said)
 said_is_told said sayable = record { one = said_is_line said sayable; said = said_no_comment said }
