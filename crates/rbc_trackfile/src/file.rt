@@ -13,14 +13,15 @@ ghost use Rattle.rbc_trackfile.specs.Told.{Tells, keys_told, top_told, top_of, t
 ghost use Rattle.rbc_trackfile.specs.TopTables.{keys_view};
 
 use crate::entry::FileEntry;
-use rbc_model::{FileFault, FileTable, Format, Key, OrMemory};
+use crate::faults::fault_of;
+use rbc_model::{FileFault, FileTable, Format, Key, Memory, OrMemory};
 use rbc_track::{Parts, StepLimit, Track};
 use std::alloc::Global;
 use std::str;
 use toml::{Table, Value};
 
 /// The keys of the top table.
-const TOP_KEYS: [Key; 7] = [
+pub(crate) const TOP_KEYS: [Key; 7] = [
     Key::Format,
     Key::SpeedSteps,
     Key::GradeSteps,
@@ -99,6 +100,14 @@ fn top_keys<'a>(top: FileEntry<'a>) -> Result<TopKeys<'a>, FileFault>
         groups,
         routes,
     })
+}
+
+/// The first fault of the top table's own keys, if they have one.
+pub(crate) fn top_fault(alloc: Global, top: FileEntry) -> Result<Option<FileFault>, Memory> {
+    match top_keys(top) {
+        Ok(_) => fault_of(top.only(alloc, &TOP_KEYS)),
+        Err(fault) => Ok(Some(fault)),
+    }
 }
 
 /// The parts that the top table tells: its own keys, then each of its lists of tables, entry by entry.

@@ -2,6 +2,7 @@
 #![tactic(auto)]
 
 mod entry;
+mod faults;
 mod file;
 mod forms;
 mod items;
@@ -10,7 +11,9 @@ mod loading;
 mod parts;
 mod values;
 
+pub use faults::{MOST_FAULTS, entry_faults};
 pub use file::{parse, read, read_parts};
 pub use loading::{LoadFault, load};
+pub use parts::keys_of;
 pub use rbc_model::{FileFault, OrMemory, key_text};
 pub use rbc_track::Track;

@@ -5,6 +5,7 @@ ghost use Rattle.rbc_trackfile.specs.TomlFile.{entry_view};
 ghost use Rattle.rbc_trackfile.specs.Told.{entry_told, section_told, link_told, group_told, route_told};
 
 use crate::entry::FileEntry;
+use crate::file::TOP_KEYS;
 use crate::items::{ListItem, ListValue};
 use crate::values::Sort;
 use rbc_model::limits::{LAST_COUNTRY, LAST_GROUP, LONGEST_TRACK, SHORTEST_RUN};
@@ -26,6 +27,17 @@ const GROUP_KEYS: [Key; 5] = [
 ];
 
 const ROUTE_KEYS: [Key; 3] = [Key::Name, Key::After, Key::Legs];
+
+/// The keys of a table.
+pub fn keys_of(table: FileTable) -> &'static [Key] {
+    match table {
+        FileTable::Top => &TOP_KEYS,
+        FileTable::Section => &SECTION_KEYS,
+        FileTable::Link => &LINK_KEYS,
+        FileTable::Group => &GROUP_KEYS,
+        FileTable::Route => &ROUTE_KEYS,
+    }
+}
 
 /// The section that an entry tells.
 #[tactic(auto, unfolding(crate::specs::Told::section_told))]
