@@ -3,7 +3,8 @@
  *
  *   FAULTS_MEMORY N           the N-th request for memory is refused
  *   FAULTS_ON WHAT            what follows is not of standard input and output, but of the first connection that is accepted
- *                             (`connection`), or of the first or second file that is opened (`track`, `history`)
+ *                             (`connection`), of the first file that is opened (`track`), or of one that is called
+ *                             `..new` and opened later (`history`)
  *   FAULTS_PIECE N            a read gives at most N bytes
  *   FAULTS_READ N             a read fails once N bytes were read
  *   FAULTS_WRITE N            a write fails once N bytes were written
@@ -23,6 +24,7 @@ extern int *__errno_location(void);
 extern char *getenv(const char *);
 extern long atol(const char *);
 extern int strcmp(const char *, const char *);
+extern size_t strlen(const char *);
 extern long syscall(long, ...);
 extern void *__libc_malloc(size_t);
 extern void *__libc_calloc(size_t, size_t);
@@ -133,7 +135,9 @@ int open(const char *path, int flags, ...) {
   int file = (int)syscall(SYS_OPEN, path, flags, __builtin_va_arg(more, int));
   __builtin_va_end(more);
   opened++;
-  hinder_if(opened == 1 ? "track" : "history", file);
+  const char *end = path + strlen(path);
+  int is_new = end - path > 4 && !strcmp(end - 4, ".new");
+  hinder_if(opened == 1 ? "track" : is_new ? "history" : "another", file);
   return file;
 }
 

@@ -5,8 +5,10 @@ ghost use Rattle.rbc_model.specs.declared.sessions.SessionFault.TheVariants.{Wri
 ghost use Rattle.rbc.specs.Statuses.{is_help_lost, status_of};
 ghost use Rattle.rbc.specs.declared.failure.Failure.TheVariants.{Session};
 
+use crate::history::HistoryFault;
 use crate::journal_fault::{JournalFault, Misread};
 use crate::output::is_reader_gone;
+use crate::reason::Reason;
 use clap::error::ErrorKind;
 use rbc_journal_file::{OpenFault, Place, ReadFault, Recorded, SystemFile};
 use rbc_model::Memory;
@@ -40,11 +42,11 @@ pub enum Failure {
     /// A word of the command line is not UTF-8.
     NotText,
     /// There is no track.
-    Load(LoadFault),
+    Load(LoadFault, Reason),
     /// A session ended before its input.
     Session(SessionFault),
-    /// The file of the history can't be written.
-    History,
+    /// The file of the history is not written.
+    History(HistoryFault, Reason),
     /// A journal is not opened, not gone on with, not told of, or its lines are not taken over; and where its files stand,
     /// if one of them may have failed.
     Journal(JournalFault, Option<Place>),
@@ -73,13 +75,13 @@ impl Failure {
             Failure::NotText => REFUSED,
             Failure::NotCertified => NOT_CERTIFIED,
             Failure::NotRead => NOT_READ,
-            Failure::Load(LoadFault::Memory)
+            Failure::Load(LoadFault::Memory, _)
             | Failure::Session(SessionFault::Memory)
             | Failure::Serve(ServeFault::Memory)
             | Failure::Memory => NO_MEMORY,
             Failure::Journal(fault, _) => fault.status(),
-            Failure::Session(_) | Failure::History => SESSION_FAULT,
-            Failure::Load(_) => NO_TRACK,
+            Failure::Session(_) | Failure::History(_, _) => SESSION_FAULT,
+            Failure::Load(_, _) => NO_TRACK,
             Failure::Serve(ServeFault::Close(_)) => UNMATCHED,
             Failure::Serve(ServeFault::Port | ServeFault::Write | ServeFault::Journal) =>
                 SESSION_FAULT,
@@ -123,9 +125,9 @@ impl Failure {
             Failure::NotText => eprintln!(rt;
                 "error: invalid UTF-8 was detected in one or more arguments"
             ),
-            Failure::Load(fault) => eprintln!(rt; "rbc: {fault}"),
+            Failure::Load(fault, reason) => eprint!(rt; "rbc: {fault}\n{reason}"),
             Failure::Session(fault) => eprintln!(rt; "rbc: {fault}"),
-            Failure::History => eprintln!(rt; "rbc: history: Unwritable"),
+            Failure::History(fault, reason) => eprint!(rt; "rbc: {fault}\n{reason}"),
             Failure::Journal(fault, place) => tell_journal_fault(rt, fault, place.as_ref()),
             Failure::Serve(fault) => eprintln!(rt; "rbc: {fault}"),
             Failure::NotCertified | Failure::NotRead => Ok(()),
@@ -169,7 +171,7 @@ impl From<JournalFault> for Failure {
 
 impl From<LoadFault> for Failure {
     fn from(fault: LoadFault) -> Failure {
-        Failure::Load(fault)
+        Failure::Load(fault, Reason::none())
     }
 }
 

@@ -8,12 +8,12 @@ ghost use Rattle.rbc_journal_file.specs.Seals.{IsWholeText};
 ghost use Rattle.rbc_show.specs.Kept.{IsReady};
 
 use crate::failure::{Failure, at_place, file_failed};
-use crate::history::write_history;
+use crate::history::history_of;
 use crate::output::{ended, standard_output};
 use crate::serve::open_port;
 use crate::serve_kept::serve_kept;
 use crate::track::TrackFile;
-use rbc_command_line::Service;
+use rbc_command_line::{Centre, Service};
 use rbc_journal_file::{Found, Place, Readable, Recorded, SystemFile, new_file, read};
 use rbc_model::Memory;
 use rbc_show::Stream;
@@ -35,13 +35,13 @@ use std::time::Clock;
 pub(crate) fn run_kept(
     rt: &(impl Files<File = File> + Input + Print + AllocGlobal + Threads + Eprint + Sync),
     journal: &str,
-    history: Option<&str>,
+    centre: &Centre<'_>,
     track: TrackFile,
 ) -> Result<(), Failure>
     requires { IsLine track.digest }
 {
     let place = Place::at(rt, journal)?;
-    let outcome = run_at(rt, &place, history, track);
+    let outcome = run_at(rt, &place, centre, track);
     at_place(outcome, place)
 }
 
@@ -49,19 +49,24 @@ pub(crate) fn run_kept(
 fn run_at(
     rt: &(impl Files<File = File> + Input + Print + AllocGlobal + Threads + Eprint + Sync),
     place: &Place,
-    history: Option<&str>,
+    centre: &Centre<'_>,
     track: TrackFile,
 ) -> Result<(), Failure>
     requires { IsLine track.digest }
 {
     let alloc = rt.alloc();
     let mut kept = opened(rt, place, track)?;
+    let history = history_of(rt, centre)?;
     let mut output = standard_output(rt)?;
     let reader = &mut Stream::reader(rt.reader());
     let answered = kept::run(rt, alloc, reader, &mut output, &mut kept);
     let written = match (history, kept.history()) {
-        (Some(path), Some(history)) => write_history(rt, path, history),
-        _ => Ok(()),
+        (Some(file), Some(history)) => file.write(rt, history),
+        (Some(file), None) => {
+            file.give_up(rt);
+            Ok(())
+        }
+        (None, _) => Ok(()),
     };
     let outcome = match answered {
         Ok(()) => Ok(()),

@@ -9,11 +9,13 @@ ghost use Rattle.rbc_journal_file.specs.Recorded.{past_of};
 use crate::failure::{Failure, at_place, file_failed};
 use crate::journal_fault::JournalFault;
 use crate::output::{ended, standard_output};
+use crate::reason::Reason;
+use crate::track::{unread, unreadable};
 use rbc_command_line::{JournalWork, Journaled};
 use rbc_journal_file::{OpenFault, Place, Recorded, Role, SystemFile, create};
 use rbc_journal_report::{
-    CopyFault, JournalFault as PutFault, WholeFault, check, copy_first, digest_of, print_lines,
-    print_report, renew,
+    CopyFault, JournalFault as PutFault, check, copy_first, digest_of, print_lines, print_report,
+    renew,
 };
 use rbc_show::Stream;
 use rbc_trackfile::LoadFault;
@@ -58,13 +60,14 @@ pub(crate) fn tell_journal(
 fn digest_in(rt: &(impl Files + AllocGlobal), path: &str) -> Result<[u8; 64], Failure>
     ensures { IfOk result (λ digest. IsLine digest) }
 {
-    let Ok(file) = fs::open(rt, path) else {
-        return Err(Failure::Load(LoadFault::Unreadable));
+    let alloc = rt.alloc();
+    let file = match fs::open(rt, path) {
+        Ok(file) => file,
+        Err(error) => return Err(unreadable(alloc, path, &error)),
     };
-    match digest_of(rt.alloc(), &mut Stream::reader(file)) {
+    match digest_of(alloc, &mut Stream::reader(file)) {
         Ok(digest) => Ok(digest),
-        Err(WholeFault::Memory) => Err(Failure::Memory),
-        Err(_) => Err(Failure::Load(LoadFault::Unreadable)),
+        Err(fault) => Err(unread(alloc, path, fault)),
     }
 }
 
@@ -140,7 +143,7 @@ fn take_all(
     requires { IfSome given (λ digest. IsLine digest) }
 {
     let Some(track) = given else {
-        return Err(Failure::Load(LoadFault::Unreadable));
+        return Err(Failure::Load(LoadFault::Unreadable, Reason::none()));
     };
     let device = created(rt, place)?;
     match renew(rt.alloc(), bytes, &track, device) {

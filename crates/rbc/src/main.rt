@@ -7,13 +7,15 @@ mod journal;
 mod journal_fault;
 mod journal_report;
 mod output;
+mod reason;
 mod serve;
 mod serve_kept;
 mod track;
 mod version;
 
 use failure::Failure;
-use history::write_history;
+pub use history::HistoryFault;
+use history::history_of;
 use journal::{run_kept, serve_with};
 pub use journal_fault::JournalFault;
 use journal_report::tell_journal;
@@ -26,8 +28,10 @@ use rbc_model::Memory;
 use rbc_show::Stream;
 use rbc_show::kept::server::{self, Record};
 pub use rbc_show::{list, show, show_each, show_each_page, show_page};
+pub use rbc_track_report::report;
 pub use rbc_trackfile::{LoadFault, read as track_in};
 pub use rbc_viewer::draw;
+pub use reason::Reason;
 use serve::{open_port, serve};
 use std::env;
 use std::env::Env;
@@ -144,14 +148,15 @@ fn run_centre(
     let alloc = rt.alloc();
     let track = read_track(rt, centre.track)?;
     if let Some(journal) = centre.journal {
-        return run_kept(rt, journal, centre.history, track);
+        return run_kept(rt, journal, centre, track);
     }
     let mut record = Record::new(alloc, Arc::new(alloc, track.track).map_err(Memory::from)?)?;
+    let history = history_of(rt, centre)?;
     let mut output = standard_output(rt)?;
     let reader = &mut Stream::reader(rt.reader());
     let answered = server::run(rt, alloc, reader, &mut output, &mut record);
-    let kept = match centre.history {
-        Some(path) => write_history(rt, path, &record),
+    let kept = match history {
+        Some(file) => file.write(rt, &record),
         None => Ok(()),
     };
     ended(output, answered.map_err(Failure::from))?;
@@ -184,14 +189,15 @@ fn show_session(
     ended(output, answered.map_err(Failure::from))
 }
 
-/// Reads the track of a file, and writes it as lines, if that is asked for.
+/// Reads the track of a file, and writes what it has, or all of it as lines, if that is asked for.
 fn list_track(rt: &(impl Files + Print + AllocGlobal), listed: &Listed) -> Result<(), Failure> {
     let TrackFile { track, .. } = read_track(rt, listed.track)?;
-    if !listed.lines {
-        return Ok(());
-    }
     let mut output = standard_output(rt)?;
-    let written = list(&track, &mut output);
+    let written = if listed.lines {
+        list(&track, &mut output)
+    } else {
+        report(&track, &mut output)
+    };
     ended(output, written.map_err(Failure::from))
 }
 

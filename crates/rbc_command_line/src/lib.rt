@@ -200,6 +200,7 @@ const RUN: &str = "\
 Requests, one a line:
   report T C/B D DIST OVER UNDER LEN TIME  Train T reports its front DIST m past group C/B,
                                            up to OVER m less or UNDER m more; D is nominal or reverse
+                                           TIME is T_TRAIN, in units of 10 ms: 0 to 4294967294
   lock R                                   Route R is locked
   free S                                   Section S is freed
   leave T                                  Train T leaves
@@ -223,6 +224,7 @@ const SERVE: &str = "\
 Requests, one a line:
   report T C/B D DIST OVER UNDER LEN TIME  Train T reports its front DIST m past group C/B,
                                            up to OVER m less or UNDER m more; D is nominal or reverse
+                                           TIME is T_TRAIN, in units of 10 ms: 0 to 4294967294
   lock R                                   Route R is locked
   free S                                   Section S is freed
   leave T                                  Train T leaves
