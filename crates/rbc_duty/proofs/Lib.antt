@@ -1,0 +1,3 @@
+mod DutyLemmas
+mod StayLemmas
+mod VisitLemmas

@@ -1,0 +1,57 @@
+use Rattle.std.proofs.Common.{rules, ◌≡◌, ◌∙◌, Option, None, Some, ap, map, subst, sym}
+use Rattle.std.proofs.lemmas.Bool.{both_ways}
+use Rattle.std.specs.Prelude.{All, IfSome}
+use Rattle.rbc_server.specs.Later.{IsLater}
+use Rattle.rbc_server.specs.Seats.{Seated}
+use Rattle.rbc_server.specs.declared.serving.ServeFault.{ServeFault}
+use Rattle.rbc_duty.specs.Stays.{StandsRelieved}
+use Rattle.rbc_duty.proofs.StayLemmas.{fault_stands, not_written, unclosed_stands}
+use Rattle.rbc_duty.proofs.staying.stay.Goals as goal
+
+pub returns-in-Some-clause-fault : goal.returns-in-Some-clause-fault
+returns-in-Some-clause-fault g c =
+    let posts = c.args.posts.items in
+    let comings = map (λ p. g.P.Clients.coming p.port) posts in
+    let sittings = map (λ p. p.sitting) posts in
+    let pens = c.attend-parted.result.parted.pens.items in
+    let written = g.W.Sink.written c.args.writer.now in
+    fault_stands g.K.Keeper.kept g.L.DeskName.opened g.L.Ledger.parts comings sittings pens written written c.in-Some.fault
+    (subst (λ (f : Option ServeFault). IfSome f (StandsRelieved g.K.Keeper.kept comings sittings pens)) c.in-Some.is c.attend-parted.ensures.stands)
+
+pub returns-in-Some-clause-write : goal.returns-in-Some-clause-write
+returns-in-Some-clause-write g c =
+    let posts = c.args.posts.items in
+    let comings = map (λ p. g.P.Clients.coming p.port) posts in
+    let sittings = map (λ p. p.sitting) posts in
+    let pens = c.attend-parted.result.parted.pens.items in (
+      (λ is. absurd (not_written g.K.Keeper.kept comings sittings pens c.in-Some.fault
+          (subst (λ (f : Option ServeFault). IfSome f (StandsRelieved g.K.Keeper.kept comings sittings pens)) c.in-Some.is c.attend-parted.ensures.stands) is)),
+      (λ failed. absurd (both_ways _ c.requires.going failed)),
+    )
+
+pub returns-in-Some-clause-journal_failed : goal.returns-in-Some-clause-journal_failed
+returns-in-Some-clause-journal_failed g c = λ is. c.attend-parted.ensures.journal (c.in-Some.is ∙ ap Some is)
+
+pub returns-in-Ok-clause-stayed : goal.returns-in-Ok-clause-stayed
+returns-in-Ok-clause-stayed g c =
+    let none : c.attend-parted.result.fault ≡ None = search rules in
+    record {
+      seats = c.attend-parted.result.parted.seats.items;
+      relieved = c.attend-parted.ensures.relieved none;
+      closing = c.in-Ok.ensures.closing;
+      closed = c.in-Ok.ensures.text;
+    }
+
+pub returns-in-Ok-clause-told : goal.returns-in-Ok-clause-told
+returns-in-Ok-clause-told g c =
+    let closing = c.in-Ok.ensures.closing in
+    let record_now = c.in-Ok.record in
+    c.last_sight-told.ensures.earlier record_now (subst (All (λ (seat : Seated). IsLater seat.told record_now)) (sym c.as_slice.ensures.value) closing.goes_on)
+
+pub returns-in-Err-clause-fault : goal.returns-in-Err-clause-fault
+returns-in-Err-clause-fault g c =
+    let none : c.attend-parted.result.fault ≡ None = search rules in
+    let posts = c.args.posts.items in
+    unclosed_stands g.K.Keeper.kept g.L.DeskName.opened g.L.Ledger.parts (map (λ p. g.P.Clients.coming p.port) posts) (map (λ p. p.sitting) posts)
+    c.attend-parted.result.parted.pens.items (g.W.Sink.written c.args.writer.now) (g.W.Sink.written c.close_desk.new.writer) _ c.in-Err.fault
+    (c.attend-parted.ensures.relieved none) c.in-Err.ensures.fault

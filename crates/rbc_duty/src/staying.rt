@@ -1,0 +1,294 @@
+//! A centre that stays up until its end is asked for.
+
+ghost use Rattle.std.specs.Prelude.{◌≡◌, ◌≢◌, ◌↔◌, ◌≤◌, ◌<◌, [], List, None, Some, All, false, take, map, length, vec_len, vec_capacity, IsTrue, IsErrAnd, IfOk, IfErr, IfSome, OnOk};
+ghost use Rattle.std.specs.List.{list_any};
+ghost use Rattle.rbc_model.specs.Histories.{IsLegal};
+ghost use Rattle.rbc_server.specs.Connections.{OneKnows};
+ghost use Rattle.rbc_server.specs.Later.{IsLater};
+ghost use Rattle.rbc_server.specs.Records.{HistoryOnTrack};
+ghost use Rattle.rbc_server.specs.declared.serving.ServeFault.TheVariants.{Port as PortFault, Write as WriteFault, Memory as NoMemory, Journal as JournalFault};
+ghost use Rattle.rbc_duty.specs.Stays.{AreRelieved, IsStayed, IsStayFault, StandsRelieved, duty_fault};
+
+use crate::{Duty, Post, Stood, stand_all};
+use rbc_port::{Client, Clients, Closing};
+use rbc_server::{
+    Counter, Desk, DeskName, Keeper, OpenGate, Record, Seat, ServeFault, Sight, Sitting, close_desk,
+};
+use rbc_streams::{Sink, Source};
+use std::alloc::{AllocError, Global};
+use std::io::Eprint;
+use std::sync::Wait;
+use std::thread::Threads;
+use std::time::Clock;
+
+/// The seats and the pens, each in order.
+#[derive(Drop)]
+struct Parted<L: DeskName, Q> {
+    seats: Vec<Seat<L>>,
+    pens: Vec<Q>,
+}
+
+/// The seats and the pens of these duties, in the room that is there for them.
+fn part_all<L: DeskName, Q: Drop>(duties: Vec<Duty<L, Q>>, room: Parted<L, Q>) -> Parted<L, Q>
+    requires no_seat { vec_len room.seats ≡ 0 }
+    requires no_pen { vec_len room.pens ≡ 0 }
+    requires room_for_seats { vec_len duties ≤ vec_capacity room.seats }
+    requires room_for_pens { vec_len duties ≤ vec_capacity room.pens }
+    ensures seats { result.seats.items ≡ map (λ duty. duty.sitting.seat) duties.items }
+    ensures pens { result.pens.items ≡ map (λ duty. duty.sitting.pen) duties.items }
+{
+    let Parted {
+        mut seats,
+        mut pens,
+    } = room;
+    for duty in duties {
+        let Duty { sitting, .. } = duty;
+        let Sitting { seat, pen, .. } = sitting;
+        seats.push_reserved(seat);
+        pens.push_reserved(pen);
+    }
+    Parted { seats, pens }
+}
+
+/// Whether a request could not be kept in one of these duties.
+fn any_failed<L: DeskName, Q>(duties: &[Duty<L, Q>]) -> bool
+    ensures { result ≡ list_any (λ duty. duty.sitting.has_failed) duties.now }
+{
+    duties.iter().any(|duty| duty.sitting.has_failed)
+}
+
+/// Whether in one of these duties no client could be accepted any more.
+fn any_lost<L: DeskName, Q>(duties: &[Duty<L, Q>]) -> bool
+    ensures { result ≡ list_any (λ duty. duty.is_port_lost) duties.now }
+{
+    duties.iter().any(|duty| duty.is_port_lost)
+}
+
+/// The first fault of these duties, if there is one.
+fn fault_in<L: DeskName, Q>(all_begun: bool, duties: &[Duty<L, Q>]) -> Option<ServeFault>
+    ensures { result ≡ duty_fault all_begun (list_any (λ duty. duty.sitting.has_failed) duties.now)
+        (list_any (λ duty. duty.is_port_lost) duties.now) }
+{
+    if !all_begun {
+        Some(ServeFault::Memory)
+    } else if any_failed(duties) {
+        Some(ServeFault::Journal)
+    } else if any_lost(duties) {
+        Some(ServeFault::Port)
+    } else {
+        None
+    }
+}
+
+/// Room for what duties leave.
+struct Room<L: DeskName, Q> {
+    duties: Vec<Duty<L, Q>>,
+    parted: Parted<L, Q>,
+}
+
+/// Room for this number of duties.
+///
+/// # Errors
+///
+/// The allocator refuses memory.
+fn room_for<L: DeskName, Q: Drop>(alloc: Global, count: usize) -> Result<Room<L, Q>, AllocError>
+    ensures duties { IfOk result (λ room. (vec_len room.duties ≡ 0) × (vec_capacity room.duties ≡ count)) }
+    ensures seats { IfOk result (λ room. (vec_len room.parted.seats ≡ 0) × (vec_capacity room.parted.seats ≡ count)) }
+    ensures pens { IfOk result (λ room. (vec_len room.parted.pens ≡ 0) × (vec_capacity room.parted.pens ≡ count)) }
+{
+    Ok(Room {
+        duties: Vec::with_capacity(alloc, count)?,
+        parted: Parted {
+            seats: Vec::with_capacity(alloc, count)?,
+            pens: Vec::with_capacity(alloc, count)?,
+        },
+    })
+}
+
+/// The seats and the pens of those that were on duty, each in order, and why the centre may not end well.
+#[derive(Drop)]
+struct Relieved<L: DeskName, Q> {
+    parted: Parted<L, Q>,
+    fault: Option<ServeFault>,
+}
+
+/// Where there was no room for any duty.
+fn none_relieved<L: DeskName, Q>(alloc: Global) -> Relieved<L, Q>
+    ensures pens { result.parted.pens.items ≡ [] }
+    ensures fault { result.fault ≡ Some NoMemory }
+{
+    Relieved {
+        parted: Parted {
+            seats: Vec::new(alloc),
+            pens: Vec::new(alloc),
+        },
+        fault: Some(ServeFault::Memory),
+    }
+}
+
+/// Serves the clients that come to each of these posts, until the end is asked for. Gives the seats and the pens back in their
+/// order, and the first of these faults:
+/// - `Memory`: no thread could be started for a post, or there was no room,
+/// - `Journal`: a request could not be kept,
+/// - `Port`: no client could be accepted any more.
+fn attend<
+    'a,
+    L: DeskName + Send + Sync,
+    Q: Send + Drop,
+    X: Send + Drop,
+    K: Keeper<L, Pen = Q, Text = X> + Send + Sync,
+    I: Source + Send + Drop,
+    O: Sink + Send + Drop,
+    G: Send + Drop,
+    C: Client<Reader = I, Writer = O, Gone = G> + Send + Drop,
+    P: Clients<Each = C> + Send + Drop,
+    E: Closing + Sync,
+    T: Threads + Wait + Clock + Eprint + Sync,
+>(
+    rt: &T,
+    alloc: Global,
+    counter: &Counter<'a, L, K, OpenGate, T>,
+    closing: &E,
+    posts: Vec<Post<L, Q, P>>,
+) -> Relieved<L, Q>
+    ensures relieved { result.fault ≡ None → AreRelieved K.kept (map (λ post. P.coming post.port) posts.items)
+        (map (λ post. post.sitting) posts.items) result.parted.seats.items result.parted.pens.items }
+    ensures count { result.fault ≡ None → vec_len result.parted.seats ≡ vec_len posts }
+    ensures stands { IfSome result.fault (StandsRelieved K.kept (map (λ post. P.coming post.port) posts.items)
+        (map (λ post. post.sitting) posts.items) result.parted.pens.items) }
+    ensures journal { result.fault ≡ Some JournalFault → OneKnows K.failed result.parted.pens.items }
+{
+    let Ok(Room { duties, parted }) = room_for(alloc, posts.len()) else {
+        return none_relieved(alloc);
+    };
+    let Stood { duties, all_begun } = stand_all(rt, alloc, counter, closing, posts, duties);
+    let fault = fault_in(all_begun, duties.as_slice());
+    Relieved {
+        parted: part_all(duties, parted),
+        fault,
+    }
+}
+
+/// The last moment of the desk's history that one of these seats was told: by then it has all that any of them was told.
+fn last_sight<L: DeskName>(seats: &[Seat<L>]) -> Sight
+    requires { 0 < length seats.now }
+    ensures book { result.book ≡ L.book }
+    ensures earlier { (log : HistoryOnTrack) → All (λ seat. IsLater seat.told log) seats.now → IsLater result.history log }
+{
+    let mut last = seats[0].sight();
+    for seat in seats {
+        let sight = seat.sight();
+        if last.is_behind(&sight) {
+            last = sight;
+        }
+    }
+    last
+}
+
+/// What a centre that stayed up leaves.
+#[derive(Drop)]
+pub struct Stayed<Q> {
+    /// The record, with the receipts of all seats.
+    pub record: Record,
+    /// All that any seat was told before the desk was closed, as a moment of its history.
+    pub told: Sight,
+    /// The pens of the seats, in order.
+    pub pens: Vec<Q>,
+}
+
+/// Where it ended with a fault: the fault, and what stands.
+#[derive(Drop)]
+pub struct Unstayed<Q> {
+    /// The fault.
+    pub fault: ServeFault,
+    /// The pens of the seats that were on duty, in order, as the fault left them.
+    pub pens: Vec<Q>,
+}
+
+/// Serves the clients that come to each of these posts at a desk, until the end is asked for; then closes the desk, and prints
+/// how many entries the record has. Each post serves its clients one after the other, in a thread of its own. A fault of a
+/// session ends its connection, and no other. A reply that tells of an entry is written once the request that led to it is kept.
+/// The desk is ended on each way out.
+///
+/// # Errors
+///
+/// The first of these. All seats have left their posts then, and the pens come back.
+/// - `Memory`: the allocator refused it, or no thread could be started for a post; nothing was printed,
+/// - `Journal`: a request could not be kept; nothing was printed,
+/// - `Port`: no client could be accepted any more, though the end had not been asked for; nothing was printed,
+/// - `Write`: the writer failed,
+/// - `Close`: the desk could not be closed.
+pub fn stay<
+    L: DeskName + Send + Sync,
+    Q: Send + Drop,
+    X: Send + Drop,
+    K: Keeper<L, Pen = Q, Text = X> + Send + Sync,
+    I: Source + Send + Drop,
+    O: Sink + Send + Drop,
+    G: Send + Drop,
+    C: Client<Reader = I, Writer = O, Gone = G> + Send + Drop,
+    P: Clients<Each = C> + Send + Drop,
+    E: Closing + Sync,
+    W: Sink,
+    T: Threads + Wait + Clock + Eprint + Sync,
+>(
+    rt: &T,
+    alloc: Global,
+    keeper: &K,
+    closing: &E,
+    desk: Desk<L>,
+    posts: Vec<Post<L, Q, P>>,
+    writer: &mut W,
+) -> Result<Stayed<Q>, Unstayed<Q>>
+    requires going { W.failed writer.old ≡ false }
+    requires some { 1 ≤ vec_len posts }
+
+    // The record goes on from the one at the desk's opening, and is legal.
+    ensures grown { IfOk result (λ stayed. take (length L.opened.entries) stayed.record.entries ≡ L.opened.entries) }
+    ensures track { IfOk result (λ stayed. stayed.record.track ≡ L.opened.track) }
+    ensures legal { IfOk result (λ stayed. IsLegal stayed.record.track stayed.record.entries) }
+
+    // The clients that came to each seat, in order, were served from it, each from what the one before left: what each said was
+    // answered to it, line by line. None that was accepted is left out, and none was served twice. What led to the entries that
+    // it was told of is kept, by what the pens that come back know. The receipts of all these clients are the entries since the
+    // desk was opened. What was written tells how many entries the record has.
+    ensures stayed { IfOk result (λ stayed. IsStayed K.kept L.opened (map (λ post. P.coming post.port) posts.items)
+        (map (λ post. post.sitting) posts.items) stayed.pens.items (W.written writer.old) (W.written writer.new) stayed.record) }
+    ensures handed_on { OnOk result (W.held_back writer.new ≡ []) }
+
+    // The record is what was told of it, or goes on from that.
+    ensures book { IfOk result (λ stayed. stayed.told.book ≡ L.book) }
+    ensures told { IfOk result (λ stayed. IsLater stayed.told.history stayed.record) }
+
+    // Where a seat lost its port, memory was refused or a request could not be kept, nothing is written. That a request could not
+    // be kept is told only where a pen knows that keeping has failed. A write fault is answered exactly where the writer failed.
+    ensures port { IfErr result (λ unstayed. unstayed.fault ≡ PortFault → writer.new ≡ writer.old) }
+    ensures memory { IfErr result (λ unstayed. unstayed.fault ≡ NoMemory → writer.new ≡ writer.old) }
+    ensures journal { IfErr result (λ unstayed. unstayed.fault ≡ JournalFault → writer.new ≡ writer.old) }
+    ensures journal_failed { IfErr result (λ unstayed. unstayed.fault ≡ JournalFault → OneKnows K.failed unstayed.pens.items) }
+    ensures write { IsErrAnd result (λ unstayed. unstayed.fault ≡ WriteFault) ↔ IsTrue (W.failed writer.new) }
+
+    // What stands behind a fault: the seats were on duty as above, but not those for which no thread could be started, nor any
+    // behind them; and the pens are theirs. Where a port was lost, no more clients come by it, where it is known who comes. Behind
+    // a write fault a part of the last line is written, from its start.
+    ensures fault { IfErr result (λ unstayed. IsStayFault K.kept L.opened L.parts (map (λ post. P.coming post.port) posts.items)
+        (map (λ post. post.sitting) posts.items) unstayed.pens.items (W.written writer.old) (W.written writer.new) unstayed.fault) }
+{
+    let Relieved { parted, fault } = attend(
+        rt,
+        alloc,
+        &Counter::new(&desk, keeper, &OpenGate, rt),
+        closing,
+        posts,
+    );
+    let Parted { seats, pens } = parted;
+    if let Some(fault) = fault {
+        desk.end(rt);
+        return Err(Unstayed { fault, pens });
+    }
+    let told = last_sight(seats.as_slice());
+    match close_desk(rt, desk, seats, writer) {
+        Ok(record) => Ok(Stayed { record, told, pens }),
+        Err(fault) => Err(Unstayed { fault, pens }),
+    }
+}
