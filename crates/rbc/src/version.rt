@@ -4,5 +4,5 @@
 /// of the logic that proves them.
 pub(crate) const VERSION: &str = "\
 0.4.0
-sources 787be469f0ec7dc6f2d56361cfda0e6aa9155199cb23a76de6662ea95dde8f1e
+sources a3a9afd90fe6f6324ec0982bef9a8b6d686267d40018e1d5af79a72c918bbdc9
 logic dac8208d650f15bf";
