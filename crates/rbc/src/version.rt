@@ -4,5 +4,5 @@
 /// of the logic that proves them.
 pub(crate) const VERSION: &str = "\
 0.4.0
-sources a3a9afd90fe6f6324ec0982bef9a8b6d686267d40018e1d5af79a72c918bbdc9
+sources 3cb13a402513c631327d84f4b1896892c38670e85a50c201802317c814cd77dd
 logic dac8208d650f15bf";
