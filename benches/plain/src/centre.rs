@@ -135,6 +135,14 @@ impl Centre {
                     Err(refusal) => Err(refusal),
                 }
             }
+            [b"state"] => {
+                self.print_state(out);
+                return true;
+            }
+            [b"scene"] => {
+                self.print_scene(out);
+                return true;
+            }
             _ => return false,
         };
         match done {

@@ -35,6 +35,7 @@ fn forms(command: &[u8]) -> Option<Vec<Form>> {
         b"lock" | b"free" => vec![Name],
         b"leave" | b"ask" => vec![TRAIN],
         b"yield" => vec![TRAIN, Number(0, 100_000)],
+        b"state" | b"scene" => vec![],
         _ => return None,
     })
 }

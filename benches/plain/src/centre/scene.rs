@@ -7,6 +7,15 @@ use crate::track::Leg;
 const LEGS_A_LINE: usize = 64;
 
 impl Centre {
+    /// The version, how many trains there are, and how many sections are locked.
+    pub fn print_state(&self, out: &mut Vec<u8>) {
+        out.extend_from_slice(b"state");
+        for count in [self.entries, self.trains.len(), self.locks.iter().flatten().count()] {
+            print_next(out, count as i64);
+        }
+        out.push(b'\n');
+    }
+
     pub fn print_scene(&self, out: &mut Vec<u8>) {
         out.extend_from_slice(b"scene");
         print_next(out, self.entries as i64);
