@@ -132,7 +132,7 @@ impl<L: DeskName> Desk<L> {
         requires parts { blank.ledger.parts ≡ L.parts }
         requires book { blank.journal ≡ L.book }
         requires one_each { seats ≡ L.parts }
-        requires some { (1 ≤ seats) × (seats ≤ 16) }
+        requires some { (1 ≤ seats) × (seats ≤ 72) }
         requires opened { log ≡ L.opened }
         ensures { IfOk result (λ made. made.1.items ≡ replicate seats (seated [] L.opened)) }
     {

@@ -45,7 +45,7 @@ pub fn open<L: DeskName, D: Device, N: ScribeName, R: Wait>(
     requires parts { blank.ledger.parts ≡ L.parts }
     requires book { blank.journal ≡ L.book }
     requires one_each { seats ≡ L.parts }
-    requires some { (1 ≤ seats) × (seats ≤ 16) }
+    requires some { (1 ≤ seats) × (seats ≤ 72) }
     requires stamps { stamps ≡ N.book }
 
     // The file has a line for each of the record's entries, and the pens have a stamp of them.

@@ -23,13 +23,13 @@ impl<N: ScribeName> Model for Pen<N> {
 
     ghost view = { λ p. p.mark };
 
-    ghost invariant = { λ p. p.slot < 16 };
+    ghost invariant = { λ p. p.slot < 72 };
 }
 
 impl<N: ScribeName> Pen<N> {
     /// The pen for a slot.
     pub(crate) fn new(slot: usize, mark: Mark<N>) -> Pen<N>
-        requires { slot < 16 }
+        requires { slot < 72 }
         ensures { result ≡ mark }
     {
         Pen { slot, mark }

@@ -45,7 +45,7 @@ pub struct Start<T: Told + Drop, D: Device> {
 
 /// A slot for each pen.
 fn empty_slots<T: Told + Drop>(alloc: Global) -> Result<Vec<Option<Line<T>>>, AllocError>
-    ensures { IfOk result (λ slots. vec_len slots ≡ 16) }
+    ensures { IfOk result (λ slots. vec_len slots ≡ 72) }
 {
     let mut slots = Vec::with_capacity(alloc, MOST_PENS)?;
     for _slot in 0..MOST_PENS {
@@ -58,7 +58,7 @@ fn empty_slots<T: Told + Drop>(alloc: Global) -> Result<Vec<Option<Line<T>>>, Al
 fn pens_with<N: ScribeName>(mut pens: Vec<Pen<N>>, count: usize, mark: &Mark<N>) -> Vec<Pen<N>>
     requires empty { vec_len pens ≡ 0 }
     requires room { count ≤ vec_capacity pens }
-    requires few { count ≤ 16 }
+    requires few { count ≤ 72 }
     ensures { result.items ≡ replicate count mark.now }
 {
     for slot in 0..count {
@@ -85,7 +85,7 @@ impl<T: Told + Drop, D: Device, N: ScribeName> Scribe<T, D, N> {
         requires none_staged { staged start.journal ≡ [] }
         requires count { start.lines ≡ length (recovered (D.seen start.journal.device)) }
         requires told { AreTold (T.tells start.told) (recovered (D.seen start.journal.device)) }
-        requires few { pens ≤ 16 }
+        requires few { pens ≤ 72 }
         requires book { blank ≡ N.book }
         ensures pens { IfOk result (λ opened. opened.1.items ≡ replicate pens (stamp_of D.seen D.moment start.journal ∷ [])) }
         ensures refused { IfErr result (λ fault. (fault.1 ≡ start.journal.device) × (fault.0 ≡ JournalFault.Device → ⊥)) }

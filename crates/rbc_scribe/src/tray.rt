@@ -10,7 +10,7 @@ use rbc_journal::Device;
 use std::sync::Wait;
 
 /// How many pens a scribe has at most: as many lines are written together.
-pub(crate) const MOST_PENS: usize = 16;
+pub(crate) const MOST_PENS: usize = 72;
 
 /// The lines that wait, each in the slot of its pen, and how far the writing is.
 #[derive(Drop)]
@@ -19,7 +19,7 @@ pub(crate) struct Tray<T: Told + Drop, N: ScribeName> {
     pub(crate) latest: Mark<N>,
     pub(crate) is_writing: bool,
     pub(crate) has_failed: bool,
-    pub(crate) ghost all: { vec_len slots ≡ 16 },
+    pub(crate) ghost all: { vec_len slots ≡ 72 },
 }
 
 /// Where the line of this place lies.
@@ -58,7 +58,7 @@ fn put<T: Told + Drop>(slots: &mut Vec<Option<Line<T>>>, slot: usize, line: Line
 impl<T: Told + Drop, N: ScribeName> Tray<T, N> {
     /// Lays a line.
     pub(crate) fn lay(&mut self, slot: usize, line: Line<T>)
-        requires { slot < 16 }
+        requires { slot < 72 }
     {
         put(&mut self.slots, slot, line);
     }

@@ -185,7 +185,7 @@ fn sweep_behind<'a, L: DeskName + Send + Sync, K: Keeper<L>, G, W: Sink, T: Thre
     requires some { 1 ≤ vec_len visited.old.seats }
     requires one_each { vec_len visited.old.pens ≡ vec_len visited.old.seats }
     requires workers { 1 ≤ vec_len workers }
-    requires few { vec_len workers ≤ 16 }
+    requires few { vec_len workers ≤ 72 }
     requires room { vec_len visited.old.seats + vec_len workers ≤ vec_capacity visited.old.seats }
     ensures attended { OnOk result ((coming : Option (List Coming)) (partings : List Parting) (staff : Serving L K.Pen) → staff.workers.items ≡ workers.items
         → AreParted K.kept coming staff.sittings.items visited.old.seats.items visited.old.pens.items partings
@@ -287,7 +287,7 @@ fn attend<
     requires going { W.failed writer.old ≡ false }
     requires some { 1 ≤ vec_len staff.sittings }
     requires workers { 1 ≤ vec_len staff.workers }
-    requires few { vec_len staff.sittings + vec_len staff.workers ≤ 16 }
+    requires few { vec_len staff.sittings + vec_len staff.workers ≤ 72 }
     ensures attended { IfOk result (λ back. IsAttended K.kept L.opened.track (P.coming port) (map C.parting back.0.gone.items)
         staff back.0.seats.items back.0.pens.items (W.written writer.old) (W.written writer.new)) }
     ensures unwritten { IfErr result (λ unserved. unserved.fault ≢ WriteFault → writer.new ≡ writer.old) }
@@ -393,7 +393,7 @@ pub fn serve<
     requires going { W.failed writer.old ≡ false }
     requires some { 1 ≤ vec_len staff.sittings }
     requires workers { 1 ≤ vec_len staff.workers }
-    requires few { vec_len staff.sittings + vec_len staff.workers ≤ 16 }
+    requires few { vec_len staff.sittings + vec_len staff.workers ≤ 72 }
 
     // The record goes on from the one at the desk's opening, and is legal.
     ensures grown { IfOk result (λ served. take (length L.opened.entries) served.record.entries ≡ L.opened.entries) }

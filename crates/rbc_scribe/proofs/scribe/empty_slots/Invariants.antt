@@ -2,4 +2,4 @@ use Rattle.std.proofs.Common.{◌≡◌, ◌≤◌, vec_len}
 use Rattle.rbc_scribe.proofs.scribe.empty_slots.Given as goal
 
 abbrev pub invariant-loop-slot : goal.invariant-loop-slot
-invariant-loop-slot g l = (vec_len l.slots ≡ l._slot) × (16 ≤ l.slots.cap)
+invariant-loop-slot g l = (vec_len l.slots ≡ l._slot) × (72 ≤ l.slots.cap)
