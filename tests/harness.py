@@ -27,14 +27,15 @@ def free_port():
 
 
 class Server:
-    """The program, which serves a track on a port of the system's choice, with further words on its command line."""
+    """The program, which serves a track on a port of the system's choice, with further words on its command line. Where it has no
+    workers it stays up until its standard input, a pipe, tells it to end."""
 
     def __init__(self, command, track, connections, workers, *further, environment=None, **how):
         for _ in range(MOST_PORTS):
             self.port = free_port()
             words = [command, "serve", track, "--port", str(self.port)]
-            words += ["--connections", str(connections), "--workers", str(workers), *further]
-            how.update(stdin=subprocess.DEVNULL, stdout=subprocess.PIPE, stderr=subprocess.PIPE, bufsize=0, env=environment)
+            words += ["--connections", str(connections), *(["--workers", str(workers)] if workers else ["--stay"]), *further]
+            how.update(stdin=subprocess.DEVNULL if workers else subprocess.PIPE, stdout=subprocess.PIPE, stderr=subprocess.PIPE, bufsize=0, env=environment)
             self.process = subprocess.Popen(words, **how)
             self.listening = self.first_line() == f"listening {self.port}\n".encode()
             if self.listening:

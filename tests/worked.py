@@ -95,3 +95,18 @@ def text_of(session):
 
 def replies_of(session):
     return "".join(f"{reply}\n" for _, reply in session)
+
+
+def plain_tracks(count):
+    """The plain track so many times: each has a section, a route and a group of its own number."""
+    text = "format = 1\n"
+    for number in range(1, count + 1):
+        text += f'[[section]]\nname = "S{number}"\nlength = 1000\nspeeds = [[0, 100]]\ngrades = [[0, -5]]\n'
+        text += f'[[group]]\ncountry = 5\nnumber = {number}\nsection = "S{number}"\noffset = 0\nnominal = "+"\n'
+        text += f'[[route]]\nname = "R{number}"\nlegs = ["S{number}+"]\n'
+    return text
+
+
+def plain_report(number, front=300, time=1_000):
+    """A report of the train of this number, on the plain track of its number."""
+    return f"report {number} 5/{number} nominal {front} 5 5 200 {time}"

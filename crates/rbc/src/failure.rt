@@ -10,6 +10,7 @@ use crate::journal_fault::{JournalFault, Misread};
 use crate::output::is_reader_gone;
 use crate::reason::Reason;
 use clap::error::ErrorKind;
+use rbc_duty::Unstayed;
 use rbc_journal_file::{OpenFault, Place, ReadFault, Recorded, SystemFile};
 use rbc_model::Memory;
 use rbc_show::kept::KeptFault;
@@ -184,6 +185,12 @@ impl From<SessionFault> for Failure {
 impl<P: Drop, Q: Drop, G: Drop> From<Unserved<P, Q, G>> for Failure {
     fn from(unserved: Unserved<P, Q, G>) -> Failure {
         Failure::Serve(unserved.fault)
+    }
+}
+
+impl<Q: Drop> From<Unstayed<Q>> for Failure {
+    fn from(unstayed: Unstayed<Q>) -> Failure {
+        Failure::Serve(unstayed.fault)
     }
 }
 

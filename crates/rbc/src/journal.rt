@@ -12,15 +12,17 @@ use crate::history::history_of;
 use crate::output::{ended, standard_output};
 use crate::serve::open_port;
 use crate::serve_kept::serve_kept;
+use crate::stay::{Entrance, open_entrance};
+use crate::stay_kept::stay_kept;
 use crate::track::TrackFile;
-use rbc_command_line::{Centre, Service};
+use rbc_command_line::{Centre, Service, Staying};
 use rbc_journal_file::{Found, Place, Readable, Recorded, SystemFile, new_file, read};
 use rbc_model::Memory;
 use rbc_show::Stream;
 use rbc_show::kept::server::Record;
 use rbc_show::kept::{self, Kept, KeptFault, RunFault, replay};
 use std::fs::{File, Files};
-use std::io::Eprint;
+use std::io::{BufRead, Eprint};
 use std::net::{Net, TcpListener, TcpStream};
 use std::sync::{Arc, Wait};
 use std::thread::Threads;
@@ -125,6 +127,67 @@ fn serve_at(
     let mut output = standard_output(rt)?;
     let outcome = match open_port(rt, service, &mut output) {
         Ok(port) => serve_kept(rt, alloc, port, kept, service, &mut output),
+        Err(failure) => Err(failure),
+    };
+    ended(output, outcome)
+}
+
+/// Serves clients that come and go, from what a journal tells on. The port is opened once the journal is.
+///
+/// # Errors
+///
+/// Those of [`serve_with`].
+pub(crate) fn stay_with<I: BufRead + Drop + Send + 'static>(
+    rt: &(impl Files<File = File>
+        + Input<Reader = I>
+        + Print
+        + AllocGlobal
+        + Threads
+        + Wait
+        + Clock
+        + Eprint
+        + Net<Listener = TcpListener, Stream = TcpStream>
+        + Copy
+        + Send
+        + Sync
+        + 'static),
+    journal: &str,
+    track: TrackFile,
+    staying: &Staying,
+) -> Result<(), Failure>
+    requires { IsLine track.digest }
+{
+    let place = Place::at(rt, journal)?;
+    let outcome = stay_at(rt, &place, track, staying);
+    at_place(outcome, place)
+}
+
+/// The same, where the journal's files stand there.
+fn stay_at<I: BufRead + Drop + Send + 'static>(
+    rt: &(impl Files<File = File>
+        + Input<Reader = I>
+        + Print
+        + AllocGlobal
+        + Threads
+        + Wait
+        + Clock
+        + Eprint
+        + Net<Listener = TcpListener, Stream = TcpStream>
+        + Copy
+        + Send
+        + Sync
+        + 'static),
+    place: &Place,
+    track: TrackFile,
+    staying: &Staying,
+) -> Result<(), Failure>
+    requires { IsLine track.digest }
+{
+    let alloc = rt.alloc();
+    let kept = opened(rt, place, track)?;
+    let mut output = standard_output(rt)?;
+    let outcome = match open_entrance(rt, staying, &mut output) {
+        Ok(Entrance { end, ports }) => stay_kept(rt, alloc, &*end, ports, kept, &mut output),
         Err(failure) => Err(failure),
     };
     ended(output, outcome)

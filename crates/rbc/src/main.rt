@@ -1,6 +1,7 @@
 //! The program `rbc`, the deciding part of an ETCS Level 2 radio block centre.
 #![tactic(auto)]
 
+mod end;
 mod failure;
 mod history;
 mod journal;
@@ -10,19 +11,21 @@ mod output;
 mod reason;
 mod serve;
 mod serve_kept;
+mod stay;
+mod stay_kept;
 mod track;
 mod version;
 
 use failure::Failure;
 pub use history::HistoryFault;
 use history::history_of;
-use journal::{run_kept, serve_with};
+use journal::{run_kept, serve_with, stay_with};
 pub use journal_fault::JournalFault;
 use journal_report::tell_journal;
 use output::{ended, standard_output};
 pub use rbc_certifier::steps;
 pub use rbc_checks::check;
-use rbc_command_line::{Centre, Listed, Printing, Service, Shown, Task};
+use rbc_command_line::{Centre, Listed, Printing, Service, Shown, Staying, Task};
 pub use rbc_fields::{Form, Json, Plain, decode};
 use rbc_model::Memory;
 use rbc_show::Stream;
@@ -33,10 +36,11 @@ pub use rbc_trackfile::{LoadFault, read as track_in};
 pub use rbc_viewer::draw;
 pub use reason::Reason;
 use serve::{open_port, serve};
+use stay::{Entrance, open_entrance, stay_up};
 use std::env;
 use std::env::Env;
 use std::fs::{File, Files};
-use std::io::Eprint;
+use std::io::{BufRead, Eprint};
 use std::net::{Net, TcpListener, TcpStream};
 use std::process::ExitCode;
 use std::sync::{Arc, Wait};
@@ -56,10 +60,10 @@ fn main(rt: HostRuntime) -> ExitCode {
 }
 
 /// Does what the command line asks for.
-fn run(
+fn run<I: BufRead + Drop + Send + 'static>(
     rt: &(impl Env
         + Files<File = File>
-        + Input
+        + Input<Reader = I>
         + Print
         + AllocGlobal
         + Threads
@@ -67,7 +71,10 @@ fn run(
         + Clock
         + Eprint
         + Net<Listener = TcpListener, Stream = TcpStream>
-        + Sync),
+        + Copy
+        + Send
+        + Sync
+        + 'static),
 ) -> Result<(), Failure> {
     let alloc = rt.alloc();
     let words: Vec<String> = env::args(rt)?.collect(alloc)?;
@@ -81,6 +88,7 @@ fn run(
         Task::Show(shown) => show_session(rt, &shown),
         Task::Track(listed) => list_track(rt, &listed),
         Task::Serve(service) => serve_centre(rt, &service),
+        Task::Stay(staying) => stay_at_port(rt, &staying),
         Task::Journal(asked) => tell_journal(rt, &asked),
     }
 }
@@ -223,6 +231,37 @@ fn serve_centre(
     let mut output = standard_output(rt)?;
     let outcome = match open_port(rt, service, &mut output) {
         Ok(port) => serve(rt, alloc, port, track, service, &mut output),
+        Err(failure) => Err(failure),
+    };
+    ended(output, outcome)
+}
+
+/// Serves clients that come and go on a port, on the track of a file, until the end is asked for.
+fn stay_at_port<I: BufRead + Drop + Send + 'static>(
+    rt: &(impl Files<File = File>
+        + Input<Reader = I>
+        + Print
+        + AllocGlobal
+        + Threads
+        + Wait
+        + Clock
+        + Eprint
+        + Net<Listener = TcpListener, Stream = TcpStream>
+        + Copy
+        + Send
+        + Sync
+        + 'static),
+    staying: &Staying,
+) -> Result<(), Failure> {
+    let alloc = rt.alloc();
+    let track = read_track(rt, staying.track)?;
+    if let Some(journal) = staying.journal {
+        return stay_with(rt, journal, track, staying);
+    }
+    let track = Arc::new(alloc, track.track).map_err(Memory::from)?;
+    let mut output = standard_output(rt)?;
+    let outcome = match open_entrance(rt, staying, &mut output) {
+        Ok(Entrance { end, ports }) => stay_up(rt, alloc, &*end, ports, track, &mut output),
         Err(failure) => Err(failure),
     };
     ended(output, outcome)

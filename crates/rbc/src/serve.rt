@@ -45,7 +45,7 @@ pub(crate) fn open_port<N: Net<Listener = TcpListener, Stream = TcpStream> + Clo
 /// # Errors
 ///
 /// `WriteFailed`, where the writer fails.
-fn print_listening<W: Sink>(port: u16, writer: &mut W) -> Result<(), WriteFailed>
+pub(crate) fn print_listening<W: Sink>(port: u16, writer: &mut W) -> Result<(), WriteFailed>
     requires { W.failed writer.old ≡ false }
     ensures text { Prints (W.written writer.old) (W.written writer.new) (W.failed writer.new)
         (listening_line port) result }
@@ -95,9 +95,9 @@ pub(crate) fn serve<
 pub(crate) struct Opening<H> {
     /// The history that it goes on from.
     pub(crate) history: H,
-    /// How many seats it has, 2 to 16: one for each connection and each worker.
+    /// How many seats it has, at most 16: one for each connection and each worker.
     pub(crate) seats: usize,
-    /// How many of them serve connections, at least one, and fewer than there are.
+    /// How many of them serve connections, at least one.
     pub(crate) connections: usize,
     /// The blank of its ledger.
     pub(crate) blank: Blank,
@@ -118,6 +118,21 @@ impl<H> Opening<H> {
             seats,
             connections: service.connections,
             blank: Blank::new(seats),
+        }
+    }
+
+    /// Over the history, with a seat for each of these places, and no worker.
+    pub(crate) fn for_places(history: H, places: usize) -> Opening<H>
+        ensures history { result.history ≡ history }
+        ensures parts { result.blank.ledger.parts ≡ result.seats }
+        ensures seats { result.seats ≡ places }
+        ensures connections { result.connections ≡ places }
+    {
+        Opening {
+            history,
+            seats: places,
+            connections: places,
+            blank: Blank::new(places),
         }
     }
 }

@@ -28,6 +28,8 @@ pub enum Task<'a> {
     Track(Listed<'a>),
     /// Serve connections.
     Serve(Service<'a>),
+    /// Serve clients that come and go, until the end is asked for.
+    Stay(Staying<'a>),
     /// Tell of a journal, or take lines over from one.
     Journal(Journaled<'a>),
 }
@@ -114,6 +116,32 @@ pub struct Service<'a> {
     pub ghost some: { (1 ≤ connections) × (1 ≤ workers) },
     pub ghost few: { (connections ≤ 8) × (workers ≤ 8) },
 }
+
+/// How a centre stays up.
+#[derive(Clone, Copy, Debug, PartialEq, Eq)]
+pub struct Staying<'a> {
+    /// The track file.
+    pub track: &'a str,
+    /// The port, 1 to 65,535.
+    pub port: u16,
+    /// How many clients are served at once, 1 to 64.
+    pub places: usize,
+    /// The file of its journal, if it has one.
+    pub journal: Option<&'a str>,
+    /// On what terms clients are served.
+    pub terms: Terms,
+    pub ghost some: { 1 ≤ places },
+    pub ghost few: { places ≤ 64 },
+}
+
+/// How many connections a centre takes that ends once all have ended.
+const MOST_CONNECTIONS: i64 = 8;
+
+/// How many clients a centre that stays up serves at once, at most.
+const MOST_PLACES: i64 = 64;
+
+/// How long such a centre waits for a client where nothing is said, in seconds.
+const PATIENCE: u64 = 60;
 
 /// What stands behind the help of the program.
 const PAGES: &str = "\
@@ -233,11 +261,12 @@ Requests, one a line:
   state                                    Shows the version, and how many trains and locked sections there are
   scene                                    Shows the locked sections and the trains, and what each would be granted
 
-Example:
+Examples:
   rbc serve station.toml --port 7001 --connections 2 --workers 2 --patience 60 --journal day.journal
+  rbc serve station.toml --stay --port 7001 --connections 8 --log --journal day.journal
 
 Exit status:
-  0  All connections have ended, and each train was served once more
+  0  All connections have ended, and each train was served once more; with --stay the end was asked for
   3  The track file can't be read, or is refused; or the journal is not one of this track
   4  The port can't be opened, or accepts no connection; a write fault; or the journal can't be had or fails
   5  No memory, or no thread for a connection
@@ -246,6 +275,8 @@ Exit status:
 /// Reads the command line, whose first word is the program's name. A line that asks for help, or for the version, is an
 /// error whose exit code is 0.
 pub fn read<'a>(alloc: Global, version: &'a str, words: &'a [String]) -> Result<Task<'a>, Error> {
+    // What a centre that stays up is asked for differs.
+    let stays = words.iter().any(|word| word.as_str() == "--stay");
     let mut command = Command::new(alloc, "rbc")
         .about("The deciding part of an ETCS Level 2 radio block centre")
         .version(version)
@@ -258,7 +289,7 @@ pub fn read<'a>(alloc: Global, version: &'a str, words: &'a [String]) -> Result<
         .subcommand(run(alloc)?)?
         .subcommand(show(alloc)?)?
         .subcommand(track(alloc)?)?
-        .subcommand(serve(alloc)?)?
+        .subcommand(serve(alloc, stays)?)?
         .subcommand(journal(alloc)?)?;
     let matches = command.try_get_matches_from_mut(words)?;
     let Some(journal) = matches.subcommand_matches("journal") else {
@@ -314,7 +345,11 @@ fn task_in<'a>(matches: &ArgMatches<'a>) -> Task<'a> {
         });
     }
     if let Some(serve) = matches.subcommand_matches("serve") {
-        return Task::Serve(service_in(serve));
+        return if serve.get_flag("stay") {
+            Task::Stay(staying_in(serve))
+        } else {
+            Task::Serve(service_in(serve))
+        };
     }
     if let Some(decode) = matches.subcommand_matches("decode") {
         return Task::Decode(printing_in(decode));
@@ -502,8 +537,9 @@ fn number<'a>(alloc: Global, name: &'a str, value: &'a str, help: &'a str) -> Ar
         .action(ArgAction::Set)
 }
 
-/// The command that serves connections.
-fn serve<'a>(alloc: Global) -> Result<Command<'a>, AllocError> {
+/// The command that serves connections. One that stays up has more of them, and no sweep.
+fn serve<'a>(alloc: Global, stays: bool) -> Result<Command<'a>, AllocError> {
+    let most = if stays { MOST_PLACES } else { MOST_CONNECTIONS };
     Command::new(alloc, "serve")
         .about(
             "Runs a centre on the track of a file for several connections at once, and serves every train at the end",
@@ -511,8 +547,9 @@ fn serve<'a>(alloc: Global) -> Result<Command<'a>, AllocError> {
         .after_help(SERVE)
         .arg(track_file(alloc))?
         .arg(port(alloc))?
-        .arg(connections(alloc))?
-        .arg(workers(alloc))?
+        .arg(stay(alloc)?)?
+        .arg(connections(alloc, most))?
+        .arg(workers(alloc, !stays))?
         .arg(patience(alloc))?
         .arg(log(alloc))?
         .arg(journal_file(alloc))
@@ -523,25 +560,37 @@ fn port<'a>(alloc: Global) -> Arg<'a> {
     number(alloc, "port", "P", "The port on 127.0.0.1").value_parser(value_parser!(u16).range(1..))
 }
 
-/// How many connections a centre serves.
-fn connections<'a>(alloc: Global) -> Arg<'a> {
+/// Whether a centre stays up.
+fn stay<'a>(alloc: Global) -> Result<Arg<'a>, AllocError> {
+    Arg::new(alloc, "stay")
+        .long("stay")
+        .help(
+            "Serves clients that come and go, until standard input ends or has a line `end`; without a sweep",
+        )
+        .action(ArgAction::SetTrue)
+        .conflicts_with("workers")
+}
+
+/// How many connections a centre serves, up to this number.
+fn connections<'a>(alloc: Global, most: i64) -> Arg<'a> {
     number(
         alloc,
         "connections",
         "N",
-        "How many connections are taken, 1 to 8",
+        "How many connections are taken, 1 to 8; with --stay, how many are served at once, 1 to 64",
     )
-    .value_parser(value_parser!(u8).range(1..=8))
+    .value_parser(value_parser!(u8).range(1..=most))
 }
 
-/// How many workers a centre has for its sweep.
-fn workers<'a>(alloc: Global) -> Arg<'a> {
+/// How many workers a centre has for its sweep, if it makes one.
+fn workers<'a>(alloc: Global, sweeps: bool) -> Arg<'a> {
     number(
         alloc,
         "workers",
         "W",
         "How many workers serve all trains at the end, 1 to 8",
     )
+    .required(sweeps)
     .value_parser(value_parser!(u8).range(1..=8))
 }
 
@@ -550,7 +599,9 @@ fn patience<'a>(alloc: Global) -> Arg<'a> {
     Arg::new(alloc, "patience")
         .long("patience")
         .value_name("SECONDS")
-        .help("Ends a connection that says nothing, or takes nothing, for so long, 1 to 86400")
+        .help(
+            "Ends a connection that says nothing, or takes nothing, for so long, 1 to 86400; with --stay 60 where it is left out",
+        )
         .action(ArgAction::Set)
         .value_parser(value_parser!(u32).range(1..=86_400))
 }
@@ -589,6 +640,31 @@ fn service_in<'a>(matches: &ArgMatches<'a>) -> Service<'a> {
         journal: matches.get_str("journal"),
         terms: terms_in(matches),
     }
+}
+
+/// How a command line asks to stay up, which the parser has accepted.
+fn staying_in<'a>(matches: &ArgMatches<'a>) -> Staying<'a> {
+    let terms = terms_in(matches);
+    Staying {
+        track: matches.get_str("TRACK").unwrap_or(""),
+        port: matches.get_one("port").unwrap_or(1),
+        places: places_in(matches),
+        journal: matches.get_str("journal"),
+        terms: Terms {
+            patience: Some(terms.patience.unwrap_or(Duration::from_secs(PATIENCE))),
+            ..terms
+        },
+    }
+}
+
+/// How many clients a command line asks to serve at once, 1 to 64. The parser accepts nothing else.
+fn places_in(matches: &ArgMatches) -> usize
+    ensures { (1 ≤ result) × (result ≤ 64) }
+{
+    matches
+        .get_one::<usize>("connections")
+        .unwrap_or(1)
+        .clamp(1, 64)
 }
 
 /// On what terms a command line asks to serve clients.
