@@ -6,7 +6,7 @@ use Rattle.std.proofs.lemmas.Bool.{eqb-true, and_parts}
 use Rattle.std.proofs.lemmas.List.Sums.{AllPass-from_list_all}
 use Rattle.hex.specs.Hex.{decode_sized, is_hex_digit}
 use Rattle.hex.proofs.HexLemmas.{decode_of-digits, decode_sized-twice}
-use Rattle.rbc_fields.specs.DecodeText.{is_hex, bytes_in, bytes_decoded}
+use Rattle.rbc_fields.specs.Spelling.{is_hex, bytes_in, bytes_decoded}
 
 -- one of three ranges
 three : (a b c : Bool) (x y z : ℕ) → ((c || a) || b) ≡ is_some (if a then Some x else if b then Some y else if c then Some z else None)

@@ -113,6 +113,10 @@ found_text found =
     ∙ ap (λ l. start (34 ∷ (fault_text found.fault ++ 34 ∷ name l))) (sym (quoted-plain (place_text found.place) (bit (quoted (measure_text found.place) ++ last)) (escape-place found.place)))
     ∙ ap start (sym (quoted-plain (fault_text found.fault) (name (quoted (place_text found.place) ++ bit (quoted (measure_text found.place) ++ last))) (escape-fault found.fault)))
 
+-- two objects end, and the line
+pub closed : (d : List ℕ) → ((d ++ 125 ∷ []) ++ 125 ∷ []) ++ 10 ∷ [] ≡ d ++ codes "}}\n"
+closed d = ap (λ l. l ++ 10 ∷ []) (append_assoc d (125 ∷ []) (125 ∷ [])) ∙ append_assoc d (125 ∷ 125 ∷ []) (10 ∷ [])
+
 -- ---- arrays
 
 regroup : (a b c d : List ℕ) → ((a ++ b) ++ c) ++ d ≡ a ++ (b ++ (c ++ d))

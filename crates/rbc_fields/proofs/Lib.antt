@@ -1,4 +1,6 @@
 pub mod DigitLemmas
+pub mod PositionLemmas
+pub mod SpellingLemmas
 pub mod RestLemmas
 pub mod SheetLemmas
 pub mod ListLemmas

@@ -1,83 +1,88 @@
 -- The program `rbc decode`: what a line has, and the replies to the lines of an input.
-use Rattle.std.specs.Prelude.{◌≡◌, ℕ, ◌%◌, ◌||◌, ◌&&◌, ◌++◌, Bool, true, false, not, List, [], ◌∷◌, length, Option, Some, is_some, Result, Ok, Err, nat_lt, ◌==◌, if◌then◌else◌, codes, bytes_eq, IsTrue}
-use Rattle.std.specs.Char.{is_ascii_hexdigit}
-use Rattle.std.specs.List.{list_all, flat_map}
-use Rattle.hex.specs.declared.error.FromHexError.{FromHexError}
-use Rattle.hex.specs.Hex.{decode_of}
-use Rattle.rbc_model.specs.declared.limits.TheConstants.{LONGEST_LINE, LONGEST_CHECK_LINE}
+use Rattle.std.specs.Prelude.{◌≡◌, ℕ, ◌/◌, ◌||◌, ◌&&◌, ◌++◌, Bool, true, false, not, List, [], ◌∷◌, length, map, count_by, Option, Some, is_some, Result, Ok, Err, nat_le, nat_lt, ◌==◌, if◌then◌else◌, codes, bytes_eq}
+use Rattle.std.specs.Char.{is_ascii_digit, is_ascii_hexdigit, to_ascii_lowercase}
+use Rattle.std.specs.List.{list_all, list_any, flat_map}
+use Rattle.rbc_model.specs.declared.limits.TheConstants.{LONGEST_CHECK_LINE}
 use Rattle.rbc_model.specs.Sessions.{lines_of}
-use Rattle.rbc_model.specs.Words.{without_return, words_of, line_of}
+use Rattle.rbc_model.specs.Words.{without_return, words_of}
+use Rattle.rbc_fields.specs.Spelling.{is_hex, has_prefix, spelled}
 use Rattle.rbc_fields.specs.Readings.{Reading, reading_of, message_reading, packet_reading}
 use Rattle.rbc_fields.specs.Walks.{at_row, first_row}
 use Rattle.rbc_fields.specs.declared.walk.Walk.{Walk}
 use Rattle.rbc_fields.specs.declared.row.Row.TheVariants.{Header}
-use Rattle.rbc_fields.specs.Texts.{reading_text}
-use Rattle.rbc_fields.specs.JsonText.{json_text, overlong_json}
-use Rattle.rbc_fields.specs.declared.line.Digits.{Digits}
-use Rattle.rbc_fields.specs.declared.line.Digits.TheVariants.{Message as ReadMessage, Packet as ReadPacket, None as ReadNothing}
+use Rattle.rbc_fields.specs.Texts.{reading_text, wrong_line}
+use Rattle.rbc_fields.specs.JsonText.{json_text, wrong_json}
+use Rattle.rbc_fields.specs.declared.spelling.Wrong.{Wrong}
+use Rattle.rbc_fields.specs.declared.spelling.Wrong.TheVariants.{Overlong}
+use Rattle.rbc_fields.specs.declared.line.Meant.{Meant}
+use Rattle.rbc_fields.specs.declared.line.Meant.TheVariants.{Message as MeantMessage, Packet as MeantPacket, None as MeantNothing}
 
 -- ---- what a line has
 
--- a message or a packet alone, in digits of base 16, or neither
+-- the words with the digits of a message, or of a packet alone, or neither
 pub data Told : Type 0 where
-  Message : List ℕ → Told
-  Packet : List ℕ → Told
+  Message : List (List ℕ) → Told
+  Packet : List (List ℕ) → Told
   Nothing : Told
 
--- pairs of digits of base 16
-abbrev pub is_hex : List ℕ → Bool
-is_hex word = not (length word == 0) && ((length word % 2 == 0) && list_all is_ascii_hexdigit word)
+-- the word is this name, in letters of either case
+abbrev pub is_called : List ℕ → List ℕ → Bool
+is_called name word = bytes_eq (map to_ascii_lowercase word) name
 
-abbrev pub named : List ℕ → List ℕ → Told
-named name word =
-    if bytes_eq name (codes "message") then Message word
-    else if bytes_eq name (codes "packet") then Packet word
-    else Nothing
+-- neither a digit of base 16 nor a space (32)
+abbrev pub is_other : ℕ → Bool
+is_other byte = not (is_ascii_hexdigit byte) && not (byte == 32)
+
+-- eight digits of base 16 or more, and at most one other byte for eight of them
+abbrev pub is_mostly_hex : List ℕ → Bool
+is_mostly_hex text = nat_le 8 (count_by is_ascii_hexdigit text) && nat_le (count_by is_other text) (count_by is_ascii_hexdigit text / 8)
+
+abbrev pub are_none : List (List ℕ) → Bool
+are_none [] = true
+are_none words = false
+
+-- A text that begins with this word, and with no name, is meant as a message: the word is all of it, in pairs of digits; it begins with `0x`; or it has a
+-- digit of base 10, so that it is no word of a language, and the text has mostly digits of base 16.
+abbrev pub is_meant : List ℕ → List ℕ → List (List ℕ) → Bool
+is_meant text word words = (are_none words && is_hex word) || (has_prefix word || (list_any is_ascii_digit word && is_mostly_hex text))
 
 -- a message stands alone, or behind the word `message`; a packet behind the word `packet`
-abbrev pub told_by : List (List ℕ) → Told
-told_by (word ∷ []) = if is_hex word then Message word else Nothing
-told_by (name ∷ word ∷ []) = if is_hex word then named name word else Nothing
-told_by _ = Nothing
+abbrev pub told_by : List ℕ → List (List ℕ) → Told
+told_by text [] = Nothing
+told_by text (word ∷ words) =
+    if is_called (codes "message") word then Message words
+    else if is_called (codes "packet") word then Packet words
+    else if is_meant text word words then Message (word ∷ words)
+    else Nothing
 
 abbrev pub told_in : List ℕ → Told
-told_in line = told_by (words_of (without_return line))
-
-abbrev pub bytes_decoded : Result (List ℕ) FromHexError → List ℕ
-bytes_decoded (Ok bytes) = bytes
-bytes_decoded (Err fault) = []
-
--- the bytes that digits spell
-abbrev pub bytes_in : List ℕ → List ℕ
-bytes_in digits = bytes_decoded (decode_of digits)
+told_in line = told_by (without_return line) (words_of (without_return line))
 
 -- ---- the reply
 
--- what is printed of a packet alone or of a message, and of what is too long
+-- what is printed of a packet alone or of a message, and of digits with which something is wrong
 pub record Printing : Type 0 where
   pub told : Bool → Reading → List ℕ
-  pub overlong : List ℕ
+  pub wrong : Wrong → List ℕ
 
 -- lines of fields and words
 abbrev pub plain : Printing
-plain = record {
-  told = λ packet reading. reading_text reading;
-  overlong = line_of (codes "refused" ∷ codes "Overlong" ∷ []);
-}
+plain = record { told = λ packet reading. reading_text reading; wrong = wrong_line }
 
 -- a line of JSON
 abbrev pub json : Printing
-json = record { told = json_text; overlong = overlong_json }
+json = record { told = json_text; wrong = wrong_json }
 
 abbrev pub reading_kind : Bool → List ℕ → Reading
 reading_kind packet bytes = if packet then packet_reading bytes else message_reading bytes
 
-abbrev pub are_refused : Bool → List ℕ → Bool
-are_refused packet digits = nat_lt LONGEST_LINE (length digits) || is_some (reading_kind packet (bytes_in digits)).found
+abbrev pub are_refused : Bool → Result (List ℕ) Wrong → Bool
+are_refused packet (Ok bytes) = is_some (reading_kind packet bytes).found
+are_refused packet (Err wrong) = true
 
 abbrev pub is_told_refused : Told → Bool
-is_told_refused (Message digits) = are_refused false digits
-is_told_refused (Packet digits) = are_refused true digits
+is_told_refused (Message words) = are_refused false (spelled 0 words)
+is_told_refused (Packet words) = are_refused true (spelled 0 words)
 is_told_refused Nothing = false
 
 -- whether what a line has is refused
@@ -93,19 +98,19 @@ outcome_of (Ok told) = Ok tt
 outcome_of (Err fault) = Err fault
 
 module _ (printing : Printing) where
-  -- what digits tell, if they are not too many
-  abbrev pub digits_reply : Bool → List ℕ → List ℕ
-  digits_reply packet digits =
-      if nat_lt LONGEST_LINE (length digits) then printing.overlong else printing.told packet (reading_kind packet (bytes_in digits))
+  -- what is told of the bytes that are spelled, or of what is wrong
+  abbrev pub spelled_reply : Bool → Result (List ℕ) Wrong → List ℕ
+  spelled_reply packet (Ok bytes) = printing.told packet (reading_kind packet bytes)
+  spelled_reply packet (Err wrong) = printing.wrong wrong
 
   abbrev pub told_reply : Told → List ℕ
-  told_reply (Message digits) = digits_reply false digits
-  told_reply (Packet digits) = digits_reply true digits
+  told_reply (Message words) = spelled_reply false (spelled 0 words)
+  told_reply (Packet words) = spelled_reply true (spelled 0 words)
   told_reply Nothing = []
 
   -- the reply to a line
   abbrev pub decode_reply : List ℕ → List ℕ
-  decode_reply line = if nat_lt LONGEST_CHECK_LINE (length line) then printing.overlong else told_reply (told_in line)
+  decode_reply line = if nat_lt LONGEST_CHECK_LINE (length line) then printing.wrong Overlong else told_reply (told_in line)
 
   -- A line is answered by its reply, and it is kept whether one was refused so far.
   abbrev pub AnswersDecode : Bool → List ℕ → List ℕ → Bool → Type 0
@@ -131,12 +136,7 @@ start_of packet bytes = if packet then at_row (first_row bytes) true (length byt
 abbrev pub reading_at : Bool → List ℕ → Reading
 reading_at packet bytes = reading_of (start_of packet bytes) bytes
 
-abbrev pub IsToldInHex : Told → Type 0
-IsToldInHex (Message digits) = IsTrue (is_hex digits)
-IsToldInHex (Packet digits) = IsTrue (is_hex digits)
-IsToldInHex Nothing = Unit {0}
-
-abbrev pub told_view : Digits → Told
-told_view (ReadMessage digits) = Message digits.now
-told_view (ReadPacket digits) = Packet digits.now
-told_view ReadNothing = Nothing
+abbrev pub told_view : Meant → Told
+told_view (MeantMessage text) = Message (words_of text.now)
+told_view (MeantPacket text) = Packet (words_of text.now)
+told_view MeantNothing = Nothing

@@ -5,6 +5,8 @@ use Rattle.rbc_fields.specs.declared.row.Row.{Row}
 use Rattle.rbc_fields.specs.declared.row.Row.TheVariants.{Header}
 use Rattle.rbc_fields.specs.declared.fields.Found.{Found}
 use Rattle.rbc_fields.specs.declared.fields.Item.{Item}
+use Rattle.rbc_fields.specs.declared.spelling.Wrong.{Wrong}
+use Rattle.rbc_fields.specs.declared.spelling.Wrong.TheVariants.{Digits, Overlong}
 use Rattle.rbc_fields.specs.declared.said.Said.{Said}
 use Rattle.rbc_fields.specs.declared.said.Said.TheVariants.{Time, Country, Group, Nominal, End, Grade, Speed}
 use Rattle.rbc_fields.specs.Rows.{packet_number}
@@ -110,6 +112,11 @@ json_line value = compact_text value ++ 10 ∷ []
 abbrev pub json_text : Bool → Reading → List ℕ
 json_text packet reading = json_line (told_data packet reading)
 
--- what is too long
-abbrev pub overlong_json : List ℕ
-overlong_json = json_line (object (member (codes "refused") (object (member (codes "fault") (string (codes "Overlong")) no_members)) no_members))
+-- ---- digits with which something is wrong
+
+abbrev pub wrong_data : Wrong → Data
+wrong_data (Digits place) = object (member (codes "fault") (string (codes "Digits")) (member (codes "at") (counted place) no_members))
+wrong_data Overlong = object (member (codes "fault") (string (codes "Overlong")) no_members)
+
+abbrev pub wrong_json : Wrong → List ℕ
+wrong_json wrong = json_line (object (member (codes "refused") (wrong_data wrong) no_members))

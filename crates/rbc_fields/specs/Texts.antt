@@ -17,6 +17,8 @@ use Rattle.rbc_fields.specs.declared.fields.Found.{Found}
 use Rattle.rbc_fields.specs.declared.fields.Place.{Place}
 use Rattle.rbc_fields.specs.declared.fields.Place.TheVariants.{Field as AtField, Missing, Filling, Behind}
 use Rattle.rbc_fields.specs.declared.fields.Item.{Item}
+use Rattle.rbc_fields.specs.declared.spelling.Wrong.{Wrong}
+use Rattle.rbc_fields.specs.declared.spelling.Wrong.TheVariants.{Digits, Overlong}
 use Rattle.rbc_fields.specs.declared.said.Said.{Said}
 use Rattle.rbc_fields.specs.declared.said.Said.TheVariants.{Time, Country, Group, Nominal, End, Grade, Speed}
 use Rattle.rbc_fields.specs.Rows.{packet_number}
@@ -138,3 +140,9 @@ outcome_text items (Some found) = found_line found
 
 abbrev pub reading_text : Reading → List ℕ
 reading_text reading = items_text reading.items ++ outcome_text reading.items reading.found
+
+-- ---- digits with which something is wrong
+
+abbrev pub wrong_line : Wrong → List ℕ
+wrong_line (Digits place) = line_of (codes "refused" ∷ codes "Digits" ∷ codes "at" ∷ decimal place ∷ [])
+wrong_line Overlong = line_of (codes "refused" ∷ codes "Overlong" ∷ [])

@@ -7,26 +7,26 @@ ghost use Rattle.rbc_model.specs.declared.sessions.SessionFault.TheVariants.{Rea
 ghost use Rattle.rbc_model.specs.Sessions.{Prints};
 ghost use Rattle.rbc_model.specs.Talks.{IsTalk};
 ghost use Rattle.rbc_fields.specs.Readings.{read_as};
-ghost use Rattle.rbc_fields.specs.DecodeText.{is_hex, bytes_in, digits_reply, are_refused, told_reply, is_told_refused, told_view, IsToldInHex};
+ghost use Rattle.rbc_model.specs.Words.{words_of};
+ghost use Rattle.rbc_fields.specs.Spelling.{spelled};
+ghost use Rattle.rbc_fields.specs.DecodeText.{spelled_reply, are_refused, told_reply, is_told_refused, told_view};
 ghost use Rattle.rbc_fields.specs.DecodeText.{AnswersDecode, DecodesAll, Printing, outcome_of};
 
 use crate::fields::{Found, Item};
-use crate::json_line::print_json;
-use crate::line::{Digits, digits_in};
+use crate::json_line::{print_json, print_wrong_json};
+use crate::line::{Meant, meant_in};
 use crate::listing::{LIST, NO_FIELD, list_fields};
-use crate::text::print_reading;
-use rbc_model::limits::{LONGEST_CHECK_LINE, LONGEST_LINE};
-use rbc_streams::{Answers, Sink, Source, WriteFailed, converse, put};
+use crate::spelling::{Octets, Wrong, spell};
+use crate::text::{print_reading, print_wrong};
+use rbc_model::limits::LONGEST_CHECK_LINE;
+use rbc_streams::{Answers, Sink, Source, WriteFailed, converse};
 use rbc_words::SessionFault;
 use std::alloc::Global;
 use std::thread::Threads;
 
-/// How many bytes a message or packet may have here.
-const MOST_BYTES: usize = LONGEST_LINE / 2;
-
 /// How a message or a packet alone is printed.
 pub trait Form {
-    /// What is printed of one, and of what is too long.
+    /// What is printed of one, and of digits with which something is wrong.
     ghost printing: { Printing };
 
     /// Writes what was read: these fields, and what was found where they end.
@@ -44,14 +44,14 @@ pub trait Form {
         ensures { Prints (W.written writer.old) (W.written writer.new) (W.failed writer.new)
             (printing.told is_packet (read_as items.now found)) result };
 
-    /// Writes the reply to what is too long.
+    /// Writes what is wrong with digits.
     ///
     /// # Errors
     ///
     /// As above.
-    fn print_overlong<W: Sink>(writer: &mut W) -> Result<(), WriteFailed>
+    fn print_wrong<W: Sink>(wrong: Wrong, writer: &mut W) -> Result<(), WriteFailed>
         requires { W.failed writer.old ≡ false }
-        ensures { Prints (W.written writer.old) (W.written writer.new) (W.failed writer.new) printing.overlong result };
+        ensures { Prints (W.written writer.old) (W.written writer.new) (W.failed writer.new) (printing.wrong wrong) result };
 }
 
 /// Lines of fields, and of words.
@@ -71,8 +71,8 @@ impl Form for Plain {
         print_reading(items, found, writer)
     }
 
-    fn print_overlong<W: Sink>(writer: &mut W) -> Result<(), WriteFailed> {
-        put(writer, b"refused Overlong\n")
+    fn print_wrong<W: Sink>(wrong: Wrong, writer: &mut W) -> Result<(), WriteFailed> {
+        print_wrong(wrong, writer)
     }
 }
 
@@ -93,8 +93,8 @@ impl Form for Json {
         print_json(is_packet, items, found, writer)
     }
 
-    fn print_overlong<W: Sink>(writer: &mut W) -> Result<(), WriteFailed> {
-        put(writer, b"{\"refused\":{\"fault\":\"Overlong\"}}\n")
+    fn print_wrong<W: Sink>(wrong: Wrong, writer: &mut W) -> Result<(), WriteFailed> {
+        print_wrong_json(wrong, writer)
     }
 }
 
@@ -111,55 +111,42 @@ impl Decoder {
     /// Writes what a line has told.
     fn print_told<F: Form, W: Sink>(
         &mut self,
-        told: Digits,
+        told: Meant,
         writer: &mut W,
     ) -> Result<(), WriteFailed>
-        requires going { W.failed writer.old ≡ false }
-        requires hex { IsToldInHex (told_view told) }
+        requires { W.failed writer.old ≡ false }
         ensures reply { Prints (W.written writer.old) (W.written writer.new) (W.failed writer.new)
             (told_reply F.printing (told_view told.entry)) result }
         ensures refused { self.new.refused ≡ (self.old.refused || is_told_refused (told_view told.entry)) }
     {
         match told {
-            Digits::Message(digits) => self.print_digits::<F, W>(false, digits, writer),
-            Digits::Packet(digits) => self.print_digits::<F, W>(true, digits, writer),
-            Digits::None => Ok(()),
+            Meant::Message(text) => self.print_spelled::<F, W>(false, text, writer),
+            Meant::Packet(text) => self.print_spelled::<F, W>(true, text, writer),
+            Meant::None => Ok(()),
         }
     }
 
-    /// Writes what the digits of a message tell, or of a packet alone.
-    fn print_digits<F: Form, W: Sink>(
+    /// Writes what the digits of a message tell, or of a packet alone, or what is wrong with them.
+    fn print_spelled<F: Form, W: Sink>(
         &mut self,
         is_packet: bool,
-        digits: &[u8],
+        text: &[u8],
         writer: &mut W,
     ) -> Result<(), WriteFailed>
-        requires going { W.failed writer.old ≡ false }
-        requires hex { IsTrue (is_hex digits.now) }
+        requires { W.failed writer.old ≡ false }
         ensures reply { Prints (W.written writer.old) (W.written writer.new) (W.failed writer.new)
-            (digits_reply F.printing is_packet digits.now) result }
-        ensures refused { self.new.refused ≡ (self.old.refused || are_refused is_packet digits.now) }
+            (spelled_reply F.printing is_packet (spelled 0 (words_of text.now))) result }
+        ensures refused { self.new.refused ≡ (self.old.refused || are_refused is_packet (spelled 0 (words_of text.now))) }
     {
-        if digits.len() > LONGEST_LINE {
+        let mut octets = Octets::new();
+        if let Err(wrong) = spell(text, &mut octets) {
             self.refused = true;
-            return F::print_overlong(writer);
+            return F::print_wrong(wrong, writer);
         }
-        let mut room = [0; MOST_BYTES];
-        let bytes = &mut room[..digits.len() / 2];
-        decode_digits(digits, bytes);
-        let (count, found) = list_fields(is_packet, bytes, &mut self.items);
+        let (count, found) = list_fields(is_packet, octets.bytes(), &mut self.items);
         self.refused = self.refused || found.is_some();
         F::print_reading(is_packet, &self.items[..count], found, writer)
     }
-}
-
-/// The bytes that pairs of digits spell, half as many.
-fn decode_digits(digits: &[u8], bytes: &mut [u8])
-    requires hex { IsTrue (is_hex digits.now) }
-    requires half { length bytes.old ≡ length digits.now / 2 }
-    ensures { bytes.new ≡ bytes_in digits.now }
-{
-    hex::decode_to_slice(digits, bytes).unwrap();
 }
 
 impl<F: Form> Answers<F> for Decoder {
@@ -202,12 +189,12 @@ impl<F: Form> Answers<F> for Decoder {
         if line.len() > LONGEST_CHECK_LINE {
             return self.refuse(help, writer);
         }
-        self.print_told::<F, W>(digits_in(line), writer)
+        self.print_told::<F, W>(meant_in(line), writer)
     }
 
     fn refuse<W: Sink>(&mut self, _help: &F, writer: &mut W) -> Result<(), WriteFailed> {
         self.refused = true;
-        F::print_overlong(writer)
+        F::print_wrong(Wrong::Overlong, writer)
     }
 }
 

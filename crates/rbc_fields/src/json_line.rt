@@ -5,9 +5,10 @@ ghost use Rattle.std.specs.Fmt.{signed_decimal};
 ghost use Rattle.rbc_model.specs.Sessions.{Prints};
 ghost use Rattle.rbc_fields.specs.declared.parts.TheConstants.{LONGEST_PART};
 ghost use Rattle.rbc_fields.specs.declared.sheet.TheConstants.{ROOM};
+ghost use Rattle.rbc_fields.specs.declared.spelling.Wrong.TheVariants.{Digits};
 ghost use Rattle.rbc_fields.specs.JsonParts.{piece_text, pieces_text, packet_start, member_part, other_part};
 ghost use Rattle.rbc_fields.specs.JsonParts.{outcome_part, words_part, array_part};
-ghost use Rattle.rbc_fields.specs.JsonText.{json_text, found_data, grade_data, speed_data, kind_text};
+ghost use Rattle.rbc_fields.specs.JsonText.{wrong_json, json_text, found_data, grade_data, speed_data, kind_text};
 ghost use Rattle.rbc_fields.specs.Parts.{parts_text};
 ghost use Rattle.rbc_fields.specs.Readings.{read_as};
 ghost use Rattle.rbc_fields.specs.Said.{said_in};
@@ -22,6 +23,7 @@ use crate::parts::{Part, print_parts};
 use crate::row::Row;
 use crate::said::{Said, said_in};
 use crate::sheet::Sheet;
+use crate::spelling::Wrong;
 use crate::text::{fault_text, measure_text, place_text};
 use rbc_streams::{Sink, WriteFailed, put};
 use rbc_words::print_number;
@@ -33,6 +35,32 @@ pub(crate) enum Piece<'line> {
     Text(&'line [u8]),
     /// A number.
     Number(u32),
+}
+
+/// Writes what is wrong with digits.
+pub(crate) fn print_wrong_json<W: Sink>(wrong: Wrong, writer: &mut W) -> Result<(), WriteFailed>
+    requires { W.failed writer.old ≡ false }
+    ensures { Prints (W.written writer.old) (W.written writer.new) (W.failed writer.new)
+        (wrong_json wrong) result }
+{
+    match wrong {
+        Wrong::Digits(place) => print_broken(place, writer),
+        Wrong::Overlong => put(writer, b"{\"refused\":{\"fault\":\"Overlong\"}}\n"),
+    }
+}
+
+/// Writes at which place digits are wrong.
+fn print_broken<W: Sink>(place: u32, writer: &mut W) -> Result<(), WriteFailed>
+    requires { W.failed writer.old ≡ false }
+    ensures { Prints (W.written writer.old) (W.written writer.new) (W.failed writer.new)
+        (wrong_json (Digits place)) result }
+{
+    let pieces = [
+        Piece::Text(b"{\"refused\":{\"fault\":\"Digits\",\"at\":"),
+        Piece::Number(place),
+        Piece::Text(b"}}\n"),
+    ];
+    print_pieces(&pieces, writer)
 }
 
 /// Writes pieces, one behind another.

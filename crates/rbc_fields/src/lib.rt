@@ -14,6 +14,7 @@ mod parts;
 mod row;
 mod said;
 mod sheet;
+mod spelling;
 mod text;
 mod walk;
 
@@ -21,6 +22,7 @@ pub use decoding::{Form, Json, Plain, decode};
 pub use fields::{Found, Item, Place};
 pub use row::Row;
 pub use said::Said;
+pub use spelling::Wrong;
 pub use walk::Walk;
 
 /// The walk over the fields of a message and [`rbc_packet::read_message`] come to the same: no fault is found exactly

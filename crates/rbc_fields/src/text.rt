@@ -8,7 +8,7 @@ ghost use Rattle.rbc_fields.specs.declared.said.Said.TheVariants.{Nominal, Grade
 ghost use Rattle.rbc_fields.specs.Readings.{read_as};
 ghost use Rattle.rbc_fields.specs.Texts.{name_text, field_line, row_text, head_text, said_text};
 ghost use Rattle.rbc_fields.specs.Texts.{fault_text, place_text, measure_text, found_line, said_line};
-ghost use Rattle.rbc_fields.specs.Texts.{outcome_text, reading_text};
+ghost use Rattle.rbc_fields.specs.Texts.{outcome_text, reading_text, wrong_line};
 
 use crate::fields::{Found, Item, Place};
 use crate::names::{field_start, name_text};
@@ -16,6 +16,7 @@ use crate::parts::{Part, print_parts};
 use crate::row::Row;
 use crate::said::{Said, said_in};
 use crate::sheet::Sheet;
+use crate::spelling::Wrong;
 use rbc_model::{Fault, FieldName};
 use rbc_streams::{Sink, WriteFailed, put};
 use rbc_words::{Word, print_line};
@@ -216,6 +217,24 @@ fn print_found<W: Sink>(found: &Found, writer: &mut W) -> Result<(), WriteFailed
         Word::Number(found.value),
     ];
     print_line(b"refused", &words, writer)
+}
+
+/// Writes what is wrong with digits.
+pub(crate) fn print_wrong<W: Sink>(wrong: Wrong, writer: &mut W) -> Result<(), WriteFailed>
+    requires { W.failed writer.old ≡ false }
+    ensures { Prints (W.written writer.old) (W.written writer.new) (W.failed writer.new) (wrong_line wrong) result }
+{
+    match wrong {
+        Wrong::Digits(place) => {
+            let words = [
+                Word::Text(b"Digits"),
+                Word::Text(b"at"),
+                Word::Number(place),
+            ];
+            print_line(b"refused", &words, writer)
+        }
+        Wrong::Overlong => put(writer, b"refused Overlong\n"),
+    }
 }
 
 /// What stands at a fault.

@@ -1,14 +1,15 @@
 use Rattle.std.proofs.Common.{◌≡◌, false, length, nat_lt, ◌||◌, ap, ◌∙◌, arith}
 use Rattle.rbc_model.specs.declared.limits.TheConstants.{LONGEST_CHECK_LINE}
 use Rattle.rbc_fields.specs.DecodeText.{Told, told_view, told_reply, is_told_refused}
+use Rattle.rbc_fields.proofs.SpellingLemmas.{not_long}
 use Rattle.rbc_fields.proofs.decoding.DecoderAnswers.answer.Goals as goal
 
 pub returns-clause-reply : goal.returns-clause-reply
 returns-clause-reply g c =
     let printing = g.F.Form.printing in
-    let short : nat_lt LONGEST_CHECK_LINE (length c.args.line.now) ≡ false = grind (arith, c.if-line-gt-LONGEST_CHECK_LINE.false) in
-    let told = c.digits_in.ensures.told in (
-      told_reply printing (told_view c.digits_in.result),
+    let short : nat_lt LONGEST_CHECK_LINE (length c.args.line.now) ≡ false = not_long (length c.args.line.now) LONGEST_CHECK_LINE (omega (arith, c.if-line-gt-LONGEST_CHECK_LINE.false)) in
+    let told = c.meant_in.ensures in (
+      told_reply printing (told_view c.meant_in.result),
       (rw short (ap (λ (t : Told). told_reply printing t) told), c.print_told.ensures.refused ∙ rw short (ap (λ (t : Told). c.args.self.now.refused || is_told_refused t) told)),
       c.print_told.ensures.reply,
     )

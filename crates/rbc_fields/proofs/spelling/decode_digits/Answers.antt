@@ -2,7 +2,7 @@ use Rattle.std.proofs.Common.{length, refl}
 use Rattle.hex.specs.Hex.{decode_sized}
 use Rattle.hex.proofs.HexLemmas.{IsOk-written}
 use Rattle.rbc_fields.proofs.DigitLemmas.{hex_decoded}
-use Rattle.rbc_fields.proofs.decoding.decode_digits.Goals as goal
+use Rattle.rbc_fields.proofs.spelling.decode_digits.Goals as goal
 
 pub unwrap-requires : goal.unwrap-requires
 unwrap-requires c =
