@@ -17,7 +17,7 @@ _rbc() {
     run) COMPREPLY=($(compgen -W "--history --journal --help" -- "$word")); compopt -o default ;;
     show) COMPREPLY=($(compgen -W "--each --page --help" -- "$word")); compopt -o default ;;
     track) COMPREPLY=($(compgen -W "--lines --help" -- "$word")); compopt -o default ;;
-    serve) COMPREPLY=($(compgen -W "--port --connections --workers --patience --log --journal --help" -- "$word")); compopt -o default ;;
+    serve) COMPREPLY=($(compgen -W "--port --stay --connections --workers --patience --log --journal --help" -- "$word")); compopt -o default ;;
     journal) COMPREPLY=($(compgen -W "--lines --first --renew --help" -- "$word")); compopt -o default ;;
     help) COMPREPLY=($(compgen -W "steps check decode draw run show track serve journal help" -- "$word")) ;;
   esac
