@@ -4,5 +4,5 @@
 /// of the logic that proves them.
 pub(crate) const VERSION: &str = "\
 0.5.0
-sources 16268b70d95baea5044ebdc84f0d0e2288a335ce2feef942c6dbb69c5e4cfb32
+sources 82abaa68d9159280f2e7dfbd22f3231d8722bd017ca2e549dc86f58b313c09bb
 logic dac8208d650f15bf";

@@ -3,3 +3,4 @@ mod ToldLemmas
 mod TellLemmas
 mod ReportLemmas
 mod CopyLemmas
+mod FollowLemmas

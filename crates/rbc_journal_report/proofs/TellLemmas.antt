@@ -2,27 +2,28 @@
 use Rattle.std.proofs.Common.{◌≡◌, ℕ, ◌-◌, Bool, true, false, List, [], ◌∷◌, length, take, Option, Some, None, Result, Ok, Err, refl, sym, ◌∙◌, ap, ap₂, cond}
 use Rattle.std.specs.Prelude.{not, nat_lt, bytes_eq, ◌&&◌, ◌||◌, ◌==◌}
 use Rattle.std.specs.List.{list_any}
+use Rattle.std.specs.Option.{unwrap_or}
 use Rattle.rbc_journal.specs.Gates.{counted}
-use Rattle.rbc_journal.specs.Seals.{Chain, is_comment, chain_of}
+use Rattle.rbc_journal.specs.Seals.{is_comment, chain_of}
 use Rattle.rbc_journal.specs.Headers.{format_in, digest_in}
 use Rattle.rbc_journal.specs.Journal.{told_of}
-use Rattle.rbc_journal.specs.Reading.{Parts, is_first_format, is_whole, dropped_of, tail_of, of_track, by_end, by_chain, by_header, by_format, reading}
+use Rattle.rbc_journal.specs.Reading.{Parts, is_first_format, is_whole, dropped_of, tail_of, by_end, by_header, by_format, reading}
 use Rattle.rbc_journal.specs.declared.reading.ReadFault.{ReadFault}
 use Rattle.rbc_journal.specs.declared.reading.ReadFault.TheVariants.{NotAJournal, FirstFormat, OtherFormat, Damaged, OtherTrack}
-use Rattle.rbc_journal_report.specs.Telling.{own_digest, Telling, state_of, damage_of, telling_by, telling}
+use Rattle.rbc_journal_report.specs.Telling.{own_digest, Telling, state_of, damage_of, telling_by, telling_beside}
 use Rattle.rbc_journal_report.specs.declared.telling.State.{State}
 use Rattle.rbc_journal_report.specs.declared.telling.State.TheVariants.{Damaged as DamagedAt}
 
-module _ (bytes own : List ℕ) (is_own : own ≡ own_digest bytes) where
-  pub tell_whole : (parts : Parts) (text : List ℕ) (state : State) → reading bytes own ≡ Ok parts → counted text ≡ counted bytes
-      → state ≡ state_of (length parts.dropped) → telling bytes ≡ Ok (record { lines = counted text; state = state })
+module _ (given : Option (List ℕ)) (bytes digest : List ℕ) (is : digest ≡ unwrap_or given (own_digest bytes)) where
+  pub tell_whole : (parts : Parts) (text : List ℕ) (state : State) → reading bytes digest ≡ Ok parts → counted text ≡ counted bytes
+      → state ≡ state_of (length parts.dropped) → telling_beside given bytes ≡ Ok (record { lines = counted text; state = state })
   tell_whole parts text state read same ends =
-      ap (telling_by (counted bytes)) (ap (reading bytes) (sym is_own) ∙ read)
+      ap (telling_by (counted bytes)) (ap (reading bytes) (sym is) ∙ read)
       ∙ ap₂ (λ (lines : List (List ℕ)) (s : State). Ok (record { lines = lines; state = s })) (sym same) (sym ends)
 
-  pub tell_fault : (fault : ReadFault) (told : Result Telling ReadFault) → reading bytes own ≡ Err fault
-      → telling_by (counted bytes) (Err fault) ≡ told → telling bytes ≡ told
-  tell_fault fault told read is = ap (telling_by (counted bytes)) (ap (reading bytes) (sym is_own) ∙ read) ∙ is
+  pub tell_fault : (fault : ReadFault) (told : Result Telling ReadFault) → reading bytes digest ≡ Err fault
+      → telling_by (counted bytes) (Err fault) ≡ told → telling_beside given bytes ≡ told
+  tell_fault fault told read tells = ap (telling_by (counted bytes)) (ap (reading bytes) (sym is) ∙ read) ∙ tells
 
 pub tell_none : (lines : List (List ℕ)) (fault : ReadFault) → damage_of fault ≡ None → telling_by lines (Err fault) ≡ Err fault
 tell_none lines NotAJournal none = refl

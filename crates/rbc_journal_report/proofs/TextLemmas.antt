@@ -5,6 +5,7 @@ use Rattle.std.proofs.lemmas.List.Elements.{All-nil, All-head, All-tail, All-con
 use Rattle.std.proofs.lemmas.Bool.{cases_eq}
 use Rattle.std.proofs.lemmas.Bool.Decides.{nat_tests}
 use Rattle.rbc_journal.specs.Gates.{lines_from, counted, text, IsLine}
+use Rattle.rbc_journal_report.specs.Telling.{IsText}
 
 abbrev NotFeed : ℕ → Type 0
 NotFeed byte = byte ≢ 10
@@ -28,11 +29,41 @@ lines_inside front (byte ∷ line) rest is =
     no_feed front (line ++ 10 ∷ rest) byte (All-head NotFeed byte line is) ∙ lines_inside (front ++ byte ∷ []) line rest (All-tail NotFeed byte line is)
     ∙ ap (λ (l : List ℕ). l ∷ counted rest) (append_assoc front (byte ∷ []) line)
 
+-- lines, and what stands behind them
+pub counted-front : (lines : List (List ℕ)) (rest : List ℕ) → All IsLine lines → counted (text lines ++ rest) ≡ lines ++ counted rest
+counted-front [] rest are = refl
+counted-front (line ∷ lines) rest are =
+    ap (λ (l : List ℕ). counted (32 ∷ l)) (append_assoc line (10 ∷ text lines) rest)
+    ∙ lines_inside [] line (text lines ++ rest) (All-head IsLine line lines are)
+    ∙ ap (λ (ls : List (List ℕ)). line ∷ ls) (counted-front lines rest (All-tail IsLine line lines are))
+
+-- ---- they are lines
+
+snoc_line : (front : List ℕ) (byte : ℕ) → IsLine front → (byte ≡ 10 → ⊥) → IsLine (front ++ byte ∷ [])
+snoc_line front byte is differs = All-append NotFeed front (byte ∷ []) is (All-cons NotFeed byte [] differs (All-nil NotFeed))
+
+-- what was read of the line that one is inside of
+abbrev SoFar : Option (List ℕ) → Type 0
+SoFar None = Unit {0}
+SoFar (Some front) = IsLine front
+
+are_from : (so_far : Option (List ℕ)) (file : List ℕ) → SoFar so_far → All IsLine (lines_from so_far file)
+are_from None [] is = All-nil IsLine
+are_from None (gate ∷ file) is = elim (cases_eq gate 32) [
+  | inl is_open ↦ subst (λ (g : ℕ). All IsLine (counted (g ∷ file))) (sym is_open) (are_from (Some []) file (All-nil NotFeed))
+  | inr shut ↦ subst (All IsLine) (sym (closed gate file shut)) (All-nil IsLine)
+]
+are_from (Some front) [] is = All-nil IsLine
+are_from (Some front) (byte ∷ file) is = elim (cases_eq byte 10) [
+  | inl ends ↦ subst (λ (b : ℕ). All IsLine (lines_from (Some front) (b ∷ file))) (sym ends) (All-cons IsLine front (counted file) is (are_from None file tt))
+  | inr differs ↦ subst (All IsLine) (sym (no_feed front file byte differs)) (are_from (Some (front ++ byte ∷ [])) file (snoc_line front byte is differs))
+]
+
+pub are_lines : (file : List ℕ) → All IsLine (counted file)
+are_lines file = are_from None file tt
+
 counted-text : (lines : List (List ℕ)) → All IsLine lines → counted (text lines) ≡ lines
-counted-text [] are = refl
-counted-text (line ∷ lines) are =
-    lines_inside [] line (text lines) (All-head IsLine line lines are)
-    ∙ ap (λ (ls : List (List ℕ)). line ∷ ls) (counted-text lines (All-tail IsLine line lines are))
+counted-text lines are = ap counted (sym (append-nil (text lines))) ∙ counted-front lines [] are ∙ append-nil lines
 
 -- ---- the first lines
 
@@ -66,11 +97,17 @@ module _ (bytes rest : List ℕ) (count : ℕ) (front : Front bytes rest count) 
   pub shorter : length rest ≤ length bytes
   shorter = omega (arith, ap length front.split, length-append (text front.lines) rest)
 
+  shown_text : take (length bytes - length rest) bytes ≡ text front.lines
+  shown_text =
+      ap (λ (l : List ℕ). take (length bytes - length rest) l) front.split
+      ∙ take_front (text front.lines) rest (length bytes - length rest) (omega (arith, ap length front.split, length-append (text front.lines) rest))
+
   shown : counted (take (length bytes - length rest) bytes) ≡ front.lines
-  shown =
-      ap counted (ap (λ (l : List ℕ). take (length bytes - length rest) l) front.split
-      ∙ take_front (text front.lines) rest (length bytes - length rest) (omega (arith, ap length front.split, length-append (text front.lines) rest)))
-      ∙ counted-text front.lines front.are
+  shown = ap counted shown_text ∙ counted-text front.lines front.are
+
+  -- the front is the text of its lines
+  pub is_text : (part : List ℕ) → part ≡ take (length bytes - length rest) bytes → IsText part
+  is_text part is = is ∙ shown_text ∙ ap text (sym (ap counted is ∙ shown))
 
   -- there are no more
   pub all_lines : (n : ℕ) → counted rest ≡ [] → count ≤ n → counted (take (length bytes - length rest) bytes) ≡ take n (counted bytes)

@@ -1,5 +1,5 @@
 -- The lines that are told, one by one, and how many they are.
-use Rattle.std.proofs.Common.{◌≡◌, ℕ, suc, ◌+◌, ◌≤◌, Bool, true, false, List, [], ◌∷◌, ◌++◌, length, refl, sym, ap, ◌∙◌, arith, cond}
+use Rattle.std.proofs.Common.{◌≡◌, ℕ, suc, ◌+◌, ◌≤◌, Bool, true, false, List, [], ◌∷◌, length, sym, ap, ◌∙◌, arith, cond}
 use Rattle.std.specs.Prelude.{filter, not, if◌then◌else◌}
 use Rattle.rbc_journal.specs.Gates.{counted}
 use Rattle.rbc_journal.specs.Seals.{is_comment}

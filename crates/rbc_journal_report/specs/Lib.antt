@@ -1,2 +1,3 @@
 pub mod Telling
 pub mod Copying
+pub mod Following

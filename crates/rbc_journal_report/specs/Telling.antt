@@ -1,9 +1,9 @@
 -- What `rbc journal` tells of a file: one function of its bytes.
-use Rattle.std.specs.Prelude.{ℕ, ◌-◌, Bool, true, false, List, [], ◌∷◌, ◌++◌, length, take, drop, filter, replicate, codes, decimal, Option, Some, None, Result, Ok, Err, bytes_eq, if◌then◌else◌, ◌==◌}
+use Rattle.std.specs.Prelude.{◌≡◌, ℕ, ◌-◌, Bool, true, false, List, [], ◌∷◌, ◌++◌, length, take, filter, replicate, codes, decimal, Option, Some, None, Result, Ok, Err, bytes_eq, if◌then◌else◌, ◌==◌}
 use Rattle.std.specs.List.{flat_map}
 use Rattle.std.specs.Option.{unwrap_or}
 use Rattle.rbc_model.specs.Words.{line_of}
-use Rattle.rbc_journal.specs.Gates.{counted}
+use Rattle.rbc_journal.specs.Gates.{counted, text}
 use Rattle.rbc_journal.specs.Headers.{track_mark, behind_mark, sized}
 use Rattle.rbc_journal.specs.Journal.{told_of}
 use Rattle.rbc_journal.specs.Reading.{Parts, reading}
@@ -53,9 +53,17 @@ telling_by lines (Ok parts) = Ok (record { lines = lines; state = state_of (leng
 telling_by lines (Err (Damaged line)) = Ok (record { lines = take (line - 1) lines; state = DamagedAt line })
 telling_by lines (Err fault) = Err fault
 
--- what is told of a file, read beside the digest that it names itself; an error where it is no journal of format 2
+-- what is told of a file, read beside the digest of a track that is given, or else that it names itself
+abbrev pub telling_beside : Option (List ℕ) → List ℕ → Result Telling ReadFault
+telling_beside given file = telling_by (counted file) (reading file (unwrap_or given (own_digest file)))
+
+-- the same where none is given; an error where it is no journal of format 2
 abbrev pub telling : List ℕ → Result Telling ReadFault
 telling file = telling_by (counted file) (reading file (own_digest file))
+
+-- these bytes are lines, each behind an open gate and with its line feed
+abbrev pub IsText : List ℕ → Type 0
+IsText bytes = bytes ≡ text (counted bytes)
 
 -- ---- its lines
 

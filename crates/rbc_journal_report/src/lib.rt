@@ -1,13 +1,16 @@
-//! What a journal file tells: a report of it, its lines, and new journals with lines of an old one.
+//! What a journal file tells: a report of it, its lines, also as they come to be kept, and new journals with lines of an old one.
 #![tactic(auto)]
 
 mod copying;
 mod counting;
+mod follower;
+mod following;
 mod printing;
 mod telling;
 
 pub use copying::{CopyFault, copy_first, renew};
+pub use following::{Doubt, FollowFault, LookFailed, Watched, follow};
 pub use printing::{print_lines, print_report};
 pub use rbc_journal::{Journal, JournalFault, ReadFault};
 pub use rbc_streams::WholeFault;
-pub use telling::{State, Told, check, digest_of, named, tell};
+pub use telling::{State, Told, check, digest_of, named, tell, tell_beside};

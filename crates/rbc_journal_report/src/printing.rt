@@ -76,7 +76,7 @@ fn write_lines<W: Sink>(bytes: &[u8], writer: &mut W) -> Result<(), WriteFailed>
 }
 
 /// Writes the lines that a text tells.
-fn print_text<W: Sink>(text: &[u8], writer: &mut W) -> Result<(), WriteFailed>
+pub(crate) fn print_text<W: Sink>(text: &[u8], writer: &mut W) -> Result<(), WriteFailed>
     requires { W.failed writer.old ≡ false }
     ensures { Prints (W.written writer.old) (W.written writer.new) (W.failed writer.new)
         (text_of (told_of (counted text.now))) result }

@@ -6,7 +6,7 @@ ghost use Rattle.std.specs.Option.{unwrap_or};
 ghost use Rattle.rbc_journal.specs.Gates.{IsLine, counted};
 ghost use Rattle.rbc_journal.specs.Headers.{track_mark, behind_mark, sized, digest_of_track};
 ghost use Rattle.rbc_journal.specs.Reading.{reading};
-ghost use Rattle.rbc_journal_report.specs.Telling.{named_in, own_digest, state_of, damage_of, telling_by, telling, checked};
+ghost use Rattle.rbc_journal_report.specs.Telling.{IsText, named_in, own_digest, state_of, damage_of, telling_by, telling, telling_beside, checked};
 
 use rbc_journal::{ReadFault, next_line, read, track_digest};
 use rbc_model::limits::LONGEST_FILE;
@@ -40,9 +40,23 @@ pub struct Told<'a> {
 pub fn tell(bytes: &[u8]) -> Result<Told<'_>, ReadFault>
     ensures ok { IfOk result (λ told. telling bytes.now ≡ Ok (record { lines = counted told.text.now; state = told.state })) }
     ensures err { IfErr result (λ fault. telling bytes.now ≡ Err fault) }
+    ensures text { IfOk result (λ told. IsText told.text.now) }
+{
+    tell_beside(bytes, None)
+}
+
+/// What is told of a file that should be of the track of the digest that is given, if one is.
+///
+/// # Errors
+/// It is no journal of format 2, or of another track and not damaged.
+pub fn tell_beside(bytes: &[u8], given: Option<[u8; 64]>) -> Result<Told<'_>, ReadFault>
+    ensures ok { IfOk result (λ told. telling_beside given bytes.now
+        ≡ Ok (record { lines = counted told.text.now; state = told.state })) }
+    ensures err { IfErr result (λ fault. telling_beside given bytes.now ≡ Err fault) }
+    ensures text { IfOk result (λ told. IsText told.text.now) }
 {
     let own = named(bytes).unwrap_or([b'-'; 64]);
-    match read(bytes, &own) {
+    match read(bytes, &given.unwrap_or(own)) {
         Ok(file) => Ok(Told {
             text: file.text,
             state: state_of(file.dropped.len()),
@@ -56,6 +70,7 @@ fn tell_damaged(bytes: &[u8], fault: ReadFault) -> Result<Told<'_>, ReadFault>
     ensures ok { IfOk result (λ told. telling_by (counted bytes.now) (Err fault)
         ≡ Ok (record { lines = counted told.text.now; state = told.state })) }
     ensures err { IfErr result (λ told. telling_by (counted bytes.now) (Err fault) ≡ Err told) }
+    ensures text { IfOk result (λ told. IsText told.text.now) }
 {
     let Some(line) = damage_of(fault) else {
         return Err(fault);
@@ -139,7 +154,8 @@ fn digest_of_line(line: &[u8]) -> Option<[u8; 64]>
 
 /// So many of the first lines of a file, each with its gate and its line feed; all, where there are no more.
 fn first_lines(bytes: &[u8], lines: u64) -> &[u8]
-    ensures { counted result.now ≡ take lines (counted bytes.now) }
+    ensures lines { counted result.now ≡ take lines (counted bytes.now) }
+    ensures text { IsText result.now }
 {
     let mut rest = bytes;
     let mut count = 0;

@@ -3,8 +3,8 @@
 use crate::expected::expected;
 use crate::labels::{Label, label_of};
 use crate::lines::Lines;
-use crate::nearest::nearest;
 use rbc_model::{FileFault, FileTable, Key, KeyText, Memory, key_text};
+use rbc_spelling::nearest;
 use rbc_trackfile::{entry_faults, keys_of};
 use std::alloc::Global;
 use toml::{Table, Value};

@@ -8,7 +8,6 @@ mod flaws;
 mod joints;
 mod labels;
 mod lines;
-mod nearest;
 mod parts;
 mod routes;
 

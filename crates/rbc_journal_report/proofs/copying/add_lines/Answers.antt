@@ -1,4 +1,4 @@
-use Rattle.std.proofs.Common.{ℕ, List, ◌-◌, ◌+◌, ◌++◌, take, subst, arith}
+use Rattle.std.proofs.Common.{ℕ, List, ◌-◌, ◌+◌, take, subst, arith}
 use Rattle.std.specs.Prelude.{OnOk}
 use Rattle.rbc_journal.specs.Gates.{counted}
 use Rattle.rbc_journal.specs.Journal.{told_of}

@@ -1,4 +1,4 @@
-use Rattle.std.proofs.Common.{◌≡◌, ℕ, ◌<◌, length, ap, ◌∙◌, rules}
+use Rattle.std.proofs.Common.{◌≡◌, ◌<◌, length, ap, ◌∙◌, rules}
 use Rattle.std.specs.Prelude.{IfSome, Some}
 use Rattle.rbc_journal_report.specs.Telling.{telling, told_lines, told_digest}
 use Rattle.rbc_journal_report.proofs.CopyLemmas.{at_ok, never_few, same_digest}

@@ -1,7 +1,6 @@
-use Rattle.std.proofs.Common.{◌≡◌, ◌+◌, arith, ap, sym, ◌∙◌}
+use Rattle.std.proofs.Common.{arith}
 use Rattle.rbc_journal.specs.Gates.{counted}
 use Rattle.rbc_journal.specs.Journal.{told_of}
-use Rattle.rbc_journal_report.specs.Telling.{count_of}
 use Rattle.rbc_journal_report.proofs.ToldLemmas.{kind_short, count_step}
 use Rattle.rbc_journal_report.proofs.counting.count_of.Goals as goal
 

@@ -1,5 +1,4 @@
-use Rattle.std.proofs.Common.{◌≡◌, List, ℕ, refl, sym, ap}
-use Rattle.rbc_model.specs.Sessions.{Prints}
+use Rattle.std.proofs.Common.{List, ℕ, refl, sym, ap}
 use Rattle.rbc_words.proofs.PrintingLemmas.{prints_then, prints_stopped}
 use Rattle.rbc_model.specs.Words.{line_of}
 use Rattle.std.specs.Prelude.{codes, [], ◌∷◌, ◌++◌}

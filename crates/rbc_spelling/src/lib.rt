@@ -1,8 +1,12 @@
-//! The word that is meant by a misspelled one.
+//! The word that is meant by a misspelled one, for those who mend a text. No contract pins which one is told.
+#![tactic(auto)]
 
 use rbc_model::Memory;
 use std::alloc::Global;
 use strsim::osa_distance;
+
+/// How long a text may be for which a word is looked for, in bytes.
+const LONGEST: usize = 64;
 
 /// How many letters may be missing, added, changed or swapped with the next one in a word of this length.
 fn most_edits(length: usize) -> usize {
@@ -13,12 +17,12 @@ fn most_edits(length: usize) -> usize {
     }
 }
 
-/// The word that is nearest to a text, if one is near.
+/// The word that is nearest to a text, if one is near: the first of those that are as near.
 ///
 /// # Errors
 ///
 /// The allocator refused memory.
-pub(crate) fn nearest<'a>(
+pub fn nearest<'a>(
     alloc: Global,
     text: &str,
     words: &[&'a str],
@@ -35,9 +39,9 @@ pub(crate) fn nearest<'a>(
     Ok(best)
 }
 
-/// How many edits lead from a text to a word, at most as many as the longest word has letters.
+/// How many edits lead from a text to a word. A long text is near to none.
 fn edits(alloc: Global, text: &str, word: &str) -> Result<usize, Memory> {
-    if text.len() > 64 {
+    if text.len() > LONGEST {
         return Ok(usize::MAX);
     }
     Ok(osa_distance(alloc, text, word)?)
