@@ -1,0 +1,5 @@
+pub mod TestLemmas
+pub mod GoodLemmas
+pub mod ToldLemmas
+pub mod StayLemmas
+pub mod ScenesStayLemmas

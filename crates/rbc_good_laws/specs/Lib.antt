@@ -1,0 +1,4 @@
+pub mod Tests
+pub mod Told
+pub mod Good
+pub mod Laws
