@@ -8,6 +8,7 @@ Each line has a message or a packet in digits, as `rbc decode` reads it. It is t
 turned, one at a time. Every line of JSON is read by Python's own reader, which has to take it. The second reading is that of
 tests/tables.py, by the tables of docs/formats.md."""
 import json
+import re
 import subprocess
 import sys
 
@@ -39,15 +40,27 @@ def replies(lines):
     assert not reply, reply
 
 
+# A line of a field: its mark, its first bit, its name, its width, its value and its meaning.
+FIELD = re.compile(r"([ ?]) (?:  )?(\d+)  (\w+)  (\d+)  (\d+)  (.*)")
+INNER = {"Q_GDIR", "G_A", "V_STATIC", "Q_FRONT"}
+
+
 def told(reply):
-    is_message = reply[0] == "message"
-    fields, packet, words = [], None, {}
+    fields, packet, words, number = [], None, {}, 1
     for line in reply:
-        word, *rest = line.split()
-        if line.startswith("  "):
-            fields.append({"packet": packet, "name": word, "bits": int(rest[0]), "value": int(rest[1])})
+        word, *rest = line.removeprefix("? ").split()
+        field = FIELD.fullmatch(line)
+        if field:
+            mark, bit, name, bits, value, meaning = field.groups()
+            numbers = {"bit": int(bit), "name": name, "bits": int(bits), "value": int(value)}
+            is_inner = name in INNER or name == "N_ITER" and "categories" in meaning
+            assert is_inner == (line[2:4] == "  "), line
+            fields.append({"packet": packet, **numbers, "meaning": meaning} | ({"behind_fault": True} if mark == "?" else {}))
+        elif word == "line":
+            number = int(rest[0])
         elif word == "packet":
-            packet = int(rest[0])
+            packet = int(rest[-1])
+            assert (rest[0] == "?") == (packet not in (15, 21, 27)), line
         elif word == "group":
             words["country"], words["group"] = map(int, rest[0].split("/"))
         elif word == "direction":
@@ -58,7 +71,7 @@ def told(reply):
             words.setdefault("grades", []).append({"from": int(rest[0]), "per_mille": int(rest[1])})
         elif word == "speed":
             words.setdefault("speeds", []).append({"from": int(rest[0]), "km_per_hour": int(rest[1])})
-    value = {"kind": "message" if is_message else "packet", "fields": fields}
+    value = {"line": number, "kind": "message" if "message" in reply else "packet", "fields": fields}
     word, *rest = reply[-1].split()
     if word == "refused":
         fault, name, _, bit, measure, found = rest
@@ -77,9 +90,10 @@ def main():
     said, values = list(plain(runs[0].stdout)), [json.loads(line) for line in runs[1].stdout.splitlines()]
     if not len(said) == len(values) == len(lines):
         return f"{len(said)} and {len(values)} replies to {len(lines)} lines"
-    for line, one, other in zip(lines, said, values):
-        if not one == other == by_tables(line):
-            return f"{line}: {one} and {other} and {by_tables(line)}"
+    for number, (line, one, other) in enumerate(zip(lines, said, values), 1):
+        third = {"line": number} | by_tables(line)
+        if not one == other == third:
+            return f"{line}: {one} and {other} and {third}"
     return f"{len(lines)} told alike"
 
 

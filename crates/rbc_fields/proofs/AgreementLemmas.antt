@@ -15,7 +15,7 @@ use Rattle.rbc_fields.specs.declared.walk.Walk.{Walk}
 use Rattle.rbc_fields.specs.declared.fields.Item.{Item}
 use Rattle.rbc_fields.specs.declared.fields.Place.TheVariants.{Missing, Filling, Behind}
 use Rattle.rbc_fields.specs.Walks.{field_of, behind, is_allowed, length_fault, told, moved}
-use Rattle.rbc_fields.specs.Readings.{reading, field_read, with_next, stopped}
+use Rattle.rbc_fields.specs.Readings.{reading, beyond, field_read, item_at, with_next, stopped}
 use Rattle.rbc_fields.specs.Laws.{fault_found}
 
 -- each field has a bit
@@ -64,10 +64,10 @@ abbrev pub Follows : Result Walk Fault → (List Bool → Option Fault) → Type
 Follows (Ok next) expected = Agree next expected
 Follows (Err fault) expected = (bits : List Bool) → Some fault ≡ expected bits
 
-follows_on : (item : Item) (bit : ℕ) (r : Result Walk Fault) (expected : List Bool → Option Fault) (most : ℕ) (bits : List Bool) (later : ℕ) → Follows r expected → length bits < most
-    → fault_found (with_next item bit r (λ next. reading most next bits later)) ≡ expected bits
-follows_on item bit (Ok next) expected most bits later h few = h.agrees most bits later few
-follows_on item bit (Err fault) expected most bits later h few = h bits
+follows_on : (item : Item) (r : Result Walk Fault) (expected : List Bool → Option Fault) (most : ℕ) (bits : List Bool) (later : ℕ) → Follows r expected → length bits < most
+    → fault_found (with_next item r (λ next. beyond most next bits later) (λ next. reading most next bits later)) ≡ expected bits
+follows_on item (Ok next) expected most bits later h few = h.agrees most bits later few
+follows_on item (Err fault) expected most bits later h few = h bits
 
 -- one reader inside another
 pub under : {A B : Type 0} {walk : Walk} (m : Reader A) (k : A → Reader B) (c : B → List Bool → Option Fault) → Agree walk (λ bits. then_fault (m bits) (λ x rest. then_fault (k x rest) c))
@@ -84,8 +84,9 @@ module _ {A : Type 0} (walk : Walk) (row : Row) (name : FieldName) (allowed : �
         → fault_found
         (if short
         then stopped (Some (record { fault = Short; place = Missing name; bit = bit; value = length bits }))
-        else with_next (record { walk = walk; row = row; name = name; value = number_of (take (width_of name) bits) }) bit
+        else with_next (item_at false walk row name bits bit)
         (behind walk row name (number_of (take (width_of name) bits)))
+        (λ next. beyond most next (drop (width_of name) bits) (bit + width_of name))
         (λ next. reading most next (drop (width_of name) bits) (bit + width_of name)))
         ≡ then_fault
         (rest_of_reading
@@ -96,7 +97,7 @@ module _ {A : Type 0} (walk : Walk) (row : Row) (name : FieldName) (allowed : �
     tested most bits bit few false e =
         let some = some_bits name in
         let room : width_of name ≤ length bits = grind (arith, e) in
-        follows_on _ bit (behind walk row name (number_of (take (width_of name) bits))) (Expected (number_of (take (width_of name) bits))) most (drop (width_of name) bits) _
+        follows_on _ (behind walk row name (number_of (take (width_of name) bits))) (Expected (number_of (take (width_of name) bits))) most (drop (width_of name) bits) _
         (h (number_of (take (width_of name) bits)))
         (omega (arith, some, room, few, length-drop (width_of name) bits))
 
@@ -105,7 +106,7 @@ module _ {A : Type 0} (walk : Walk) (row : Row) (name : FieldName) (allowed : �
     unfolding reading
     at_field next zero bits bit few = absurd (omega arith)
     at_field next (suc most) bits bit few =
-        ap (λ (f : Option (Row × FieldName)). fault_found (field_read f walk bits bit (reading most))) next
+        ap (λ (f : Option (Row × FieldName)). fault_found (field_read f walk bits bit (beyond most) (reading most))) next
         ∙ tested most bits bit few (nat_lt (length bits) (width_of name)) refl
 
     -- a field
@@ -195,7 +196,7 @@ at_end : (walk : Walk) → field_of walk ≡ None → (most : ℕ) (bits : List 
 unfolding reading
 at_end walk last zero bits bit few = absurd (omega arith)
 at_end walk last (suc most) bits bit few =
-    ap (λ (f : Option (Row × FieldName)). fault_found (field_read f walk bits bit (reading most))) last
+    ap (λ (f : Option (Row × FieldName)). fault_found (field_read f walk bits bit (beyond most) (reading most))) last
     ∙ rw (not_more 8 (length bits)) (filled bits bit (nat_lt (length bits) 8) (number_of bits == 0))
 
 pub ends : (walk : Walk) → field_of walk ≡ None → Agree walk (λ bits. then_fault (filling_at bits) (λ x rest. None))

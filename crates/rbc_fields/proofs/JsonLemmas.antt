@@ -16,11 +16,11 @@ use Rattle.rbc_fields.specs.declared.fields.Place.TheVariants.{Field as AtField,
 use Rattle.rbc_fields.specs.declared.said.Said.{Said}
 use Rattle.rbc_fields.specs.declared.said.Said.TheVariants.{Time, Country, Group, Nominal, End, Grade, Speed}
 use Rattle.rbc_fields.specs.Parts.{parts_text, always}
-use Rattle.rbc_fields.specs.Readings.{Reading, read_as}
+use Rattle.rbc_fields.specs.Readings.{Reading}
 use Rattle.rbc_fields.specs.Said.{all_said, with_said, said_in}
 use Rattle.rbc_fields.specs.Texts.{name_text, direction_text, fault_text, place_text, measure_text}
 use Rattle.rbc_fields.specs.JsonText.{counted, whole, field_data, field_items, grade_data, speed_data, grade_items, speed_items, with_others, with_words, found_data, with_outcome, kind_text, fields_member, json_text}
-use Rattle.rbc_fields.specs.JsonParts.{field_part, member_part, other_part, if_said, is_grade, grade_part, is_speed, speed_part, array_part, others_part, words_part, outcome_part}
+use Rattle.rbc_fields.specs.JsonParts.{field_part, member_part, other_part, if_said, is_grade, grade_part, is_speed, speed_part, array_part, others_part, words_part, outcome_part, start_text}
 use Rattle.rbc_fields.proofs.PartsLemmas.{parts_text-flat}
 
 -- ---- texts of ours need no escapes
@@ -76,7 +76,7 @@ escape-measure Filling = refl
 escape-measure Behind = refl
 
 -- a string that needs none, in front of others
-quoted-plain : (text rest : List ℕ) → escape text ≡ text → quoted text ++ rest ≡ 34 ∷ (text ++ 34 ∷ rest)
+pub quoted-plain : (text rest : List ℕ) → escape text ≡ text → quoted text ++ rest ≡ 34 ∷ (text ++ 34 ∷ rest)
 quoted-plain text rest same = ap (λ t. 34 ∷ ((t ++ 34 ∷ []) ++ rest)) same ∙ ap (λ l. 34 ∷ l) (append_assoc text (34 ∷ []) rest)
 
 -- ---- elements
@@ -241,33 +241,26 @@ pub words_whole : (items : List Item) (others grades speeds : List ℕ) → othe
 words_whole items others grades speeds a b c = rw (a, b, c) refl
 
 -- the line, by its parts
-pub json_whole : (packet : Bool) (reading : Reading) → json_text packet reading
-    ≡ (123 ∷ (quoted (codes "kind") ++ 58 ∷ quoted (kind_text packet)))
+pub json_whole : (number : ℕ) (packet : Bool) (reading : Reading) → json_text number packet reading
+    ≡ start_text number packet
     ++ (outcome_part reading.items reading.found ++ ((codes ",\"fields\":[" ++ (parts_text always field_part false reading.items ++ 93 ∷ [])) ++ codes "}\n"))
-json_whole packet reading =
+unfolding escape_byte
+json_whole number packet reading =
     let outcome = outcome_part reading.items reading.found in
     let fields = array_part (codes "fields") (field_items reading.items) in
     let rest = members_text true (with_outcome reading.items reading.found (fields_member reading.items)) in
     let behind : rest ≡ outcome ++ (fields ++ 125 ∷ []) =
     outcome_text reading.items reading.found (fields_member reading.items) ∙ ap (λ l. outcome ++ l) (member_step (codes "fields") (array (field_items reading.items)) no_members) in
-    let kind : List ℕ = quoted (kind_text packet) in
-    let key : List ℕ = quoted (codes "kind") in
-    let head : List ℕ = 123 ∷ (key ++ 58 ∷ kind) in
-    let cut : (123 ∷ (key ++ 58 ∷ (kind ++ rest))) ++ 10 ∷ [] ≡ head ++ (rest ++ 10 ∷ []) =
-    ap (λ l. (123 ∷ l) ++ 10 ∷ []) (sym (append_assoc key (58 ∷ kind) rest)) ∙ append_assoc head rest (10 ∷ []) in
-    cut
-    ∙ ap (λ l. head ++ (l ++ 10 ∷ [])) behind
-    ∙ ap (λ l. head ++ l) (append_assoc outcome (fields ++ 125 ∷ []) (10 ∷ []))
-    ∙ ap (λ l. head ++ (outcome ++ l)) (append_assoc fields (125 ∷ []) (10 ∷ []))
-    ∙ ap (λ l. head ++ (outcome ++ (l ++ 125 ∷ 10 ∷ []))) (sym (fields_array reading.items))
-
--- the same by what the code printed
-pub json_by_parts : (packet : Bool) (items : List Item) (found : Option Found) (kind : List ℕ) → kind ≡ 123 ∷ (quoted (codes "kind") ++ 58 ∷ quoted (kind_text packet))
-    → json_text packet (read_as items found)
-    ≡ kind ++ (outcome_part items found ++ ((codes ",\"fields\":[" ++ (parts_text always field_part false items ++ 93 ∷ [])) ++ codes "}\n"))
-json_by_parts packet items found kind named =
-    let fields : List ℕ = (codes ",\"fields\":[" ++ (parts_text always field_part false items ++ 93 ∷ [])) ++ codes "}\n" in
-    json_whole packet (read_as items found) ∙ ap (λ k. k ++ (outcome_part items found ++ fields)) (sym named)
+    let place : List ℕ = decimal number in
+    let kind : List ℕ = member_part (codes "kind") (string (kind_text packet)) in
+    let line : List ℕ → List ℕ = λ l. codes "{\"line\":" ++ l in
+    ap (λ m. line (place ++ m) ++ 10 ∷ []) (member_step (codes "kind") (string (kind_text packet)) (with_outcome reading.items reading.found (fields_member reading.items)))
+    ∙ ap (λ m. line m ++ 10 ∷ []) (sym (append_assoc place kind rest))
+    ∙ ap line (append_assoc (place ++ kind) rest (10 ∷ []))
+    ∙ ap (λ l. line ((place ++ kind) ++ (l ++ 10 ∷ []))) behind
+    ∙ ap (λ l. line ((place ++ kind) ++ l)) (append_assoc outcome (fields ++ 125 ∷ []) (10 ∷ []))
+    ∙ ap (λ l. line ((place ++ kind) ++ (outcome ++ l))) (append_assoc fields (125 ∷ []) (10 ∷ []))
+    ∙ ap (λ l. line ((place ++ kind) ++ (outcome ++ (l ++ 125 ∷ 10 ∷ [])))) (sym (fields_array reading.items))
 
 pub found_by_parts : (found : Found) (fault place measure : List ℕ) → fault ≡ fault_text found.fault → place ≡ place_text found.place → measure ≡ measure_text found.place
     → codes ",\"refused\":{\"fault\":\"" ++ (fault ++ (codes "\",\"name\":\"" ++ (place ++ (codes "\",\"bit\":" ++ (decimal found.bit

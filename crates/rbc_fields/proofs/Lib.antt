@@ -6,6 +6,7 @@ pub mod SheetLemmas
 pub mod ListLemmas
 pub mod PartsLemmas
 pub mod JsonLemmas
+pub mod ElementLemmas
 pub mod LineLemmas
 pub mod DecodedLemmas
 pub mod AgreementLemmas

@@ -22,8 +22,8 @@ use Rattle.rbc_fields.specs.declared.fields.Fields.{Fields}
 use Rattle.rbc_fields.specs.declared.fields.Found.{Found}
 use Rattle.rbc_fields.specs.declared.fields.Item.{Item}
 use Rattle.rbc_fields.specs.Rows.{names_in}
-use Rattle.rbc_fields.specs.Walks.{at_row, first_row, field_in, behind, is_allowed, length_fault, told, later_told, counts_steps, moved, entered, row_behind}
-use Rattle.rbc_fields.specs.Readings.{Reading, stopped, left_to_read, reading, reading_of, with_item, with_next, field_read}
+use Rattle.rbc_fields.specs.Walks.{at_row, first_row, field_in, behind, is_allowed, length_fault, told, later_told, counts_steps, moved, entered, row_behind, is_known, past}
+use Rattle.rbc_fields.specs.Readings.{Reading, stopped, left_to_read, reading, reading_of, with_item, with_next, field_read, item_at, if_known, field_beyond, beyond}
 use Rattle.rbc_fields.specs.DecodeText.{start_of, reading_kind, reading_at}
 use Rattle.rbc_fields.proofs.RestLemmas.{Rest, rest_to}
 
@@ -130,9 +130,9 @@ moved_fewer Header w before is inside few same =
 moved_fewer Authority w before is inside few same =
     let i = w.index in
     let later = w.later in
-    if_both (nat_lt i 11) (record w { index = i + 1 }) (entered w (Some GradientHead)) _
+    if_both (nat_lt i 11) (record w { index = i + 1 }) (entered w (row_behind w Authority)) _
     (λ b. subst (λ r. left_of r (i + 1) later < left_from Authority i before) (sym is) (omega arith))
-    (λ b. omega arith)
+    (λ b. if_over w.is_alone w GradientHead (left_from Authority i before) (omega arith) (omega arith))
 moved_fewer GradientHead w before is inside few same =
     let i = w.index in
     let later = w.later in
@@ -191,9 +191,9 @@ behind_is false fault wrong w next is = absurd cc
 below_32 : (name : FieldName) (value : ℕ) → value < 2 ^ width_of name → name ≡ N_ITER → value < 32
 below_32 name value below is = subst (λ n. value < 2 ^ width_of n) is below
 
-behind_fewer : (walk next : Walk) (row : Row) (name : FieldName) (value : ℕ) → walk.row ≡ Some row → slice_get (names_in row) walk.index ≡ Some name → value < 2 ^ width_of name
-    → behind walk row name value ≡ Ok next → fields_left next < left_from row walk.index walk.later
-behind_fewer walk next row name value at named below is =
+past_fewer : (walk : Walk) (row : Row) (name : FieldName) (value : ℕ) → walk.row ≡ Some row → slice_get (names_in row) walk.index ≡ Some name → value < 2 ^ width_of name
+    → fields_left (past walk row name value) < left_from row walk.index walk.later
+past_fewer walk row name value at named below =
     let w = told walk row name value in
     let keeps = told_keeps walk row name value in
     let index_is : w.index ≡ walk.index = keeps.1 in
@@ -209,8 +209,13 @@ behind_fewer walk next row name value at named below is =
     moved_fewer row w walk.later (keeps.0 ∙ at) (subst (λ i. i < length (names_in row)) (sym index_is) inside)
     (subst (λ i. counts_steps row i ≡ true → w.later ≤ 30) (sym index_is) few)
     (subst (λ i. counts_steps row i ≡ false → w.later ≡ walk.later) (sym index_is) same) in
-    subst (λ x. fields_left x < left_from row walk.index walk.later) (behind_is (is_allowed walk row name value) (length_fault walk row name value) _ (moved w row) next is)
-    (subst (λ i. fields_left (moved w row) < left_from row i walk.later) index_is moves)
+    subst (λ i. fields_left (moved w row) < left_from row i walk.later) index_is moves
+
+behind_fewer : (walk next : Walk) (row : Row) (name : FieldName) (value : ℕ) → walk.row ≡ Some row → slice_get (names_in row) walk.index ≡ Some name → value < 2 ^ width_of name
+    → behind walk row name value ≡ Ok next → fields_left next < left_from row walk.index walk.later
+behind_fewer walk next row name value at named below is =
+    subst (λ x. fields_left x < left_from row walk.index walk.later) (behind_is (is_allowed walk row name value) (length_fault walk row name value) _ (past walk row name value) next is)
+    (past_fewer walk row name value at named below)
 
 -- ---- a reading has at most `fields_left` fields
 
@@ -224,10 +229,15 @@ some_left SpeedHead index later inside = omega arith
 some_left SpeedStep index later inside = omega arith
 some_left SpeedEnd index later inside = omega arith
 
-next_few : (item : Item) (bit n : ℕ) (r : Result Walk Fault) (later : Walk → Reading) → 1 ≤ n → ((next : Walk) → r ≡ Ok next → length (later next).items < n)
-    → length (with_next item bit r later).items ≤ n
-next_few item bit n (Ok next) later one fewer = let h = fewer next refl in omega arith
-next_few item bit n (Err fault) later one fewer = one
+list_few : (known : Bool) (late : List Item) (n : ℕ) → 1 ≤ n → length late < n → suc (length (if known then late else [])) ≤ n
+list_few true late n one fewer = omega arith
+list_few false late n one fewer = one
+
+next_few : (item : Item) (n : ℕ) (r : Result Walk Fault) (late : Walk → List Item) (later : Walk → Reading) → 1 ≤ n → length (late (past item.walk item.row item.name item.value)) < n
+    → ((next : Walk) → r ≡ Ok next → length (later next).items < n) → length (with_next item r late later).items ≤ n
+next_few item n (Ok next) late later one fewer_late fewer = let h = fewer next refl in omega arith
+next_few item n (Err fault) late later one fewer_late fewer =
+    list_few (is_known item.walk item.row item.name item.value) (late (past item.walk item.row item.name item.value)) n one fewer_late
 
 read_few : (short : Bool) (stop go : Reading) (n : ℕ) → length stop.items ≤ n → length go.items ≤ n → length (if short then stop else go).items ≤ n
 read_few true stop go n h k = h
@@ -241,27 +251,62 @@ value_below width bits =
     let more : 2 ^ length (take width bits) ≤ 2 ^ width = pow_mono most in
     omega arith
 
-module _ (bits : List Bool) (bit : ℕ) (walk : Walk) (later : Walk → List Bool → ℕ → Reading) (few : (next : Walk) (b : List Bool) (n : ℕ) → length (later next b n).items ≤ fields_left next) where
-  named_few : (row : Row) (o : Option FieldName) → walk.row ≡ Some row → slice_get (names_in row) walk.index ≡ o
-      → length (field_read (option_map (λ name. (row, name)) o) walk bits bit later).items ≤ left_from row walk.index walk.later
-  named_few row None at named = omega arith
-  named_few row (Some name) at named =
-      let value = number_of (take (width_of name) bits) in
-      let one = some_left row walk.index walk.later (slice_get_within (names_in row) walk.index name named) in
-      read_few (nat_lt (length bits) (width_of name)) _ _ (left_from row walk.index walk.later) (omega arith)
-      (next_few _ bit _ (behind walk row name value) (λ next. later next (drop (width_of name) bits) (bit + width_of name)) one
-      (λ next is. let fewer = behind_fewer walk next row name value at named (value_below (width_of name) bits) is in
-      let rest = few next (drop (width_of name) bits) (bit + width_of name) in
-      omega arith))
+late_few : (short : Bool) (item : Item) (late : Walk → List Item) (n : ℕ) → 1 ≤ n → length (late (past item.walk item.row item.name item.value)) < n
+    → length (if short then [] else item ∷ if_known item late) ≤ n
+late_few true item late n one fewer = omega arith
+late_few false item late n one fewer =
+    list_few (is_known item.walk item.row item.name item.value) (late (past item.walk item.row item.name item.value)) n one fewer
 
-  fields_few : (o : Option Row) → walk.row ≡ o → length (field_read (option_and_then (field_in walk.index) o) walk bits bit later).items ≤ left_of o walk.index walk.later
-  fields_few None at = omega arith
-  fields_few (Some row) at = named_few row (slice_get (names_in row) walk.index) at refl
+module _ (bits : List Bool) (bit : ℕ) (walk : Walk) (late : Walk → List Bool → ℕ → List Item) (few_late : (next : Walk) (b : List Bool) (n : ℕ) → length (late next b n) ≤ fields_left next) where
+  -- the field that comes next, and those behind it
+  late_fewer : (row : Row) (name : FieldName) → walk.row ≡ Some row → slice_get (names_in row) walk.index ≡ Some name
+      → length (late (past walk row name (number_of (take (width_of name) bits))) (drop (width_of name) bits) (bit + width_of name)) < left_from row walk.index walk.later
+  late_fewer row name at named =
+      let value = number_of (take (width_of name) bits) in
+      let fewer = past_fewer walk row name value at named (value_below (width_of name) bits) in
+      let rest = few_late (past walk row name value) (drop (width_of name) bits) (bit + width_of name) in
+      omega arith
+
+  named_late : (row : Row) (o : Option FieldName) → walk.row ≡ Some row → slice_get (names_in row) walk.index ≡ o
+      → length (field_beyond (option_map (λ name. (row, name)) o) walk bits bit late) ≤ left_from row walk.index walk.later
+  named_late row None at named = omega arith
+  named_late row (Some name) at named =
+      let one = some_left row walk.index walk.later (slice_get_within (names_in row) walk.index name named) in
+      late_few (nat_lt (length bits) (width_of name)) (item_at true walk row name bits bit) (λ next. late next (drop (width_of name) bits) (bit + width_of name))
+      (left_from row walk.index walk.later) one (late_fewer row name at named)
+
+  fields_late : (o : Option Row) → walk.row ≡ o → length (field_beyond (option_and_then (field_in walk.index) o) walk bits bit late) ≤ left_of o walk.index walk.later
+  fields_late None at = omega arith
+  fields_late (Some row) at = named_late row (slice_get (names_in row) walk.index) at refl
+
+  module _ (later : Walk → List Bool → ℕ → Reading) (few : (next : Walk) (b : List Bool) (n : ℕ) → length (later next b n).items ≤ fields_left next) where
+    named_few : (row : Row) (o : Option FieldName) → walk.row ≡ Some row → slice_get (names_in row) walk.index ≡ o
+        → length (field_read (option_map (λ name. (row, name)) o) walk bits bit late later).items ≤ left_from row walk.index walk.later
+    named_few row None at named = omega arith
+    named_few row (Some name) at named =
+        let value = number_of (take (width_of name) bits) in
+        let one = some_left row walk.index walk.later (slice_get_within (names_in row) walk.index name named) in
+        read_few (nat_lt (length bits) (width_of name)) _ _ (left_from row walk.index walk.later) (omega arith)
+        (next_few (item_at false walk row name bits bit) _ (behind walk row name value)
+        (λ next. late next (drop (width_of name) bits) (bit + width_of name)) (λ next. later next (drop (width_of name) bits) (bit + width_of name))
+        one (late_fewer row name at named)
+        (λ next is. let fewer = behind_fewer walk next row name value at named (value_below (width_of name) bits) is in
+        let rest = few next (drop (width_of name) bits) (bit + width_of name) in
+        omega arith))
+
+    fields_few : (o : Option Row) → walk.row ≡ o → length (field_read (option_and_then (field_in walk.index) o) walk bits bit late later).items ≤ left_of o walk.index walk.later
+    fields_few None at = omega arith
+    fields_few (Some row) at = named_few row (slice_get (names_in row) walk.index) at refl
+
+beyond_few : (most : ℕ) (walk : Walk) (bits : List Bool) (bit : ℕ) → length (beyond most walk bits bit) ≤ fields_left walk
+unfolding beyond
+beyond_few zero walk bits bit = omega arith
+beyond_few (suc most) walk bits bit = fields_late bits bit walk (beyond most) (beyond_few most) walk.row refl
 
 pub reading_few : (most : ℕ) (walk : Walk) (bits : List Bool) (bit : ℕ) → length (reading most walk bits bit).items ≤ fields_left walk
 unfolding reading
 reading_few zero walk bits bit = omega arith
-reading_few (suc most) walk bits bit = fields_few bits bit walk (reading most) (reading_few most) walk.row refl
+reading_few (suc most) walk bits bit = fields_few bits bit walk (beyond most) (beyond_few most) (reading most) (reading_few most) walk.row refl
 
 -- ---- the fields in a list
 

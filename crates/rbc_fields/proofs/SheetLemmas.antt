@@ -19,6 +19,11 @@ pub behind_6 : (old a b c d e f : List ℕ) {m n p q r s : List ℕ} → m ≡ o
 behind_6 old a b c d e f {m} {n} {p} {q} {r} {s} first second third fourth fifth sixth =
     behind old a (b ++ (c ++ (d ++ (e ++ f)))) first (behind_5 m b c d e f second third fourth fifth sixth)
 
+pub behind_7 : (old a b c d e f i : List ℕ) {m n p q r s t : List ℕ} → m ≡ old ++ a → n ≡ m ++ b → p ≡ n ++ c → q ≡ p ++ d → r ≡ q ++ e → s ≡ r ++ f → t ≡ s ++ i
+    → t ≡ old ++ (a ++ (b ++ (c ++ (d ++ (e ++ (f ++ i))))))
+behind_7 old a b c d e f i {m} {n} {p} {q} {r} {s} {t} first second third fourth fifth sixth seventh =
+    behind_3 old a b (c ++ (d ++ (e ++ (f ++ i)))) first second (behind_5 n c d e f i third fourth fifth sixth seventh)
+
 -- a digit fewer
 pub one_digit_fewer : (n : ℕ) → 10 ≤ n → n < 2 ^ 64 → length (decimal n) ≡ length (decimal (n / 10)) + 1
 one_digit_fewer n many fits = ap length (decimal_step n many fits) ∙ length-append (decimal (n / 10)) _

@@ -14,7 +14,7 @@ use Rattle.rbc_fields.specs.declared.fields.Place.TheVariants.{Missing}
 use Rattle.rbc_fields.specs.Walks.{field_of, behind, is_allowed, length_fault, told, moved}
 use Rattle.rbc_fields.specs.declared.said.Said.{Said}
 use Rattle.rbc_fields.specs.Said.{said_by, with_said, all_said}
-use Rattle.rbc_fields.specs.Readings.{Reading, reading, field_read, with_next, stopped}
+use Rattle.rbc_fields.specs.Readings.{Reading, reading, beyond, field_read, with_next, stopped}
 use Rattle.rbc_fields.specs.Laws.{fields_read}
 use Rattle.rbc_fields.proofs.AgreementLemmas.{some_bits}
 
@@ -57,9 +57,9 @@ module _ (walk : Walk) (row : WalkRow) (name : FieldName) (value : ℕ) (fields 
   behind_ok allowed none = rw (allowed, none) refl
 
   item_told : (most bit later : ℕ) → is_allowed walk row name value ≡ true → length_fault walk row name value ≡ None → Tells (moved (told walk row name value) row) mid fields said → length mid < most
-      → told_of (with_next (record { walk = walk; row = row; name = name; value = value }) bit (behind walk row name value) (λ next. reading most next mid later)) ≡ told_next
+      → told_of (with_next (record { walk = walk; row = row; name = name; value = value; bit = bit; is_late = false }) (behind walk row name value) (λ next. beyond most next mid later) (λ next. reading most next mid later)) ≡ told_next
   item_told most bit later allowed none h few =
-      ap (λ (r : Result Walk Fault). told_of (with_next (record { walk = walk; row = row; name = name; value = value }) bit r (λ next. reading most next mid later))) (behind_ok allowed none)
+      ap (λ (r : Result Walk Fault). told_of (with_next (record { walk = walk; row = row; name = name; value = value; bit = bit; is_late = false }) r (λ next. beyond most next mid later) (λ next. reading most next mid later))) (behind_ok allowed none)
       ∙ ap (λ (l : Both). ((name, value) ∷ l.0, with_said (said_by name walk row value) l.1)) (h.tells most later few)
 
   field_told : (most bit : ℕ) (bits : List Bool) (short : Bool) (n : ℕ) (rest : List Bool) → short ≡ false → n ≡ value → rest ≡ mid
@@ -67,7 +67,7 @@ module _ (walk : Walk) (row : WalkRow) (name : FieldName) (value : ℕ) (fields 
       → told_of
       (if short
       then stopped (Some (record { fault = Short; place = Missing name; bit = bit; value = length bits }))
-      else with_next (record { walk = walk; row = row; name = name; value = n }) bit (behind walk row name n) (λ next. reading most next rest (bit + width_of name)))
+      else with_next (record { walk = walk; row = row; name = name; value = n; bit = bit; is_late = false }) (behind walk row name n) (λ next. beyond most next rest (bit + width_of name)) (λ next. reading most next rest (bit + width_of name)))
       ≡ told_next
   field_told most bit bits short n rest long same behind_it allowed none h few =
       rw (long, same, behind_it) (item_told most bit (bit + width_of name) allowed none h few)
@@ -81,7 +81,7 @@ module _ (walk : Walk) (row : WalkRow) (name : FieldName) (value : ℕ) (fields 
       let some = some_bits name in
       let room : width_of name ≤ length bits = grind (arith, is.enough) in
       let shorter : length mid < most = omega (arith, some, room, few, length-drop (width_of name) bits, ap length is.rest_is) in
-      ap (λ (f : Option (WalkRow × FieldName)). told_of (field_read f walk bits bit (reading most))) next
+      ap (λ (f : Option (WalkRow × FieldName)). told_of (field_read f walk bits bit (beyond most) (reading most))) next
       ∙ field_told most bit bits (nat_lt (length bits) (width_of name)) (number_of (take (width_of name) bits)) (drop (width_of name) bits)
       is.enough is.value_is is.rest_is allowed none h shorter
 
@@ -99,7 +99,7 @@ tell {walk} {row} name {value} {fields} {more} {said} {bits} {later} next r fits
 last_told : (walk : Walk) → field_of walk ≡ None → (most bit : ℕ) (bits : List Bool) → length bits < most → told_of (reading most walk bits bit) ≡ ([], [])
 unfolding reading
 last_told walk over zero bit bits few = absurd (omega arith)
-last_told walk over (suc most) bit bits few = ap (λ (f : Option (WalkRow × FieldName)). told_of (field_read f walk bits bit (reading most))) over
+last_told walk over (suc most) bit bits few = ap (λ (f : Option (WalkRow × FieldName)). told_of (field_read f walk bits bit (beyond most) (reading most))) over
 
 pub told_all : (walk : Walk) (bits : List Bool) → field_of walk ≡ None → Tells walk bits [] []
 told_all walk bits over = record { tells = λ most bit few. last_told walk over most bit bits few }

@@ -1,7 +1,7 @@
 -- The program `rbc decode`: what a line has, and the replies to the lines of an input.
-use Rattle.std.specs.Prelude.{◌≡◌, ℕ, ◌/◌, ◌||◌, ◌&&◌, ◌++◌, Bool, true, false, not, List, [], ◌∷◌, length, map, count_by, Option, Some, is_some, Result, Ok, Err, nat_le, nat_lt, ◌==◌, if◌then◌else◌, codes, bytes_eq}
+use Rattle.std.specs.Prelude.{◌≡◌, ℕ, ◌+◌, ◌-◌, ◌^◌, ◌/◌, min, ◌||◌, ◌&&◌, ◌++◌, Bool, true, false, not, List, [], ◌∷◌, length, map, count_by, Option, Some, is_some, Result, Ok, Err, nat_le, nat_lt, ◌==◌, if◌then◌else◌, codes, bytes_eq}
 use Rattle.std.specs.Char.{is_ascii_digit, is_ascii_hexdigit, to_ascii_lowercase}
-use Rattle.std.specs.List.{list_all, list_any, flat_map}
+use Rattle.std.specs.List.{list_all, list_any}
 use Rattle.rbc_model.specs.declared.limits.TheConstants.{LONGEST_CHECK_LINE}
 use Rattle.rbc_model.specs.Sessions.{lines_of}
 use Rattle.rbc_model.specs.Words.{without_return, words_of}
@@ -10,10 +10,11 @@ use Rattle.rbc_fields.specs.Readings.{Reading, reading_of, message_reading, pack
 use Rattle.rbc_fields.specs.Walks.{at_row, first_row}
 use Rattle.rbc_fields.specs.declared.walk.Walk.{Walk}
 use Rattle.rbc_fields.specs.declared.row.Row.TheVariants.{Header}
-use Rattle.rbc_fields.specs.Texts.{reading_text, wrong_line}
+use Rattle.rbc_fields.specs.Texts.{told_text, wrong_text}
 use Rattle.rbc_fields.specs.JsonText.{json_text, wrong_json}
 use Rattle.rbc_fields.specs.declared.spelling.Wrong.{Wrong}
 use Rattle.rbc_fields.specs.declared.spelling.Wrong.TheVariants.{Overlong}
+use Rattle.rbc_fields.specs.declared.decoding.Progress.{Progress}
 use Rattle.rbc_fields.specs.declared.line.Meant.{Meant}
 use Rattle.rbc_fields.specs.declared.line.Meant.TheVariants.{Message as MeantMessage, Packet as MeantPacket, None as MeantNothing}
 
@@ -60,14 +61,14 @@ told_in line = told_by (without_return line) (words_of (without_return line))
 
 -- ---- the reply
 
--- what is printed of a packet alone or of a message, and of digits with which something is wrong
+-- what is printed of a packet alone or of a message, and of digits with which something is wrong, in the line of this number
 pub record Printing : Type 0 where
-  pub told : Bool → Reading → List ℕ
-  pub wrong : Wrong → List ℕ
+  pub told : ℕ → Bool → Reading → List ℕ
+  pub wrong : ℕ → Wrong → List ℕ
 
 -- lines of fields and words
 abbrev pub plain : Printing
-plain = record { told = λ packet reading. reading_text reading; wrong = wrong_line }
+plain = record { told = λ number packet reading. told_text number reading; wrong = wrong_text }
 
 -- a line of JSON
 abbrev pub json : Printing
@@ -92,6 +93,14 @@ is_refused line = nat_lt LONGEST_CHECK_LINE (length line) || is_told_refused (to
 abbrev pub is_all_read : List ℕ → Bool
 is_all_read input = list_all (λ line. not (is_refused line)) (lines_of input)
 
+-- the number of the next line: it counts no further than this
+abbrev pub next_number : ℕ → ℕ
+next_number number = min (number + 1) (2 ^ 32 - 1)
+
+-- before the first line
+abbrev pub opening : Progress
+opening = record { line = 1; refused = false }
+
 -- the end of a session, without what it told
 abbrev pub outcome_of : {A E : Type 0} → Result A E → Result (Unit {0}) E
 outcome_of (Ok told) = Ok tt
@@ -99,27 +108,33 @@ outcome_of (Err fault) = Err fault
 
 module _ (printing : Printing) where
   -- what is told of the bytes that are spelled, or of what is wrong
-  abbrev pub spelled_reply : Bool → Result (List ℕ) Wrong → List ℕ
-  spelled_reply packet (Ok bytes) = printing.told packet (reading_kind packet bytes)
-  spelled_reply packet (Err wrong) = printing.wrong wrong
+  abbrev pub spelled_reply : ℕ → Bool → Result (List ℕ) Wrong → List ℕ
+  spelled_reply number packet (Ok bytes) = printing.told number packet (reading_kind packet bytes)
+  spelled_reply number packet (Err wrong) = printing.wrong number wrong
 
-  abbrev pub told_reply : Told → List ℕ
-  told_reply (Message words) = spelled_reply false (spelled 0 words)
-  told_reply (Packet words) = spelled_reply true (spelled 0 words)
-  told_reply Nothing = []
+  abbrev pub told_reply : ℕ → Told → List ℕ
+  told_reply number (Message words) = spelled_reply number false (spelled 0 words)
+  told_reply number (Packet words) = spelled_reply number true (spelled 0 words)
+  told_reply number Nothing = []
 
-  -- the reply to a line
-  abbrev pub decode_reply : List ℕ → List ℕ
-  decode_reply line = if nat_lt LONGEST_CHECK_LINE (length line) then printing.wrong Overlong else told_reply (told_in line)
+  -- the reply to the line of this number
+  abbrev pub decode_reply : ℕ → List ℕ → List ℕ
+  decode_reply number line = if nat_lt LONGEST_CHECK_LINE (length line) then printing.wrong number Overlong else told_reply number (told_in line)
 
-  -- A line is answered by its reply, and it is kept whether one was refused so far.
-  abbrev pub AnswersDecode : Bool → List ℕ → List ℕ → Bool → Type 0
-  AnswersDecode before line reply after = (reply ≡ decode_reply line) × (after ≡ (before || is_refused line))
+  -- A line is answered by its reply; it is counted, and it is kept whether one was refused so far.
+  abbrev pub AnswersDecode : Progress → List ℕ → List ℕ → Progress → Type 0
+  AnswersDecode before line reply after =
+      (reply ≡ decode_reply before.line line) × (after.line ≡ next_number before.line) × (after.refused ≡ (before.refused || is_refused line))
 
   -- ---- a whole input
 
+  -- the replies to lines from the one of this number on
+  abbrev pub replies_from : ℕ → List (List ℕ) → List ℕ
+  replies_from number [] = []
+  replies_from number (line ∷ lines) = decode_reply number line ++ replies_from (next_number number) lines
+
   abbrev pub decode_text : List ℕ → List ℕ
-  decode_text input = flat_map decode_reply (lines_of input)
+  decode_text input = replies_from 1 (lines_of input)
 
   -- Where what was left to read and what was written are known: just the replies to the lines of what was read were written, and it is told whether none of
   -- them was refused.

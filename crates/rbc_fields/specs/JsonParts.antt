@@ -1,9 +1,8 @@
 -- The line of JSON as the code prints it, piece by piece.
-use Rattle.std.specs.Prelude.{ℕ, Bool, true, false, List, [], ◌∷◌, ◌++◌, Option, Some, None, codes, decimal}
+use Rattle.std.specs.Prelude.{ℕ, Bool, true, false, List, [], ◌∷◌, ◌++◌, Option, Some, None, if◌then◌else◌, codes, decimal}
 use Rattle.std.specs.List.{flat_map}
 use Rattle.rbc_model.specs.declared.messages.FieldName.{FieldName}
 use Rattle.rbc_model.specs.Messages.{width_of}
-use Rattle.rbc_fields.specs.declared.row.Row.{Row}
 use Rattle.rbc_fields.specs.declared.fields.Found.{Found}
 use Rattle.rbc_fields.specs.declared.fields.Item.{Item}
 use Rattle.rbc_fields.specs.declared.json_line.Piece.{Piece}
@@ -11,7 +10,8 @@ use Rattle.rbc_fields.specs.declared.json_line.Piece.TheVariants.{Text, Number}
 use Rattle.rbc_fields.specs.declared.said.Said.{Said}
 use Rattle.rbc_fields.specs.declared.said.Said.TheVariants.{Time, Country, Group, Nominal, End, Grade, Speed}
 use Rattle.rbc_fields.specs.Said.{all_said, said_in}
-use Rattle.rbc_fields.specs.JsonText.{packet_data, field_data, grade_data, speed_data, grade_items, speed_items, counted, found_data}
+use Rattle.rbc_fields.specs.Meanings.{meaning_in}
+use Rattle.rbc_fields.specs.JsonText.{packet_data, packet_of, field_data, grade_data, speed_data, grade_items, speed_items, counted, found_data, kind_text}
 use Rattle.rbc_fields.specs.Texts.{name_text, direction_text}
 use Rattle.serde_json.specs.Data.{Data, string, array, Items}
 use Rattle.serde_json.specs.Written.{compact_text, comma_if}
@@ -24,13 +24,22 @@ piece_text (Number number) = decimal number
 abbrev pub pieces_text : List Piece → List ℕ
 pieces_text pieces = flat_map piece_text pieces
 
--- a field up to the packet that it stands in
-abbrev pub packet_start : Row → List ℕ
-packet_start row = codes "{\"packet\":" ++ compact_text (packet_data row)
+-- a field up to its first bit
+abbrev pub field_front : Item → List ℕ
+field_front field =
+    codes "{\"packet\":" ++ (compact_text (packet_data field.row (packet_of field.name field.row field.value)) ++ (codes ",\"bit\":" ++ decimal field.bit))
 
 -- the members of a field behind that, up to its value
 abbrev pub name_members : FieldName → List ℕ
 name_members name = codes ",\"name\":" ++ (quoted (name_text name) ++ (codes ",\"bits\":" ++ (decimal (width_of name) ++ codes ",\"value\":")))
+
+-- behind the meaning of a field: the mark of what stands behind a fault
+abbrev pub field_end : Bool → List ℕ
+field_end late = if late then codes "\",\"behind_fault\":true}" else codes "\"}"
+
+-- a field from its name on
+abbrev pub field_rest : Item → List ℕ
+field_rest field = name_members field.name ++ (decimal field.value ++ (codes ",\"meaning\":\"" ++ (meaning_in field ++ field_end field.is_late)))
 
 -- a field among others
 abbrev pub field_part : Bool → Item → List ℕ
@@ -39,6 +48,10 @@ field_part later field = comma_if later ++ compact_text (field_data field)
 -- a member behind others
 abbrev pub member_part : List ℕ → Data → List ℕ
 member_part key value = 44 ∷ (quoted key ++ 58 ∷ compact_text value)
+
+-- up to the kind of what is told
+abbrev pub start_text : ℕ → Bool → List ℕ
+start_text number packet = codes "{\"line\":" ++ (decimal number ++ member_part (codes "kind") (string (kind_text packet)))
 
 -- what is said but for gradients and speeds
 abbrev pub other_part : Said → List ℕ

@@ -1,5 +1,7 @@
 -- What is printed of a message, or of a packet alone, as a line of JSON.
-use Rattle.std.specs.Prelude.{ℕ, Bool, List, [], ◌∷◌, ◌++◌, ℤ, pos, negsuc, Option, Some, None, if◌then◌else◌, codes}
+use Rattle.std.specs.Prelude.{ℕ, Bool, true, List, [], ◌∷◌, ◌++◌, ℤ, pos, negsuc, Option, Some, None, if◌then◌else◌, codes}
+use Rattle.rbc_model.specs.declared.messages.FieldName.{FieldName}
+use Rattle.rbc_model.specs.declared.messages.FieldName.TheVariants.{NID_PACKET}
 use Rattle.rbc_model.specs.Messages.{width_of}
 use Rattle.rbc_fields.specs.declared.row.Row.{Row}
 use Rattle.rbc_fields.specs.declared.row.Row.TheVariants.{Header}
@@ -11,9 +13,10 @@ use Rattle.rbc_fields.specs.declared.said.Said.{Said}
 use Rattle.rbc_fields.specs.declared.said.Said.TheVariants.{Time, Country, Group, Nominal, End, Grade, Speed}
 use Rattle.rbc_fields.specs.Rows.{packet_number}
 use Rattle.rbc_fields.specs.Readings.{Reading}
+use Rattle.rbc_fields.specs.Meanings.{meaning_in}
 use Rattle.rbc_fields.specs.Said.{all_said}
 use Rattle.rbc_fields.specs.Texts.{name_text, direction_text, fault_text, place_text, measure_text}
-use Rattle.serde_json.specs.Data.{Data, null, number, string, array, object, unsigned, negative, Items, no_items, item, Members, no_members, member}
+use Rattle.serde_json.specs.Data.{Data, null, boolean, number, string, array, object, unsigned, negative, Items, no_items, item, Members, no_members, member}
 use Rattle.serde_json.specs.Written.{compact_text}
 
 -- ---- values
@@ -27,18 +30,29 @@ whole (negsuc n) = number (negative (negsuc n))
 
 -- ---- fields
 
--- the packet that a field stands in, none for the header
-abbrev pub packet_data : Row → Data
-packet_data Header = null
-packet_data row = counted (packet_number row)
+-- the number of the packet that a field stands in, which its first field has as it was found
+abbrev pub packet_of : FieldName → Row → ℕ → ℕ
+packet_of NID_PACKET row value = value
+packet_of _ row value = packet_number row
+
+-- none for the header
+abbrev pub packet_data : Row → ℕ → Data
+packet_data Header n = null
+packet_data row n = counted n
+
+-- the mark of what stands behind a fault
+abbrev pub late_members : Bool → Members
+late_members late = if late then member (codes "behind_fault") (boolean true) no_members else no_members
 
 abbrev pub field_data : Item → Data
 field_data field =
     object
-    (member (codes "packet") (packet_data field.row)
+    (member (codes "packet") (packet_data field.row (packet_of field.name field.row field.value))
+    (member (codes "bit") (counted field.bit)
     (member (codes "name") (string (name_text field.name))
     (member (codes "bits") (counted (width_of field.name))
-    (member (codes "value") (counted field.value) no_members))))
+    (member (codes "value") (counted field.value)
+    (member (codes "meaning") (string (meaning_in field)) (late_members field.is_late)))))))
 
 abbrev pub field_items : List Item → Items
 field_items [] = no_items
@@ -87,7 +101,7 @@ found_data found =
     (member (codes "bit") (counted found.bit)
     (member (measure_text found.place) (counted found.value) no_members))))
 
--- the words, or what is found where the fields end
+-- the words, or the first fault
 abbrev pub with_outcome : List Item → Option Found → Members → Members
 with_outcome items None later = with_words (all_said items) later
 with_outcome items (Some found) later = member (codes "refused") (found_data found) later
@@ -100,17 +114,19 @@ kind_text packet = if packet then codes "packet" else codes "message"
 abbrev pub fields_member : List Item → Members
 fields_member items = member (codes "fields") (array (field_items items)) no_members
 
--- a packet alone or a message: its kind, its outcome and its fields
-abbrev pub told_data : Bool → Reading → Data
-told_data packet reading =
-    object (member (codes "kind") (string (kind_text packet)) (with_outcome reading.items reading.found (fields_member reading.items)))
+-- a packet alone or a message: the line that it stands in, its kind, its outcome and its fields
+abbrev pub told_data : ℕ → Bool → Reading → Data
+told_data place packet reading =
+    object
+    (member (codes "line") (counted place)
+    (member (codes "kind") (string (kind_text packet)) (with_outcome reading.items reading.found (fields_member reading.items))))
 
 -- the value as a line (10 is the line feed)
 abbrev pub json_line : Data → List ℕ
 json_line value = compact_text value ++ 10 ∷ []
 
-abbrev pub json_text : Bool → Reading → List ℕ
-json_text packet reading = json_line (told_data packet reading)
+abbrev pub json_text : ℕ → Bool → Reading → List ℕ
+json_text place packet reading = json_line (told_data place packet reading)
 
 -- ---- digits with which something is wrong
 
@@ -118,5 +134,5 @@ abbrev pub wrong_data : Wrong → Data
 wrong_data (Digits place) = object (member (codes "fault") (string (codes "Digits")) (member (codes "at") (counted place) no_members))
 wrong_data Overlong = object (member (codes "fault") (string (codes "Overlong")) no_members)
 
-abbrev pub wrong_json : Wrong → List ℕ
-wrong_json wrong = json_line (object (member (codes "refused") (wrong_data wrong) no_members))
+abbrev pub wrong_json : ℕ → Wrong → List ℕ
+wrong_json place wrong = json_line (object (member (codes "line") (counted place) (member (codes "refused") (wrong_data wrong) no_members)))

@@ -3,6 +3,7 @@ pub mod Rows
 pub mod Walks
 pub mod Readings
 pub mod Said
+pub mod Meanings
 pub mod Texts
 pub mod JsonText
 pub mod Parts

@@ -1,5 +1,6 @@
--- What is read of the bits of a message, or of a packet alone: its fields in order, up to the last one or the first at fault, and what is found there.
-use Rattle.std.specs.Prelude.{◌≡◌, ℕ, suc, zero, ◌+◌, ◌^◌, ◌≤◌, Bool, true, false, List, [], ◌∷◌, length, take, drop, Option, Some, None, Result, Ok, Err, nat_lt, ◌==◌, if◌then◌else◌}
+-- What is read of the bits of a message, or of a packet alone: its fields in order, and the first fault that is found. Behind it the fields are read on, as
+-- far as it is known which ones come.
+use Rattle.std.specs.Prelude.{◌≡◌, ℕ, suc, zero, ◌+◌, ◌^◌, ◌≤◌, Bool, true, false, List, [], ◌∷◌, length, take, drop, Option, Some, None, is_some, Result, Ok, Err, nat_lt, ◌==◌, if◌then◌else◌}
 use Rattle.rbc_model.specs.declared.messages.FieldName.{FieldName}
 use Rattle.rbc_model.specs.declared.messages.Fault.{Fault}
 use Rattle.rbc_model.specs.declared.messages.Fault.TheVariants.{Short, Length, Padding}
@@ -12,9 +13,9 @@ use Rattle.rbc_fields.specs.declared.fields.Found.{Found}
 use Rattle.rbc_fields.specs.declared.fields.Place.TheVariants.{Field, Missing, Filling, Behind}
 use Rattle.rbc_fields.specs.declared.fields.Item.{Item}
 use Rattle.rbc_fields.specs.declared.fields.Fields.{Fields}
-use Rattle.rbc_fields.specs.Walks.{at_row, first_row, field_of, behind}
+use Rattle.rbc_fields.specs.Walks.{at_row, first_row, field_of, behind, is_known, past}
 
--- the fields that are read, and what is found where they end, if that is a fault
+-- the fields that are read, and the first fault that is found
 pub record Reading : Type 0 where
   pub items : List Item
   pub found : Option Found
@@ -39,26 +40,55 @@ filling_found bits bit =
     then if number_of bits == 0 then None else Some (record { fault = Padding; place = Filling; bit = bit; value = number_of bits })
     else Some (record { fault = Length; place = Behind; bit = bit; value = length bits })
 
--- on from a field, which begins at this bit
-abbrev pub with_next : Item → ℕ → Result Walk Fault → (Walk → Reading) → Reading
-with_next item bit (Ok next) later = with_item (Some item) (later next)
-with_next item bit (Err fault) later =
-    with_item (Some item) (stopped (Some (record { fault = fault; place = Field item.name; bit = bit; value = item.value })))
+-- the field whose bits come next
+abbrev pub item_at : Bool → Walk → Row → FieldName → List Bool → ℕ → Item
+item_at late walk row name bits bit =
+    record { walk = walk; row = row; name = name; value = number_of (take (width_of name) bits); bit = bit; is_late = late }
+
+-- ---- behind a fault
+
+-- on from a field, if it is known which ones come behind it
+abbrev pub if_known : Item → (Walk → List Item) → List Item
+if_known item later = if is_known item.walk item.row item.name item.value then later (past item.walk item.row item.name item.value) else []
+
+-- the next field, if it is there, and those behind it
+abbrev pub field_beyond : Option (Row × FieldName) → Walk → List Bool → ℕ → (Walk → List Bool → ℕ → List Item) → List Item
+field_beyond None walk bits bit later = []
+field_beyond (Some (row, name)) walk bits bit later =
+    if nat_lt (length bits) (width_of name) then []
+    else item_at true walk row name bits bit ∷ if_known (item_at true walk row name bits bit) (λ next. later next (drop (width_of name) bits) (bit + width_of name))
+
+-- at most this many fields behind a fault, from this one on, which begins at this bit
+unfoldable pub beyond : ℕ → Walk → List Bool → ℕ → List Item
+beyond zero walk bits bit = []
+beyond (suc most) walk bits bit = field_beyond (field_of walk) walk bits bit (beyond most)
+
+-- ---- from the first field on
+
+-- what is found at a field
+abbrev pub found_at : Item → Fault → Found
+found_at item fault = record { fault = fault; place = Field item.name; bit = item.bit; value = item.value }
+
+-- on from a field, or from its fault
+abbrev pub with_next : Item → Result Walk Fault → (Walk → List Item) → (Walk → Reading) → Reading
+with_next item (Ok next) late later = with_item (Some item) (later next)
+with_next item (Err fault) late later = with_item (Some item) (read_as (if_known item late) (Some (found_at item fault)))
 
 -- the next field, if there is one, and those behind it
-abbrev pub field_read : Option (Row × FieldName) → Walk → List Bool → ℕ → (Walk → List Bool → ℕ → Reading) → Reading
-field_read None walk bits bit later = stopped (filling_found bits bit)
-field_read (Some (row, name)) walk bits bit later =
+abbrev pub field_read : Option (Row × FieldName) → Walk → List Bool → ℕ → (Walk → List Bool → ℕ → List Item) → (Walk → List Bool → ℕ → Reading) → Reading
+field_read None walk bits bit late later = stopped (filling_found bits bit)
+field_read (Some (row, name)) walk bits bit late later =
     if nat_lt (length bits) (width_of name)
     then stopped (Some (record { fault = Short; place = Missing name; bit = bit; value = length bits }))
-    else with_next (record { walk = walk; row = row; name = name; value = number_of (take (width_of name) bits) }) bit
+    else with_next (item_at false walk row name bits bit)
     (behind walk row name (number_of (take (width_of name) bits)))
+    (λ next. late next (drop (width_of name) bits) (bit + width_of name))
     (λ next. later next (drop (width_of name) bits) (bit + width_of name))
 
 -- at most this many fields from this one on, which begins at this bit
 unfoldable pub reading : ℕ → Walk → List Bool → ℕ → Reading
 reading zero walk bits bit = stopped None
-reading (suc most) walk bits bit = field_read (field_of walk) walk bits bit (reading most)
+reading (suc most) walk bits bit = field_read (field_of walk) walk bits bit (beyond most) (reading most)
 
 -- all fields of some bytes: each has at least one bit
 unfoldable pub reading_of : Walk → List ℕ → Reading
@@ -76,7 +106,7 @@ packet_reading bytes = reading_of (at_row (first_row bytes) true (length bytes))
 -- what is still to be read
 abbrev pub reading_from : ℕ → Bool → Walk → List Bool → ℕ → Option Found → Reading
 reading_from most true walk bits bit found = stopped found
-reading_from most false walk bits bit found = reading most walk bits bit
+reading_from most false walk bits bit found = if is_some found then read_as (beyond most walk bits bit) found else reading most walk bits bit
 
 abbrev pub left_to_read : ℕ → Fields → Reading
 left_to_read most fields = reading_from most fields.is_over fields.walk fields.bits fields.bit fields.found

@@ -1,12 +1,11 @@
 -- The walk from field to field over the bits of a message, or of a packet alone: which field comes next, which values it may have, and what it tells of
 -- those to come.
-use Rattle.std.specs.Prelude.{ℕ, ◌+◌, ◌-◌, ◌^◌, min, Bool, true, false, ◌&&◌, List, length, Option, Some, None, option_map, Result, Ok, Err, nat_abs, nat_le, nat_lt, ◌==◌, if◌then◌else◌}
+use Rattle.std.specs.Prelude.{ℕ, ◌+◌, ◌-◌, ◌^◌, min, Bool, true, false, not, ◌&&◌, List, length, Option, Some, None, option_map, Result, Ok, Err, nat_abs, nat_le, nat_lt, ◌==◌, if◌then◌else◌}
 use Rattle.std.specs.List.{slice_get}
 use Rattle.std.specs.Option.{option_and_then}
-use Rattle.rbc_model.specs.declared.limits.TheConstants.{GRADIENT_PACKET}
-use Rattle.rbc_model.specs.declared.limits.TheConstants.{MESSAGE_NUMBER, LAST_GROUP, NO_TIME_OUT, AUTHORITY_BITS, STEEPEST, GRADIENT_END_MARK, MOST_SPEED_STEPS, SPEED_END_MARK}
+use Rattle.rbc_model.specs.declared.limits.TheConstants.{MESSAGE_NUMBER, AUTHORITY_PACKET, GRADIENT_PACKET, LAST_GROUP, NO_TIME_OUT, AUTHORITY_BITS, STEEPEST, GRADIENT_END_MARK, MOST_SPEED_STEPS, SPEED_END_MARK}
 use Rattle.rbc_model.specs.declared.messages.FieldName.{FieldName}
-use Rattle.rbc_model.specs.declared.messages.FieldName.TheVariants.{NID_MESSAGE, L_MESSAGE, T_TRAIN, NID_C, NID_BG, NID_PACKET, Q_DIR, L_PACKET, Q_SCALE, T_LOA, N_ITER, L_ENDSECTION, D_GRADIENT, Q_GDIR, G_A, D_STATIC, V_STATIC}
+use Rattle.rbc_model.specs.declared.messages.FieldName.TheVariants.{NID_MESSAGE, L_MESSAGE, T_TRAIN, NID_C, NID_BG, NID_PACKET, Q_DIR, L_PACKET, Q_SCALE, T_LOA, N_ITER, L_ENDSECTION, Q_SECTIONTIMER, Q_ENDTIMER, Q_DANGERPOINT, Q_OVERLAP, D_GRADIENT, Q_GDIR, G_A, D_STATIC, V_STATIC}
 use Rattle.rbc_model.specs.declared.messages.Fault.{Fault}
 use Rattle.rbc_model.specs.declared.messages.Fault.TheVariants.{Short, Length, Extra}
 use Rattle.rbc_model.specs.Messages.{gradient_length, speed_length}
@@ -39,9 +38,12 @@ at_row row alone bytes = record {
 -- the row that a packet of this number begins with
 abbrev pub row_numbered : Option ℕ → Row
 row_numbered None = SpeedHead
-row_numbered (Some number) = if number == GRADIENT_PACKET then GradientHead else SpeedHead
+row_numbered (Some number) =
+    if number == AUTHORITY_PACKET then Authority
+    else if number == GRADIENT_PACKET then GradientHead
+    else SpeedHead
 
--- a packet alone is packet 21 if it begins with its number, and else packet 27
+-- a packet alone is packet 15 or 21 if it begins with its number, and else it is read as packet 27
 abbrev pub first_row : List ℕ → Row
 first_row bytes = row_numbered (slice_get bytes 0)
 
@@ -168,7 +170,7 @@ told walk row _ value = walk
 -- the row behind a row: the steps that are left, the end, and the next packet
 abbrev pub row_behind : Walk → Row → Option Row
 row_behind walk Header = Some Authority
-row_behind walk Authority = Some GradientHead
+row_behind walk Authority = if walk.is_alone then None else Some GradientHead
 row_behind walk GradientHead = if nat_lt 0 walk.later then Some GradientStep else Some GradientEnd
 row_behind walk GradientStep = if nat_lt 0 walk.later then Some GradientStep else Some GradientEnd
 row_behind walk GradientEnd = if walk.is_alone then None else Some SpeedHead
@@ -195,3 +197,24 @@ behind walk row name value =
     if is_allowed walk row name value
     then unless (length_fault walk row name value) (Ok (moved (told walk row name value) row))
     else Err (fault_of name)
+
+-- ---- behind a fault
+
+-- the value of such a field says which fields come next
+abbrev pub says_next : FieldName → Bool
+says_next NID_MESSAGE = true
+says_next NID_PACKET = true
+says_next N_ITER = true
+says_next Q_SECTIONTIMER = true
+says_next Q_ENDTIMER = true
+says_next Q_DANGERPOINT = true
+says_next Q_OVERLAP = true
+says_next _ = false
+
+-- whether it is known which fields come behind this value of the next one, whatever is at fault
+abbrev pub is_known : Walk → Row → FieldName → ℕ → Bool
+is_known walk row name value = not (says_next name && not (is_allowed walk row name value))
+
+-- behind this value of the next field, whatever is at fault
+abbrev pub past : Walk → Row → FieldName → ℕ → Walk
+past walk row name value = moved (told walk row name value) row

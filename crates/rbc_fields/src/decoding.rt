@@ -10,14 +10,15 @@ ghost use Rattle.rbc_fields.specs.Readings.{read_as};
 ghost use Rattle.rbc_model.specs.Words.{words_of};
 ghost use Rattle.rbc_fields.specs.Spelling.{spelled};
 ghost use Rattle.rbc_fields.specs.DecodeText.{spelled_reply, are_refused, told_reply, is_told_refused, told_view};
-ghost use Rattle.rbc_fields.specs.DecodeText.{AnswersDecode, DecodesAll, Printing, outcome_of};
+ghost use Rattle.rbc_fields.specs.DecodeText.{AnswersDecode, DecodesAll, Printing, outcome_of, next_number, opening};
+ghost use Rattle.rbc_fields.specs.declared.decoding.Progress.{Progress};
 
 use crate::fields::{Found, Item};
 use crate::json_line::{print_json, print_wrong_json};
 use crate::line::{Meant, meant_in};
 use crate::listing::{LIST, NO_FIELD, list_fields};
 use crate::spelling::{Octets, Wrong, spell};
-use crate::text::{print_reading, print_wrong};
+use crate::text::{print_told, print_wrong};
 use rbc_model::limits::LONGEST_CHECK_LINE;
 use rbc_streams::{Answers, Sink, Source, WriteFailed, converse};
 use rbc_words::SessionFault;
@@ -29,12 +30,13 @@ pub trait Form {
     /// What is printed of one, and of digits with which something is wrong.
     ghost printing: { Printing };
 
-    /// Writes what was read: these fields, and what was found where they end.
+    /// Writes what was read in the line of this number: these fields, and the first fault that was found.
     ///
     /// # Errors
     ///
     /// `WriteFailed`, where the writer fails. Then a part of the text stands, from its start.
     fn print_reading<W: Sink>(
+        line: u32,
         is_packet: bool,
         items: &[Item],
         found: Option<Found>,
@@ -42,16 +44,16 @@ pub trait Form {
     ) -> Result<(), WriteFailed>
         requires { W.failed writer.old ≡ false }
         ensures { Prints (W.written writer.old) (W.written writer.new) (W.failed writer.new)
-            (printing.told is_packet (read_as items.now found)) result };
+            (printing.told line is_packet (read_as items.now found)) result };
 
-    /// Writes what is wrong with digits.
+    /// Writes what is wrong with digits in the line of this number.
     ///
     /// # Errors
     ///
     /// As above.
-    fn print_wrong<W: Sink>(wrong: Wrong, writer: &mut W) -> Result<(), WriteFailed>
+    fn print_wrong<W: Sink>(line: u32, wrong: Wrong, writer: &mut W) -> Result<(), WriteFailed>
         requires { W.failed writer.old ≡ false }
-        ensures { Prints (W.written writer.old) (W.written writer.new) (W.failed writer.new) (printing.wrong wrong) result };
+        ensures { Prints (W.written writer.old) (W.written writer.new) (W.failed writer.new) (printing.wrong line wrong) result };
 }
 
 /// Lines of fields, and of words.
@@ -63,16 +65,17 @@ impl Form for Plain {
     ghost printing = { plain };
 
     fn print_reading<W: Sink>(
+        line: u32,
         _is_packet: bool,
         items: &[Item],
         found: Option<Found>,
         writer: &mut W,
     ) -> Result<(), WriteFailed> {
-        print_reading(items, found, writer)
+        print_told(line, items, found, writer)
     }
 
-    fn print_wrong<W: Sink>(wrong: Wrong, writer: &mut W) -> Result<(), WriteFailed> {
-        print_wrong(wrong, writer)
+    fn print_wrong<W: Sink>(line: u32, wrong: Wrong, writer: &mut W) -> Result<(), WriteFailed> {
+        print_wrong(line, wrong, writer)
     }
 }
 
@@ -85,43 +88,65 @@ impl Form for Json {
     ghost printing = { json };
 
     fn print_reading<W: Sink>(
+        line: u32,
         is_packet: bool,
         items: &[Item],
         found: Option<Found>,
         writer: &mut W,
     ) -> Result<(), WriteFailed> {
-        print_json(is_packet, items, found, writer)
+        print_json(line, is_packet, items, found, writer)
     }
 
-    fn print_wrong<W: Sink>(wrong: Wrong, writer: &mut W) -> Result<(), WriteFailed> {
-        print_wrong_json(wrong, writer)
+    fn print_wrong<W: Sink>(line: u32, wrong: Wrong, writer: &mut W) -> Result<(), WriteFailed> {
+        print_wrong_json(line, wrong, writer)
     }
+}
+
+/// How far a session is.
+#[derive(Clone, Copy, Debug, PartialEq, Eq)]
+pub struct Progress {
+    /// The number of the next line, from 1 on.
+    pub line: u32,
+    /// Whether a message or packet was refused so far.
+    pub refused: bool,
 }
 
 /// Reads messages and packets.
 #[derive(Drop)]
 struct Decoder {
-    /// Whether one was refused so far.
-    refused: bool,
+    progress: Progress,
     /// Room for the fields of one.
     items: [Item; LIST],
 }
 
 impl Decoder {
-    /// Writes what a line has told.
+    /// Counts the next line, and answers its number.
+    fn count(&mut self) -> u32
+        ensures number { result ≡ self.old.progress.line }
+        ensures line { self.new.progress.line ≡ next_number self.old.progress.line }
+        ensures refused { self.new.progress.refused ≡ self.old.progress.refused }
+    {
+        let line = self.progress.line;
+        self.progress.line = line.saturating_add(1);
+        line
+    }
+
+    /// Writes what the line of this number has told.
     fn print_told<F: Form, W: Sink>(
         &mut self,
+        line: u32,
         told: Meant,
         writer: &mut W,
     ) -> Result<(), WriteFailed>
         requires { W.failed writer.old ≡ false }
         ensures reply { Prints (W.written writer.old) (W.written writer.new) (W.failed writer.new)
-            (told_reply F.printing (told_view told.entry)) result }
-        ensures refused { self.new.refused ≡ (self.old.refused || is_told_refused (told_view told.entry)) }
+            (told_reply F.printing line (told_view told.entry)) result }
+        ensures refused { self.new.progress.refused ≡ (self.old.progress.refused || is_told_refused (told_view told.entry)) }
+        ensures line { self.new.progress.line ≡ self.old.progress.line }
     {
         match told {
-            Meant::Message(text) => self.print_spelled::<F, W>(false, text, writer),
-            Meant::Packet(text) => self.print_spelled::<F, W>(true, text, writer),
+            Meant::Message(text) => self.print_spelled::<F, W>(line, false, text, writer),
+            Meant::Packet(text) => self.print_spelled::<F, W>(line, true, text, writer),
             Meant::None => Ok(()),
         }
     }
@@ -129,28 +154,30 @@ impl Decoder {
     /// Writes what the digits of a message tell, or of a packet alone, or what is wrong with them.
     fn print_spelled<F: Form, W: Sink>(
         &mut self,
+        line: u32,
         is_packet: bool,
         text: &[u8],
         writer: &mut W,
     ) -> Result<(), WriteFailed>
         requires { W.failed writer.old ≡ false }
         ensures reply { Prints (W.written writer.old) (W.written writer.new) (W.failed writer.new)
-            (spelled_reply F.printing is_packet (spelled 0 (words_of text.now))) result }
-        ensures refused { self.new.refused ≡ (self.old.refused || are_refused is_packet (spelled 0 (words_of text.now))) }
+            (spelled_reply F.printing line is_packet (spelled 0 (words_of text.now))) result }
+        ensures refused { self.new.progress.refused ≡ (self.old.progress.refused || are_refused is_packet (spelled 0 (words_of text.now))) }
+        ensures line { self.new.progress.line ≡ self.old.progress.line }
     {
         let mut octets = Octets::new();
         if let Err(wrong) = spell(text, &mut octets) {
-            self.refused = true;
-            return F::print_wrong(wrong, writer);
+            self.progress.refused = true;
+            return F::print_wrong(line, wrong, writer);
         }
         let (count, found) = list_fields(is_packet, octets.bytes(), &mut self.items);
-        self.refused = self.refused || found.is_some();
-        F::print_reading(is_packet, &self.items[..count], found, writer)
+        self.progress.refused = self.progress.refused || found.is_some();
+        F::print_reading(line, is_packet, &self.items[..count], found, writer)
     }
 }
 
 impl<F: Form> Answers<F> for Decoder {
-    type State = bool;
+    type State = Progress;
 
     ghost use Rattle.std.specs.Prelude.{⊤, false, refl};
     ghost use Rattle.rbc_model.specs.declared.limits.TheConstants.{LONGEST_CHECK_LINE};
@@ -158,7 +185,7 @@ impl<F: Form> Answers<F> for Decoder {
 
     ghost longest = { LONGEST_CHECK_LINE };
 
-    ghost state = { λ d. d.refused };
+    ghost state = { λ d. d.progress };
 
     ghost answers = { AnswersDecode F.printing };
 
@@ -189,12 +216,14 @@ impl<F: Form> Answers<F> for Decoder {
         if line.len() > LONGEST_CHECK_LINE {
             return self.refuse(help, writer);
         }
-        self.print_told::<F, W>(meant_in(line), writer)
+        let number = self.count();
+        self.print_told::<F, W>(number, meant_in(line), writer)
     }
 
     fn refuse<W: Sink>(&mut self, _help: &F, writer: &mut W) -> Result<(), WriteFailed> {
-        self.refused = true;
-        F::print_wrong(Wrong::Overlong, writer)
+        let number = self.count();
+        self.progress.refused = true;
+        F::print_wrong(number, Wrong::Overlong, writer)
     }
 }
 
@@ -227,9 +256,9 @@ pub fn decode<F: Form, R: Source, W: Sink>(
     ensures ended { OnOk result (R.ended reader.new ≡ true) }
 
     // What was written answers the lines of what was read, and Ok tells whether none was refused.
-    ensures talk { (input : List ℕ) × Consumes (R.left reader.old) (R.left reader.new) input × (refused : Bool)
-        × IsTalk LONGEST_CHECK_LINE (AnswersDecode F.printing) false refused input (W.written writer.old) (W.written writer.new)
-        (outcome_of result) × IfOk result (λ all. all ≡ not refused) }
+    ensures talk { (input : List ℕ) × Consumes (R.left reader.old) (R.left reader.new) input × (last : Progress)
+        × IsTalk LONGEST_CHECK_LINE (AnswersDecode F.printing) opening last input (W.written writer.old) (W.written writer.new)
+        (outcome_of result) × IfOk result (λ all. all ≡ not last.refused) }
 
     // At the end of the input what was written, and whether none was refused, is one function of what was read.
     ensures answers { IfOk result (λ all. DecodesAll F.printing all (R.left reader.old) (W.written writer.old) (W.written writer.new)) }
@@ -238,9 +267,12 @@ pub fn decode<F: Form, R: Source, W: Sink>(
     ensures handed_on { W.failed writer.new ≡ false → W.held_back writer.old ≡ [] → W.held_back writer.new ≡ [] }
 {
     let mut decoder = Decoder {
-        refused: false,
+        progress: Progress {
+            line: 1,
+            refused: false,
+        },
         items: [NO_FIELD; LIST],
     };
     converse(rt, alloc, reader, writer, &mut decoder, form)?;
-    Ok(!decoder.refused)
+    Ok(!decoder.progress.refused)
 }

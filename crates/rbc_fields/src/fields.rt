@@ -1,6 +1,6 @@
 //! The fields of a message or packet, read one after another.
 
-ghost use Rattle.std.specs.Prelude.{◌≡◌, ◌<◌, ◌≤◌, ◌*◌, ◌^◌, ℕ, Some, None, true, false, suc, length, if◌then◌else◌};
+ghost use Rattle.std.specs.Prelude.{◌≡◌, ◌<◌, ◌≤◌, ◌*◌, ◌^◌, ℕ, Some, None, is_some, true, false, suc, length, if◌then◌else◌};
 ghost use Rattle.rbc_model.specs.declared.limits.TheConstants.{LONGEST_LINE};
 ghost use Rattle.rbc_model.specs.Bits.{byte_bits};
 ghost use Rattle.rbc_fields.specs.Readings.{left_to_read, reading, with_item, filling_found, IsCounted};
@@ -22,6 +22,10 @@ pub struct Item {
     pub name: FieldName,
     /// Its value.
     pub value: u32,
+    /// The bit at which it begins, from 0 on.
+    pub bit: u32,
+    /// Whether it stands behind the first one at fault.
+    pub is_late: bool,
 }
 
 /// What was found where a walk came to a fault.
@@ -50,7 +54,8 @@ pub enum Place {
     Behind,
 }
 
-/// The fields of a message or packet that are still to be read, up to the last or to the first at fault.
+/// The fields of a message or packet that are still to be read, up to the last, or as far as it is known which ones come
+/// behind the first at fault.
 #[derive(Drop)]
 pub(crate) struct Fields<'a> {
     bits: BitReader<'a>,
@@ -62,7 +67,7 @@ pub(crate) struct Fields<'a> {
     walk: Walk,
     /// Whether it has ended.
     is_over: bool,
-    /// What was found where it ended, if that is a fault.
+    /// The first fault so far.
     found: Option<Found>,
 }
 
@@ -84,7 +89,7 @@ impl<'a> Fields<'a> {
         }
     }
 
-    /// Reads the next field into an item. Answers false behind the last, and behind the first at fault.
+    /// Reads the next field into an item. Answers false behind the last.
     #[tactic(auto, unfolding(crate::specs::Readings::reading))]
     pub(crate) fn next(&mut self, item: &mut Item) -> bool
         requires { IsCounted self.old }
@@ -97,6 +102,25 @@ impl<'a> Fields<'a> {
         if self.is_over {
             return false;
         }
+        if self.found.is_some() {
+            self.read_late(item)
+        } else {
+            self.read(item)
+        }
+    }
+
+    /// The same where no fault was found so far.
+    #[tactic(auto, unfolding(crate::specs::Readings::reading))]
+    fn read(&mut self, item: &mut Item) -> bool
+        requires counted { IsCounted self.old }
+        requires going { self.old.is_over ≡ false }
+        requires none { is_some self.old.found ≡ false }
+        ensures next { (most : ℕ) → left_to_read (suc most) self.old
+            ≡ with_item (if result then Some item.new else None) (left_to_read most self.new) }
+        ensures over { result ≡ false → self.new.is_over ≡ true }
+        ensures shorter { result ≡ true → length self.new.bits < length self.old.bits }
+        ensures counted { IsCounted self.new }
+    {
         let Some((row, name)) = self.walk.field() else {
             let found = self.filling_found();
             self.stop(found);
@@ -117,14 +141,56 @@ impl<'a> Fields<'a> {
             row,
             name,
             value,
+            bit: self.bit,
+            is_late: false,
         };
         if let Err(fault) = self.walk.pass(row, name, value) {
-            self.stop(Some(Found {
+            self.found = Some(Found {
                 fault,
                 place: Place::Field(name),
                 bit: self.bit,
                 value,
-            }));
+            });
+            if !self.walk.skip(row, name, value) {
+                self.is_over = true;
+            }
+        }
+        self.bit += width;
+        self.left -= width;
+        true
+    }
+
+    /// The same behind a fault.
+    #[tactic(auto, unfolding(crate::specs::Readings::beyond))]
+    fn read_late(&mut self, item: &mut Item) -> bool
+        requires counted { IsCounted self.old }
+        requires going { self.old.is_over ≡ false }
+        requires some { is_some self.old.found ≡ true }
+        ensures next { (most : ℕ) → left_to_read (suc most) self.old
+            ≡ with_item (if result then Some item.new else None) (left_to_read most self.new) }
+        ensures over { result ≡ false → self.new.is_over ≡ true }
+        ensures shorter { result ≡ true → length self.new.bits < length self.old.bits }
+        ensures counted { IsCounted self.new }
+    {
+        let Some((row, name)) = self.walk.field() else {
+            self.is_over = true;
+            return false;
+        };
+        let width = width_of(name);
+        let Ok(value) = self.bits.take(width) else {
+            self.is_over = true;
+            return false;
+        };
+        *item = Item {
+            walk: self.walk,
+            row,
+            name,
+            value,
+            bit: self.bit,
+            is_late: true,
+        };
+        if !self.walk.skip(row, name, value) {
+            self.is_over = true;
         }
         self.bit += width;
         self.left -= width;
@@ -144,7 +210,7 @@ impl<'a> Fields<'a> {
         self.found = found;
     }
 
-    /// What was found where the fields ended, if that is a fault.
+    /// The first fault that was found.
     pub(crate) fn found(&self) -> Option<Found>
         ensures { result ≡ self.now.found }
     {

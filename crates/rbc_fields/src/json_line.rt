@@ -1,30 +1,31 @@
 //! What is printed of a message, or of a packet alone, as a line of JSON.
 
-ghost use Rattle.std.specs.Prelude.{◌≡◌, ◌+◌, ◌≤◌, ◌++◌, ◌∷◌, ℕ, List, [], Bool, true, false, length, decimal, codes};
+ghost use Rattle.std.specs.Prelude.{◌≡◌, ◌+◌, ◌^◌, ◌<◌, ◌≤◌, ◌++◌, ◌∷◌, ℕ, List, [], Bool, true, false, length, decimal, codes};
 ghost use Rattle.std.specs.Fmt.{signed_decimal};
 ghost use Rattle.rbc_model.specs.Sessions.{Prints};
 ghost use Rattle.rbc_fields.specs.declared.parts.TheConstants.{LONGEST_PART};
 ghost use Rattle.rbc_fields.specs.declared.sheet.TheConstants.{ROOM};
-ghost use Rattle.rbc_fields.specs.declared.spelling.Wrong.TheVariants.{Digits};
-ghost use Rattle.rbc_fields.specs.JsonParts.{piece_text, pieces_text, packet_start, member_part, other_part};
+ghost use Rattle.rbc_fields.specs.declared.spelling.Wrong.TheVariants.{Digits, Overlong};
+ghost use Rattle.rbc_fields.specs.JsonParts.{piece_text, pieces_text, field_front, field_rest, field_end, member_part, other_part, start_text};
 ghost use Rattle.rbc_fields.specs.JsonParts.{outcome_part, words_part, array_part};
-ghost use Rattle.rbc_fields.specs.JsonText.{wrong_json, json_text, found_data, grade_data, speed_data, kind_text};
+ghost use Rattle.rbc_fields.specs.JsonText.{wrong_json, json_text, found_data, grade_data, speed_data, kind_text, packet_data, packet_of};
 ghost use Rattle.rbc_fields.specs.Parts.{parts_text};
 ghost use Rattle.rbc_fields.specs.Readings.{read_as};
 ghost use Rattle.rbc_fields.specs.Said.{said_in};
 ghost use Rattle.rbc_fields.specs.Texts.{direction_text};
-ghost use Rattle.json.specs.Print.{quoted};
 ghost use Rattle.serde_json.specs.Data.{string};
 ghost use Rattle.serde_json.specs.Written.{compact_text, comma_if};
 
 use crate::fields::{Found, Item};
+use crate::meaning::gather_meaning;
 use crate::names::name_members;
 use crate::parts::{Part, print_parts};
-use crate::row::Row;
+use crate::row::{Row, packet_number};
 use crate::said::{Said, said_in};
 use crate::sheet::Sheet;
 use crate::spelling::Wrong;
 use crate::text::{fault_text, measure_text, place_text};
+use rbc_model::FieldName;
 use rbc_streams::{Sink, WriteFailed, put};
 use rbc_words::print_number;
 
@@ -37,26 +38,46 @@ pub(crate) enum Piece<'line> {
     Number(u32),
 }
 
-/// Writes what is wrong with digits.
-pub(crate) fn print_wrong_json<W: Sink>(wrong: Wrong, writer: &mut W) -> Result<(), WriteFailed>
+/// Writes what is wrong with digits in the line of this number.
+pub(crate) fn print_wrong_json<W: Sink>(
+    line: u32,
+    wrong: Wrong,
+    writer: &mut W,
+) -> Result<(), WriteFailed>
     requires { W.failed writer.old ≡ false }
     ensures { Prints (W.written writer.old) (W.written writer.new) (W.failed writer.new)
-        (wrong_json wrong) result }
+        (wrong_json line wrong) result }
 {
     match wrong {
-        Wrong::Digits(place) => print_broken(place, writer),
-        Wrong::Overlong => put(writer, b"{\"refused\":{\"fault\":\"Overlong\"}}\n"),
+        Wrong::Digits(place) => print_broken(line, place, writer),
+        Wrong::Overlong => print_overlong(line, writer),
     }
 }
 
-/// Writes at which place digits are wrong.
-fn print_broken<W: Sink>(place: u32, writer: &mut W) -> Result<(), WriteFailed>
+/// Writes that there are too many digits, or that the line is too long.
+fn print_overlong<W: Sink>(line: u32, writer: &mut W) -> Result<(), WriteFailed>
     requires { W.failed writer.old ≡ false }
     ensures { Prints (W.written writer.old) (W.written writer.new) (W.failed writer.new)
-        (wrong_json (Digits place)) result }
+        (wrong_json line Overlong) result }
 {
     let pieces = [
-        Piece::Text(b"{\"refused\":{\"fault\":\"Digits\",\"at\":"),
+        Piece::Text(b"{\"line\":"),
+        Piece::Number(line),
+        Piece::Text(b",\"refused\":{\"fault\":\"Overlong\"}}\n"),
+    ];
+    print_pieces(&pieces, writer)
+}
+
+/// Writes at which place digits are wrong.
+fn print_broken<W: Sink>(line: u32, place: u32, writer: &mut W) -> Result<(), WriteFailed>
+    requires { W.failed writer.old ≡ false }
+    ensures { Prints (W.written writer.old) (W.written writer.new) (W.failed writer.new)
+        (wrong_json line (Digits place)) result }
+{
+    let pieces = [
+        Piece::Text(b"{\"line\":"),
+        Piece::Number(line),
+        Piece::Text(b",\"refused\":{\"fault\":\"Digits\",\"at\":"),
         Piece::Number(place),
         Piece::Text(b"}}\n"),
     ];
@@ -115,24 +136,66 @@ impl Part for FieldElements {
 
     fn gather(item: &Item, later: bool, sheet: &mut Sheet) {
         gather_comma(later, sheet);
-        sheet.text(packet_start(item.row));
-        sheet.text(name_members(item.name));
-        sheet.number(u64::from(item.value));
-        sheet.byte(b'}');
+        gather_front(item, sheet);
+        gather_rest(item, sheet);
     }
 }
 
-/// A field up to the packet that it stands in, none for the header.
-#[tactic(auto, unfolding(json::specs::Print::escape_byte, crate::specs::Texts::digits))]
-fn packet_start(row: Row) -> &'static [u8]
-    ensures text { result.now ≡ packet_start row }
-    ensures short { length result.now ≤ 20 }
+/// Puts a field up to its first bit behind a text.
+fn gather_front(item: &Item, sheet: &mut Sheet)
+    requires { length sheet.old + 60 ≤ ROOM }
+    ensures text { sheet.new ≡ sheet.old ++ field_front item.now }
+    ensures length { length sheet.new ≤ length sheet.old + 60 }
+{
+    sheet.text(b"{\"packet\":");
+    gather_packet(item.row, packet_of(item), sheet);
+    sheet.text(b",\"bit\":");
+    sheet.number(u64::from(item.bit));
+}
+
+/// Puts the number of the packet that a field stands in behind a text, none for the header.
+fn gather_packet(row: Row, number: u32, sheet: &mut Sheet)
+    requires { length sheet.old + 20 ≤ ROOM }
+    ensures text { sheet.new ≡ sheet.old ++ compact_text (packet_data row number) }
+    ensures length { length sheet.new ≤ length sheet.old + 20 }
 {
     match row {
-        Row::Header => b"{\"packet\":null",
-        Row::Authority => b"{\"packet\":15",
-        Row::GradientHead | Row::GradientStep | Row::GradientEnd => b"{\"packet\":21",
-        Row::SpeedHead | Row::SpeedStep | Row::SpeedEnd => b"{\"packet\":27",
+        Row::Header => sheet.text(b"null"),
+        _ => sheet.number(u64::from(number)),
+    }
+}
+
+/// The number of the packet that a field stands in, which its first field has as it was found.
+fn packet_of(item: &Item) -> u32
+    ensures { result ≡ packet_of item.now.name item.now.row item.now.value }
+{
+    match item.name {
+        FieldName::NID_PACKET => item.value,
+        _ => packet_number(item.row),
+    }
+}
+
+/// Puts a field from its name on behind a text.
+fn gather_rest(item: &Item, sheet: &mut Sheet)
+    requires { length sheet.old + 195 ≤ ROOM }
+    ensures { sheet.new ≡ sheet.old ++ field_rest item.now }
+{
+    sheet.text(name_members(item.name));
+    sheet.number(u64::from(item.value));
+    sheet.text(b",\"meaning\":\"");
+    gather_meaning(item, sheet);
+    sheet.text(field_end(item.is_late));
+}
+
+/// What stands behind the meaning of a field: the mark of what stands behind a fault.
+fn field_end(is_late: bool) -> &'static [u8]
+    ensures text { result.now ≡ field_end is_late }
+    ensures short { length result.now ≤ 22 }
+{
+    if is_late {
+        b"\",\"behind_fault\":true}"
+    } else {
+        b"\"}"
     }
 }
 
@@ -294,7 +357,7 @@ fn print_words<W: Sink>(items: &[Item], writer: &mut W) -> Result<(), WriteFaile
     print_array::<SpeedElements, W>(b",\"speeds\":[", items, writer)
 }
 
-/// Writes what was found where the fields ended, as a member.
+/// Writes the first fault that was found, as a member.
 fn print_found<W: Sink>(found: &Found, writer: &mut W) -> Result<(), WriteFailed>
     requires { W.failed writer.old ≡ false }
     ensures { Prints (W.written writer.old) (W.written writer.new) (W.failed writer.new)
@@ -316,7 +379,7 @@ fn print_found<W: Sink>(found: &Found, writer: &mut W) -> Result<(), WriteFailed
     print_pieces(&pieces, writer)
 }
 
-/// Writes the members of the words, or of what was found where the fields end.
+/// Writes the members of the words, or of the first fault that was found.
 fn print_outcome<W: Sink>(
     items: &[Item],
     found: Option<Found>,
@@ -332,20 +395,35 @@ fn print_outcome<W: Sink>(
     }
 }
 
-/// The kind, the first member.
+/// The kind, as a member behind others.
 #[tactic(auto, unfolding(json::specs::Print::escape_byte))]
-fn kind_start(is_packet: bool) -> &'static [u8]
-    ensures { result.now ≡ 123 ∷ (quoted (codes "kind") ++ 58 ∷ quoted (kind_text is_packet)) }
+fn kind_member(is_packet: bool) -> &'static [u8]
+    ensures { result.now ≡ member_part (codes "kind") (string (kind_text is_packet)) }
 {
     if is_packet {
-        b"{\"kind\":\"packet\""
+        b",\"kind\":\"packet\""
     } else {
-        b"{\"kind\":\"message\""
+        b",\"kind\":\"message\""
     }
 }
 
-/// Writes what was read as a line of JSON: these fields, and what was found where they end.
+/// Writes the number of the line and the kind, the first members.
+fn print_start<W: Sink>(line: u32, is_packet: bool, writer: &mut W) -> Result<(), WriteFailed>
+    requires { W.failed writer.old ≡ false }
+    ensures { Prints (W.written writer.old) (W.written writer.new) (W.failed writer.new)
+        (start_text line is_packet) result }
+{
+    let pieces = [
+        Piece::Text(b"{\"line\":"),
+        Piece::Number(line),
+        Piece::Text(kind_member(is_packet)),
+    ];
+    print_pieces(&pieces, writer)
+}
+
+/// Writes what was read as a line of JSON: these fields, and the first fault that was found.
 pub(crate) fn print_json<W: Sink>(
+    line: u32,
     is_packet: bool,
     items: &[Item],
     found: Option<Found>,
@@ -353,9 +431,9 @@ pub(crate) fn print_json<W: Sink>(
 ) -> Result<(), WriteFailed>
     requires { W.failed writer.old ≡ false }
     ensures { Prints (W.written writer.old) (W.written writer.new) (W.failed writer.new)
-        (json_text is_packet (read_as items.now found)) result }
+        (json_text line is_packet (read_as items.now found)) result }
 {
-    put(writer, kind_start(is_packet))?;
+    print_start(line, is_packet, writer)?;
     print_outcome(items, found, writer)?;
     print_array::<FieldElements, W>(b",\"fields\":[", items, writer)?;
     put(writer, b"}\n")

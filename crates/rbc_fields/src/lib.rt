@@ -9,6 +9,7 @@ mod fields;
 mod json_line;
 mod line;
 mod listing;
+mod meaning;
 mod names;
 mod parts;
 mod row;
@@ -18,7 +19,7 @@ mod spelling;
 mod text;
 mod walk;
 
-pub use decoding::{Form, Json, Plain, decode};
+pub use decoding::{Form, Json, Plain, Progress, decode};
 pub use fields::{Found, Item, Place};
 pub use row::Row;
 pub use said::Said;

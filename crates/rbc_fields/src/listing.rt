@@ -32,10 +32,12 @@ pub(crate) const NO_FIELD: Item = Item {
     row: Row::Header,
     name: FieldName::NID_MESSAGE,
     value: 0,
+    bit: 0,
+    is_late: false,
 };
 
-/// Puts the fields of a packet alone or of a message into a list, up to the last or to the first at fault. Answers how
-/// many these are, and what was found where they end, if that is a fault.
+/// Puts the fields of a packet alone or of a message into a list. Answers how many these are, and the first fault that
+/// was found.
 pub(crate) fn list_fields(
     is_packet: bool,
     bytes: &[u8],

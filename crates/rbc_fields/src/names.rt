@@ -37,37 +37,38 @@ pub(crate) fn name_text(name: FieldName) -> &'static [u8]
     }
 }
 
-/// The line of a field up to its value, in front of spaces, and how many bytes it has: its name, and its width in bits.
+/// The line of a field from behind its first bit up to its value, in front of spaces, and how many bytes it has: its name,
+/// and its width in bits.
 #[tactic(auto, unfolding(crate::specs::Texts::digits))]
 pub(crate) fn field_start(name: FieldName) -> (&'static [u8; 24], usize)
     ensures text { take result.1 result.0.now ≡ field_start name }
-    ensures short { result.1 ≤ 20 }
+    ensures short { result.1 ≤ 21 }
 {
     match name {
-        FieldName::NID_MESSAGE => (b"  NID_MESSAGE 8         ", 16),
-        FieldName::L_MESSAGE => (b"  L_MESSAGE 10          ", 15),
-        FieldName::T_TRAIN => (b"  T_TRAIN 32            ", 13),
-        FieldName::M_ACK => (b"  M_ACK 1               ", 10),
-        FieldName::NID_C => (b"  NID_C 10              ", 11),
-        FieldName::NID_BG => (b"  NID_BG 14             ", 12),
-        FieldName::NID_PACKET => (b"  NID_PACKET 8          ", 15),
-        FieldName::Q_DIR => (b"  Q_DIR 2               ", 10),
-        FieldName::L_PACKET => (b"  L_PACKET 13           ", 14),
-        FieldName::Q_SCALE => (b"  Q_SCALE 2             ", 12),
-        FieldName::V_LOA => (b"  V_LOA 7               ", 10),
-        FieldName::T_LOA => (b"  T_LOA 10              ", 11),
-        FieldName::N_ITER => (b"  N_ITER 5              ", 11),
-        FieldName::L_ENDSECTION => (b"  L_ENDSECTION 15       ", 18),
-        FieldName::Q_SECTIONTIMER => (b"  Q_SECTIONTIMER 1      ", 19),
-        FieldName::Q_ENDTIMER => (b"  Q_ENDTIMER 1          ", 15),
-        FieldName::Q_DANGERPOINT => (b"  Q_DANGERPOINT 1       ", 18),
-        FieldName::Q_OVERLAP => (b"  Q_OVERLAP 1           ", 14),
-        FieldName::D_GRADIENT => (b"  D_GRADIENT 15         ", 16),
-        FieldName::Q_GDIR => (b"  Q_GDIR 1              ", 11),
-        FieldName::G_A => (b"  G_A 8                 ", 8),
-        FieldName::D_STATIC => (b"  D_STATIC 15           ", 14),
-        FieldName::V_STATIC => (b"  V_STATIC 7            ", 13),
-        FieldName::Q_FRONT => (b"  Q_FRONT 1             ", 12),
+        FieldName::NID_MESSAGE => (b"  NID_MESSAGE  8        ", 18),
+        FieldName::L_MESSAGE => (b"  L_MESSAGE  10         ", 17),
+        FieldName::T_TRAIN => (b"  T_TRAIN  32           ", 15),
+        FieldName::M_ACK => (b"  M_ACK  1              ", 12),
+        FieldName::NID_C => (b"  NID_C  10             ", 13),
+        FieldName::NID_BG => (b"  NID_BG  14            ", 14),
+        FieldName::NID_PACKET => (b"  NID_PACKET  8         ", 17),
+        FieldName::Q_DIR => (b"  Q_DIR  2              ", 12),
+        FieldName::L_PACKET => (b"  L_PACKET  13          ", 16),
+        FieldName::Q_SCALE => (b"  Q_SCALE  2            ", 14),
+        FieldName::V_LOA => (b"  V_LOA  7              ", 12),
+        FieldName::T_LOA => (b"  T_LOA  10             ", 13),
+        FieldName::N_ITER => (b"  N_ITER  5             ", 13),
+        FieldName::L_ENDSECTION => (b"  L_ENDSECTION  15      ", 20),
+        FieldName::Q_SECTIONTIMER => (b"  Q_SECTIONTIMER  1     ", 21),
+        FieldName::Q_ENDTIMER => (b"  Q_ENDTIMER  1         ", 17),
+        FieldName::Q_DANGERPOINT => (b"  Q_DANGERPOINT  1      ", 20),
+        FieldName::Q_OVERLAP => (b"  Q_OVERLAP  1          ", 16),
+        FieldName::D_GRADIENT => (b"  D_GRADIENT  15        ", 18),
+        FieldName::Q_GDIR => (b"  Q_GDIR  1             ", 13),
+        FieldName::G_A => (b"  G_A  8                ", 10),
+        FieldName::D_STATIC => (b"  D_STATIC  15          ", 16),
+        FieldName::V_STATIC => (b"  V_STATIC  7           ", 15),
+        FieldName::Q_FRONT => (b"  Q_FRONT  1            ", 14),
     }
 }
 

@@ -12,7 +12,7 @@ use crate::sheet::{ROOM, Sheet};
 use rbc_streams::{Sink, WriteFailed, put};
 
 /// How many bytes may be printed of a field.
-pub(crate) const LONGEST_PART: usize = 128;
+pub(crate) const LONGEST_PART: usize = 256;
 
 /// What is printed of a field.
 pub(crate) trait Part {

@@ -80,7 +80,7 @@ fn grade_said(walk: &Walk, row: Row, size: u32) -> Option<Said>
 }
 
 /// Per mille with their sign.
-fn signed_value(uphill: u32, size: u32) -> i64
+pub(crate) fn signed_value(uphill: u32, size: u32) -> i64
     ensures { result ≡ signed_value uphill size }
 {
     if uphill == 1 {
@@ -104,7 +104,7 @@ fn speed_said(walk: &Walk, row: Row, fives: u32) -> Option<Said>
 }
 
 /// A number of units of the scale that is told, in metres.
-fn metres(walk: &Walk, units: u32) -> u64
+pub(crate) fn metres(walk: &Walk, units: u32) -> u64
     ensures { result ≡ unit_told walk.now * units }
 {
     u64::from(walk.unit()) * u64::from(units)

@@ -1,22 +1,25 @@
 //! What is printed of the fields of a message.
 
-ghost use Rattle.std.specs.Prelude.{◌≡◌, ◌+◌, ◌≤◌, ◌++◌, ◌∷◌, [], false, decimal, codes, length};
+ghost use Rattle.std.specs.Prelude.{◌≡◌, ◌+◌, ◌≤◌, ◌++◌, ◌∷◌, ◌&&◌, ◌==◌, [], false, decimal, codes, length};
 ghost use Rattle.rbc_model.specs.Sessions.{Prints};
 ghost use Rattle.rbc_fields.specs.declared.parts.TheConstants.{LONGEST_PART};
 ghost use Rattle.rbc_fields.specs.declared.sheet.TheConstants.{ROOM};
 ghost use Rattle.rbc_fields.specs.declared.said.Said.TheVariants.{Nominal, Grade, Speed};
 ghost use Rattle.rbc_fields.specs.Readings.{read_as};
-ghost use Rattle.rbc_fields.specs.Texts.{name_text, field_line, row_text, head_text, said_text};
+ghost use Rattle.rbc_model.specs.declared.messages.FieldName.TheVariants.{N_ITER};
+ghost use Rattle.rbc_fields.specs.Texts.{field_line, head_text, row_text, said_text, begins, mark_text, packet_start, lead_text, is_inner};
 ghost use Rattle.rbc_fields.specs.Texts.{fault_text, place_text, measure_text, found_line, said_line};
-ghost use Rattle.rbc_fields.specs.Texts.{outcome_text, reading_text, wrong_line};
+ghost use Rattle.rbc_fields.specs.Texts.{line_text, outcome_text, reading_text, told_text, wrong_line, wrong_text};
 
 use crate::fields::{Found, Item, Place};
+use crate::meaning::gather_meaning;
 use crate::names::{field_start, name_text};
 use crate::parts::{Part, print_parts};
 use crate::row::Row;
 use crate::said::{Said, said_in};
 use crate::sheet::Sheet;
 use crate::spelling::Wrong;
+use rbc_model::limits::{AUTHORITY_PACKET, GRADIENT_PACKET, SPEED_PACKET};
 use rbc_model::{Fault, FieldName};
 use rbc_streams::{Sink, WriteFailed, put};
 use rbc_words::{Word, print_line};
@@ -38,7 +41,7 @@ impl Part for FieldLines {
 
     fn gather(item: &Item, _later: bool, sheet: &mut Sheet) {
         gather_head(item, sheet);
-        gather_field(item.name, item.value, sheet);
+        gather_field(item, sheet);
     }
 }
 
@@ -65,7 +68,7 @@ impl Part for Words {
     }
 }
 
-/// Writes what stands behind the fields: their words, or what was found where they end.
+/// Writes what stands behind the fields: their words, or the first fault that was found.
 fn print_outcome<W: Sink>(
     items: &[Item],
     found: Option<Found>,
@@ -84,8 +87,8 @@ fn print_outcome<W: Sink>(
     }
 }
 
-/// Writes what was read: these fields, and what was found where they end.
-pub(crate) fn print_reading<W: Sink>(
+/// Writes what was read: these fields, and the first fault that was found.
+fn print_reading<W: Sink>(
     items: &[Item],
     found: Option<Found>,
     writer: &mut W,
@@ -98,48 +101,171 @@ pub(crate) fn print_reading<W: Sink>(
     print_outcome(items, found, writer)
 }
 
+/// Writes which line of the input is answered, unless it is the first one.
+fn print_place<W: Sink>(line: u32, writer: &mut W) -> Result<(), WriteFailed>
+    requires { W.failed writer.old ≡ false }
+    ensures { Prints (W.written writer.old) (W.written writer.new) (W.failed writer.new) (line_text line) result }
+{
+    if line == 1 {
+        return Ok(());
+    }
+    print_line(b"line", &[Word::Number(line)], writer)
+}
+
+/// Writes what was read in the line of this number: these fields, and the first fault that was found.
+pub(crate) fn print_told<W: Sink>(
+    line: u32,
+    items: &[Item],
+    found: Option<Found>,
+    writer: &mut W,
+) -> Result<(), WriteFailed>
+    requires { W.failed writer.old ≡ false }
+    ensures { Prints (W.written writer.old) (W.written writer.new) (W.failed writer.new)
+        (told_text line (read_as items.now found)) result }
+{
+    print_place(line, writer)?;
+    print_reading(items, found, writer)
+}
+
+/// Writes what is wrong with digits in the line of this number.
+pub(crate) fn print_wrong<W: Sink>(
+    line: u32,
+    wrong: Wrong,
+    writer: &mut W,
+) -> Result<(), WriteFailed>
+    requires { W.failed writer.old ≡ false }
+    ensures { Prints (W.written writer.old) (W.written writer.new) (W.failed writer.new) (wrong_text line wrong) result }
+{
+    print_place(line, writer)?;
+    print_wrong_line(wrong, writer)
+}
+
 /// Puts the line of the message or packet that begins with the field behind a text, if one does.
 fn gather_head(item: &Item, sheet: &mut Sheet)
     requires { length sheet.old + LONGEST_PART ≤ ROOM }
     ensures text { sheet.new ≡ sheet.old ++ head_text item.now }
-    ensures length { length sheet.new ≤ length sheet.old + 10 }
+    ensures length { length sheet.new ≤ length sheet.old + 50 }
 {
-    if item.walk.index == 0 {
-        sheet.text(row_text(item.row));
+    if is_first(item) {
+        gather_begun(item, sheet);
     }
 }
 
-/// The line of the message or packet that begins with this row, if one does.
-#[tactic(auto, unfolding(crate::specs::Texts::digits))]
-fn row_text(row: Row) -> &'static [u8]
-    ensures text { result.now ≡ row_text row }
-    ensures short { length result.now ≤ 10 }
+/// Whether a message or packet begins with the field.
+fn is_first(item: &Item) -> bool
+    ensures { result ≡ (begins item.now.row && (item.now.walk.index == 0)) }
+{
+    begins(item.row) && item.walk.index == 0
+}
+
+/// Puts the line of what begins with the field behind a text.
+fn gather_begun(item: &Item, sheet: &mut Sheet)
+    requires { length sheet.old + 50 ≤ ROOM }
+    ensures text { sheet.new ≡ sheet.old ++ (mark_text item.now.is_late ++ row_text item.now.row item.now.value) }
+    ensures length { length sheet.new ≤ length sheet.old + 50 }
+{
+    sheet.text(mark_text(item.is_late));
+    gather_row(item.row, item.value, sheet);
+}
+
+/// Whether a message or packet begins with the row.
+fn begins(row: Row) -> bool
+    ensures { result ≡ begins row }
 {
     match row {
-        Row::Header => b"message\n",
-        Row::Authority => b"packet 15\n",
-        Row::GradientHead => b"packet 21\n",
-        Row::SpeedHead => b"packet 27\n",
-        _ => b"",
+        Row::Header | Row::Authority | Row::GradientHead | Row::SpeedHead => true,
+        _ => false,
     }
 }
 
-/// Puts the line of a field behind a text: its name and its width in bits, in at most 24 bytes, and its value.
-fn gather_field(name: FieldName, value: u32, sheet: &mut Sheet)
-    requires { length sheet.old + 45 ≤ ROOM }
-    ensures { sheet.new ≡ sheet.old ++ field_line name value }
+/// The mark of what stands behind a fault.
+fn mark_text(is_late: bool) -> &'static [u8]
+    ensures text { result.now ≡ mark_text is_late }
+    ensures short { length result.now ≤ 2 }
 {
-    let (start, count) = field_start(name);
+    if is_late { b"? " } else { b"" }
+}
+
+/// Puts the line of the message or packet that begins with this row behind a text, by the number that was found.
+fn gather_row(row: Row, number: u32, sheet: &mut Sheet)
+    requires { length sheet.old + 45 ≤ ROOM }
+    ensures text { sheet.new ≡ sheet.old ++ row_text row number }
+    ensures length { length sheet.new ≤ length sheet.old + 45 }
+{
+    match row {
+        Row::Header => sheet.text(b"message\n"),
+        _ => gather_last(packet_start(number), u64::from(number), sheet),
+    }
+}
+
+/// What stands before the number of a packet.
+fn packet_start(number: u32) -> &'static [u8]
+    ensures text { result.now ≡ packet_start number }
+    ensures short { length result.now ≤ 20 }
+{
+    if number == AUTHORITY_PACKET || number == GRADIENT_PACKET || number == SPEED_PACKET {
+        b"packet "
+    } else {
+        b"packet ? "
+    }
+}
+
+/// Puts the line of a field behind a text: its name and its width in bits, in at most 24 bytes, among others.
+fn gather_field(item: &Item, sheet: &mut Sheet)
+    requires { length sheet.old + 170 ≤ ROOM }
+    ensures { sheet.new ≡ sheet.old ++ field_line item.now }
+{
+    let (start, count) = field_start(item.name);
+    sheet.text(lead_text(item));
+    sheet.number(u64::from(item.bit));
     sheet.front(start, count);
-    sheet.number(u64::from(value));
+    sheet.number(u64::from(item.value));
+    sheet.text(b"  ");
+    gather_meaning(item, sheet);
     sheet.byte(b'\n');
+}
+
+/// What the line of a field begins with.
+fn lead_text(item: &Item) -> &'static [u8]
+    ensures text { result.now ≡ lead_text item.now.is_late (is_inner item.now.name item.now.row item.now.walk.index) }
+    ensures short { length result.now ≤ 4 }
+{
+    match (item.is_late, is_inner(item.name, item.row, item.walk.index)) {
+        (true, true) => b"?   ",
+        (true, false) => b"? ",
+        (false, true) => b"    ",
+        (false, false) => b"  ",
+    }
+}
+
+/// Whether a field says what there is at the place of the distance before it.
+fn is_inner(name: FieldName, row: Row, index: usize) -> bool
+    ensures { result ≡ is_inner name row index }
+{
+    match name {
+        FieldName::Q_GDIR | FieldName::G_A | FieldName::V_STATIC | FieldName::Q_FRONT => true,
+        FieldName::N_ITER => is_inner_count(row, index),
+        _ => false,
+    }
+}
+
+/// Whether a number of iterations does.
+fn is_inner_count(row: Row, index: usize) -> bool
+    ensures { result ≡ is_inner N_ITER row index }
+{
+    match row {
+        Row::SpeedHead => index == 7,
+        Row::SpeedStep | Row::SpeedEnd => true,
+        _ => false,
+    }
 }
 
 /// Puts a name and the number at its end behind a text, as the end of a line.
 fn gather_last(name: &[u8], number: u64, sheet: &mut Sheet)
     requires short { length name.now ≤ 20 }
     requires room { length sheet.old + 41 ≤ ROOM }
-    ensures { sheet.new ≡ sheet.old ++ (name.now ++ (decimal number ++ 10 ∷ [])) }
+    ensures text { sheet.new ≡ sheet.old ++ (name.now ++ (decimal number ++ 10 ∷ [])) }
+    ensures length { length sheet.new ≤ length sheet.old + 41 }
 {
     sheet.text(name);
     sheet.number(number);
@@ -220,7 +346,7 @@ fn print_found<W: Sink>(found: &Found, writer: &mut W) -> Result<(), WriteFailed
 }
 
 /// Writes what is wrong with digits.
-pub(crate) fn print_wrong<W: Sink>(wrong: Wrong, writer: &mut W) -> Result<(), WriteFailed>
+fn print_wrong_line<W: Sink>(wrong: Wrong, writer: &mut W) -> Result<(), WriteFailed>
     requires { W.failed writer.old ≡ false }
     ensures { Prints (W.written writer.old) (W.written writer.new) (W.failed writer.new) (wrong_line wrong) result }
 {

@@ -7,14 +7,14 @@ ghost use Rattle.rbc_model.specs.Scales.{is_end_at, unit_of_scale};
 ghost use Rattle.rbc_fields.specs.declared.row.Row.TheVariants.{Header};
 ghost use Rattle.rbc_fields.specs.Walks.{at_row, first_row, row_numbered, field_of, behind, is_allowed, is_as_told, is_count, is_distance};
 ghost use Rattle.rbc_fields.specs.Walks.{is_slope, is_speed, scale_told, counts_steps, further, told, later_told, length_fault, packet_bits, length_unless};
-ghost use Rattle.rbc_fields.specs.Walks.{moved, entered, row_behind};
+ghost use Rattle.rbc_fields.specs.Walks.{moved, entered, row_behind, says_next, is_known, past};
 
 use crate::row::{Row, last_index, name_at, packet_number};
 use rbc_model::limits::{
-    AUTHORITY_BITS, FARTHEST_END, FARTHEST_END_IN_TENS, FIRST_END_IN_TENS, GRADIENT_BITS,
-    GRADIENT_END_MARK, GRADIENT_PACKET, GRADIENT_STEP_BITS, LAST_GROUP, MESSAGE_NUMBER,
-    MOST_SPEED_STEPS, NO_TIME_OUT, SPEED_BITS, SPEED_END_MARK, SPEED_STEP_BITS, STEEPEST,
-    TEN_METRES,
+    AUTHORITY_BITS, AUTHORITY_PACKET, FARTHEST_END, FARTHEST_END_IN_TENS, FIRST_END_IN_TENS,
+    GRADIENT_BITS, GRADIENT_END_MARK, GRADIENT_PACKET, GRADIENT_STEP_BITS, LAST_GROUP,
+    MESSAGE_NUMBER, MOST_SPEED_STEPS, NO_TIME_OUT, SPEED_BITS, SPEED_END_MARK, SPEED_STEP_BITS,
+    STEEPEST, TEN_METRES,
 };
 use rbc_model::{Fault, FieldName};
 
@@ -53,7 +53,8 @@ impl Walk {
         Walk::at(Row::Header, false, bytes)
     }
 
-    /// At the first field of a packet alone in these bytes: packet 21 if it has its number, and else packet 27.
+    /// At the first field of a packet alone in these bytes: packet 15 or 21 if it has its number, and else it is read as
+    /// packet 27.
     pub fn over_packet(bytes: &[u8]) -> Walk
         ensures { result ≡ at_row (first_row bytes.now) true (length bytes.now) }
     {
@@ -108,6 +109,22 @@ impl Walk {
         self.tell(row, name, value);
         self.go_on(row);
         Ok(())
+    }
+
+    /// Goes on behind this value of the next field, whatever is at fault. Answers false where it is not known which
+    /// fields come there: the walk stands where it stood.
+    #[inline(never)]
+    pub(crate) fn skip(&mut self, row: Row, name: FieldName, value: u32) -> bool
+        ensures known { result ≡ is_known self.old row name value }
+        ensures passed { result ≡ true → self.new ≡ past self.old row name value }
+        ensures stays { result ≡ false → self.new ≡ self.old }
+    {
+        if says_next(name) && !self.is_allowed(row, name, value) {
+            return false;
+        }
+        self.tell(row, name, value);
+        self.go_on(row);
+        true
     }
 
     /// Whether the next field may have the value.
@@ -284,6 +301,7 @@ impl Walk {
     {
         match row {
             Row::Header => Some(Row::Authority),
+            Row::Authority if self.is_alone => None,
             Row::Authority => Some(Row::GradientHead),
             Row::GradientHead | Row::GradientStep if self.later > 0 => Some(Row::GradientStep),
             Row::GradientHead | Row::GradientStep => Some(Row::GradientEnd),
@@ -301,6 +319,7 @@ fn row_numbered(number: Option<u8>) -> Row
     ensures { result ≡ row_numbered number }
 {
     match number {
+        Some(number) if u32::from(number) == AUTHORITY_PACKET => Row::Authority,
         Some(number) if u32::from(number) == GRADIENT_PACKET => Row::GradientHead,
         _ => Row::SpeedHead,
     }
@@ -369,5 +388,21 @@ fn fault_of(name: FieldName) -> Fault
     match name {
         FieldName::NID_MESSAGE | FieldName::NID_PACKET => Fault::Number,
         _ => Fault::Field(name),
+    }
+}
+
+/// Whether the value of such a field says which fields come next.
+fn says_next(name: FieldName) -> bool
+    ensures { result ≡ says_next name }
+{
+    match name {
+        FieldName::NID_MESSAGE
+        | FieldName::NID_PACKET
+        | FieldName::N_ITER
+        | FieldName::Q_SECTIONTIMER
+        | FieldName::Q_ENDTIMER
+        | FieldName::Q_DANGERPOINT
+        | FieldName::Q_OVERLAP => true,
+        _ => false,
     }
 }

@@ -7,9 +7,17 @@ use Rattle.rbc_fields.proofs.decoding.DecoderAnswers.answer.Goals as goal
 pub returns-clause-reply : goal.returns-clause-reply
 returns-clause-reply g c =
     let printing = g.F.Form.printing in
+    let before = c.args.self.now.progress in
     let short : nat_lt LONGEST_CHECK_LINE (length c.args.line.now) ≡ false = not_long (length c.args.line.now) LONGEST_CHECK_LINE (omega (arith, c.if-line-gt-LONGEST_CHECK_LINE.false)) in
-    let told = c.meant_in.ensures in (
-      told_reply printing (told_view c.meant_in.result),
-      (rw short (ap (λ (t : Told). told_reply printing t) told), c.print_told.ensures.refused ∙ rw short (ap (λ (t : Told). c.args.self.now.refused || is_told_refused t) told)),
+    let told = c.meant_in.ensures in
+    let counted = c.count-number.ensures in (
+      told_reply printing c.count-number.result (told_view c.meant_in.result),
+      (
+        rw short (ap (λ n. told_reply printing n (told_view c.meant_in.result)) counted.number ∙ ap (λ (t : Told). told_reply printing before.line t) told),
+        c.print_told.ensures.line ∙ counted.line,
+        c.print_told.ensures.refused
+            ∙ ap (λ b. b || is_told_refused (told_view c.meant_in.result)) counted.refused
+            ∙ rw short (ap (λ (t : Told). before.refused || is_told_refused t) told),
+      ),
       c.print_told.ensures.reply,
     )

@@ -5,4 +5,4 @@ use Rattle.rbc_fields.proofs.text.FieldLinesPart.gather.Goals as goal
 pub returns : goal.returns
 returns c =
     let item = c.args.item.now in
-    behind c.args.sheet.now (head_text item) (field_line item.name item.value) c.gather_head.ensures.text c.gather_field.ensures
+    behind c.args.sheet.now (head_text item) (field_line item) c.gather_head.ensures.text c.gather_field.ensures
