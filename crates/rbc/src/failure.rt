@@ -11,13 +11,14 @@ use crate::output::is_reader_gone;
 use crate::reason::Reason;
 use clap::error::ErrorKind;
 use rbc_duty::Unstayed;
-use rbc_journal_file::{OpenFault, Place, ReadFault, Recorded, SystemFile};
+use rbc_journal_file::{Calls, OpenFault, Place, ReadFault, Recorded};
 use rbc_model::Memory;
 use rbc_show::kept::KeptFault;
 use rbc_show::kept::server::{ServeFault, Unserved};
 use rbc_show::{SessionFault, WriteFailed};
 use rbc_trackfile::LoadFault;
-use std::alloc::AllocError;
+use std::alloc::{AllocError, Global};
+use std::fmt::Display;
 use std::io;
 
 /// The exit status after a certificate that is refused.
@@ -51,7 +52,9 @@ pub enum Failure {
     /// A journal is not opened, not gone on with, not told of, or its lines are not taken over; and where its files stand,
     /// if one of them may have failed.
     Journal(JournalFault, Option<Place>),
-    /// A centre that serves connections ended early, or could not open its port.
+    /// The port of a centre that serves connections can't be opened.
+    NoPort(Reason),
+    /// A centre that serves connections ended early.
     Serve(ServeFault),
     /// A certificate was refused, as the output tells.
     NotCertified,
@@ -81,12 +84,17 @@ impl Failure {
             | Failure::Serve(ServeFault::Memory)
             | Failure::Memory => NO_MEMORY,
             Failure::Journal(fault, _) => fault.status(),
-            Failure::Session(_) | Failure::History(_, _) => SESSION_FAULT,
+            Failure::Session(_) | Failure::History(_, _) | Failure::NoPort(_) => SESSION_FAULT,
             Failure::Load(_, _) => NO_TRACK,
             Failure::Serve(ServeFault::Close(_)) => UNMATCHED,
             Failure::Serve(ServeFault::Port | ServeFault::Write | ServeFault::Journal) =>
                 SESSION_FAULT,
         }
+    }
+
+    /// That this port of the machine can't be opened, and what the system says.
+    pub(crate) fn no_port<D: Display>(alloc: Global, port: u16, said: &D) -> Failure {
+        Failure::NoPort(Reason::of_port(alloc, port, said))
     }
 
     /// That a file is not read as a journal of the track with this digest, if one is given.
@@ -130,6 +138,7 @@ impl Failure {
             Failure::Session(fault) => eprintln!(rt; "rbc: {fault}"),
             Failure::History(fault, reason) => eprint!(rt; "rbc: {fault}\n{reason}"),
             Failure::Journal(fault, place) => tell_journal_fault(rt, fault, place.as_ref()),
+            Failure::NoPort(reason) => eprint!(rt; "rbc: no port\n{reason}"),
             Failure::Serve(fault) => eprintln!(rt; "rbc: {fault}"),
             Failure::NotCertified | Failure::NotRead => Ok(()),
             Failure::Memory => eprintln!(rt; "rbc: out of memory"),
@@ -152,7 +161,7 @@ fn tell_journal_fault(
 }
 
 /// That the file of a journal failed.
-pub(crate) fn file_failed(file: &Recorded<SystemFile>) -> Failure {
+pub(crate) fn file_failed<C: Calls>(file: &Recorded<C>) -> Failure {
     JournalFault::Failed(file.failed().copied()).into()
 }
 

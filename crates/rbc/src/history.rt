@@ -109,7 +109,7 @@ fn is_free(rt: &impl Files, path: &str, error: &io::Error) -> bool {
 }
 
 /// Whether the file of the path is the one that was found.
-fn is_at(rt: &impl Files, path: &str, found: &Metadata) -> bool {
+pub(crate) fn is_at(rt: &impl Files, path: &str, found: &Metadata) -> bool {
     match fs::metadata(rt, path) {
         Ok(other) => other.dev() == found.dev() && other.ino() == found.ino(),
         Err(_) => false,

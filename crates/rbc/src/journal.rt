@@ -10,19 +10,23 @@ ghost use Rattle.rbc_show.specs.Kept.{IsReady};
 use crate::failure::{Failure, at_place, file_failed};
 use crate::history::history_of;
 use crate::output::{ended, standard_output};
-use crate::serve::open_port;
+use crate::serve::{Opened, open_port};
 use crate::serve_kept::serve_kept;
 use crate::stay::{Entrance, open_entrance};
 use crate::stay_kept::stay_kept;
+use crate::terminal::{heard_output, terminal_over};
 use crate::track::TrackFile;
+use crate::watching::watch_on;
 use rbc_command_line::{Centre, Service, Staying};
-use rbc_journal_file::{Found, Place, Readable, Recorded, SystemFile, new_file, read};
+use rbc_hints::Prompted;
+use rbc_journal_file::{Found, Place, Readable, Recorded, Timed, new_file, read};
 use rbc_model::Memory;
+use rbc_port::tally::Tally;
 use rbc_show::Stream;
 use rbc_show::kept::server::Record;
 use rbc_show::kept::{self, Kept, KeptFault, RunFault, replay};
 use std::fs::{File, Files};
-use std::io::{BufRead, Eprint};
+use std::io::{BufRead, Eprint, IsTerminal};
 use std::net::{Net, TcpListener, TcpStream};
 use std::sync::{Arc, Wait};
 use std::thread::Threads;
@@ -34,8 +38,15 @@ use std::time::Clock;
 /// # Errors
 ///
 /// `Journal`, where the journal is not opened, or fails; `Memory`; `Session`; `History`.
-pub(crate) fn run_kept(
-    rt: &(impl Files<File = File> + Input + Print + AllocGlobal + Threads + Eprint + Sync),
+pub(crate) fn run_kept<I: BufRead + Drop + IsTerminal>(
+    rt: &(impl Files<File = File>
+        + Input<Reader = I>
+        + Print
+        + AllocGlobal
+        + Threads
+        + Clock
+        + Eprint
+        + Sync),
     journal: &str,
     centre: &Centre<'_>,
     track: TrackFile,
@@ -48,8 +59,15 @@ pub(crate) fn run_kept(
 }
 
 /// The same, where the journal's files stand there.
-fn run_at(
-    rt: &(impl Files<File = File> + Input + Print + AllocGlobal + Threads + Eprint + Sync),
+fn run_at<I: BufRead + Drop + IsTerminal>(
+    rt: &(impl Files<File = File>
+        + Input<Reader = I>
+        + Print
+        + AllocGlobal
+        + Threads
+        + Clock
+        + Eprint
+        + Sync),
     place: &Place,
     centre: &Centre<'_>,
     track: TrackFile,
@@ -57,11 +75,18 @@ fn run_at(
     requires { IsLine track.digest }
 {
     let alloc = rt.alloc();
-    let mut kept = opened(rt, place, track)?;
+    let mut kept = uncounted(rt, place, track)?;
+    let terminal = match kept.history() {
+        Some(history) => terminal_over(rt, history)?,
+        None => None,
+    };
     let history = history_of(rt, centre)?;
-    let mut output = standard_output(rt)?;
-    let reader = &mut Stream::reader(rt.reader());
+    let mut output = heard_output(rt, terminal.as_ref())?;
+    let reader = &mut Stream::reader(Prompted::new(rt.reader(), terminal.as_ref()));
     let answered = kept::run(rt, alloc, reader, &mut output, &mut kept);
+    if let Some(terminal) = &terminal {
+        terminal.end();
+    }
     let written = match (history, kept.history()) {
         (Some(file), Some(history)) => file.write(rt, history),
         (Some(file), None) => {
@@ -93,7 +118,10 @@ pub(crate) fn serve_with(
         + Clock
         + Eprint
         + Net<Listener = TcpListener, Stream = TcpStream>
-        + Sync),
+        + Copy
+        + Send
+        + Sync
+        + 'static),
     journal: &str,
     track: TrackFile,
     service: &Service,
@@ -115,7 +143,10 @@ fn serve_at(
         + Clock
         + Eprint
         + Net<Listener = TcpListener, Stream = TcpStream>
-        + Sync),
+        + Copy
+        + Send
+        + Sync
+        + 'static),
     place: &Place,
     track: TrackFile,
     service: &Service,
@@ -123,10 +154,15 @@ fn serve_at(
     requires { IsLine track.digest }
 {
     let alloc = rt.alloc();
-    let kept = opened(rt, place, track)?;
+    let watch = watch_on(rt, service.terms)?;
+    let kept = counted(rt, place, track, watch.tally())?;
     let mut output = standard_output(rt)?;
-    let outcome = match open_port(rt, service, &mut output) {
-        Ok(port) => serve_kept(rt, alloc, port, kept, service, &mut output),
+    let outcome = match open_port(rt, service, &watch, &mut output) {
+        Ok(Opened { port, minutes }) => {
+            let outcome = serve_kept(rt, alloc, port, kept, service, &mut output);
+            minutes.end(rt);
+            outcome
+        }
         Err(failure) => Err(failure),
     };
     ended(output, outcome)
@@ -184,26 +220,38 @@ fn stay_at<I: BufRead + Drop + Send + 'static>(
     requires { IsLine track.digest }
 {
     let alloc = rt.alloc();
-    let kept = opened(rt, place, track)?;
+    let watch = watch_on(rt, staying.terms)?;
+    let kept = counted(rt, place, track, watch.tally())?;
     let mut output = standard_output(rt)?;
-    let outcome = match open_entrance(rt, staying, &mut output) {
-        Ok(Entrance { end, ports }) => stay_kept(rt, alloc, &*end, ports, kept, &mut output),
+    let outcome = match open_entrance(rt, staying, &watch, &mut output) {
+        Ok(
+            Entrance {
+                end,
+                ports,
+                minutes,
+            },
+        ) => {
+            let outcome = stay_kept(rt, alloc, &*end, ports, kept, &mut output);
+            minutes.end(rt);
+            outcome
+        }
         Err(failure) => Err(failure),
     };
     ended(output, outcome)
 }
 
-/// The record that a journal tells, with its journal. A missing file is made. What a crash left behind the last line is kept
-/// beside the file, and told.
+/// The record that a journal tells, with its journal, whose commits are counted, if a tally is kept. A missing file is made. What
+/// a crash left behind the last line is kept beside the file, and told.
 ///
 /// # Errors
 ///
 /// `Journal`, where the file is no journal of this track, is damaged, or fails; `Memory`.
-fn opened<R: Files<File = File> + AllocGlobal + Threads + Eprint + Sync>(
-    rt: &R,
+fn opened<'r, 't, R: Files<File = File> + AllocGlobal + Threads + Clock + Eprint + Sync>(
+    rt: &'r R,
     place: &Place,
     track: TrackFile,
-) -> Result<Kept<Recorded<SystemFile>>, Failure>
+    tally: Option<&'t Tally>,
+) -> Result<Kept<Recorded<Timed<'r, 't, R>>>, Failure>
     requires { IsLine track.digest }
     ensures { IfOk result (λ kept. IsReady (λ file. seen (past_of file)) (λ file. may_leave (past_of file)) kept) }
 {
@@ -214,10 +262,10 @@ fn opened<R: Files<File = File> + AllocGlobal + Threads + Eprint + Sync>(
     let Some(bytes) = found.bytes() else {
         let bytes = new_file(alloc, &digest)?;
         let read = readable(bytes.as_slice(), &digest)?;
-        return recovered(rt, empty, &read, &found);
+        return recovered(rt, empty, &read, &found, tally);
     };
     let read = readable(bytes, &digest)?;
-    let kept = recovered(rt, empty, &read, &found)?;
+    let kept = recovered(rt, empty, &read, &found, tally)?;
     if !read.dropped.is_empty() {
         let _ = eprintln!(rt;
             "rbc: journal: {} bytes behind the last line dropped",
@@ -225,6 +273,39 @@ fn opened<R: Files<File = File> + AllocGlobal + Threads + Eprint + Sync>(
         );
     }
     Ok(kept)
+}
+
+/// The same, whose commits are not counted.
+///
+/// # Errors
+///
+/// Those of [`opened`].
+fn uncounted<'r, R: Files<File = File> + AllocGlobal + Threads + Clock + Eprint + Sync>(
+    rt: &'r R,
+    place: &Place,
+    track: TrackFile,
+) -> Result<Kept<Recorded<Timed<'r, 'r, R>>>, Failure>
+    requires { IsLine track.digest }
+    ensures { IfOk result (λ kept. IsReady (λ file. seen (past_of file)) (λ file. may_leave (past_of file)) kept) }
+{
+    opened(rt, place, track, None)
+}
+
+/// The same, whose commits are counted.
+///
+/// # Errors
+///
+/// Those of [`opened`].
+fn counted<'r, 't, R: Files<File = File> + AllocGlobal + Threads + Clock + Eprint + Sync>(
+    rt: &'r R,
+    place: &Place,
+    track: TrackFile,
+    tally: &'t Tally,
+) -> Result<Kept<Recorded<Timed<'r, 't, R>>>, Failure>
+    requires { IsLine track.digest }
+    ensures { IfOk result (λ kept. IsReady (λ file. seen (past_of file)) (λ file. may_leave (past_of file)) kept) }
+{
+    opened(rt, place, track, Some(tally))
 }
 
 /// What a file with these bytes is read as, beside the track with this digest.
@@ -247,20 +328,24 @@ fn readable<'a>(bytes: &'a [u8], digest: &[u8; 64]) -> Result<Readable<'a>, Fail
 /// # Errors
 ///
 /// `Journal`, where a line adds nothing, or the file fails; `Memory`.
-fn recovered<R: Files<File = File> + AllocGlobal + Threads + Sync>(
-    rt: &R,
+fn recovered<'r, 't, R: Files<File = File> + AllocGlobal + Threads + Clock + Sync>(
+    rt: &'r R,
     empty: Record,
     read: &Readable<'_>,
     found: &Found<'_>,
-) -> Result<Kept<Recorded<SystemFile>>, Failure>
+    tally: Option<&'t Tally>,
+) -> Result<Kept<Recorded<Timed<'r, 't, R>>>, Failure>
     requires empty { empty.entries ≡ [] }
     requires whole { IsWholeText read.now.text.now read.now.seal }
     ensures { IfOk result (λ kept. IsReady (λ file. seen (past_of file)) (λ file. may_leave (past_of file)) kept) }
 {
     let mut history = empty;
     replay(rt, rt.alloc(), &mut history, read.text)?;
+    if let Some(tally) = tally {
+        tally.reached(history.version());
+    }
     let file = found.replaced(rt, read.text, read.dropped)?;
-    let device = Recorded::opened(file, read.text);
+    let device = Recorded::opened(Timed::new(file, rt, tally), read.text);
     match Kept::over(rt.alloc(), history, read, device) {
         Ok(kept) => Ok(kept),
         Err((KeptFault::Device, file)) => Err(file_failed(&file)),

@@ -36,6 +36,9 @@ pub enum JournalFault {
     /// It is of this format, and need not be renewed.
     #[error("journal: format 2 already")]
     Renewed,
+    /// It is followed, and does not go on from the lines that were written of it.
+    #[error("journal: another journal took its place")]
+    Another,
     /// The file of the new journal is there already.
     #[error("journal: the new file is there already")]
     IsThere,
@@ -55,7 +58,8 @@ impl JournalFault {
             | JournalFault::Read(_)
             | JournalFault::Foreign(_)
             | JournalFault::Few(_)
-            | JournalFault::Renewed => 3,
+            | JournalFault::Renewed
+            | JournalFault::Another => 3,
         }
     }
 

@@ -8,6 +8,7 @@ ghost use Rattle.rbc_journal_file.specs.Recorded.{past_of};
 
 use crate::failure::{Failure, at_place, file_failed};
 use crate::journal_fault::JournalFault;
+use crate::journal_follow::follow_file;
 use crate::output::{ended, standard_output};
 use crate::reason::Reason;
 use crate::track::{unread, unreadable};
@@ -21,6 +22,8 @@ use rbc_show::Stream;
 use rbc_trackfile::LoadFault;
 use std::fs::{self, File, Files};
 use std::io::ErrorKind;
+use std::sync::Wait;
+use std::time::Clock;
 
 /// Tells of the file of a journal, or takes lines over from it. The file is only read.
 ///
@@ -28,7 +31,7 @@ use std::io::ErrorKind;
 ///
 /// `Journal`; `Load`, where the track's file can't be read; `Session`, where a write fails; `Memory`.
 pub(crate) fn tell_journal(
-    rt: &(impl Files<File = File> + Print + AllocGlobal),
+    rt: &(impl Files<File = File> + Print + Wait + Clock + AllocGlobal),
     asked: &Journaled,
 ) -> Result<(), Failure> {
     let bytes = match fs::read(rt, asked.file) {
@@ -43,6 +46,7 @@ pub(crate) fn tell_journal(
     match asked.work {
         JournalWork::Report => report(rt, bytes.as_slice(), given),
         JournalWork::Lines => write_lines(rt, bytes.as_slice(), given),
+        JournalWork::Follow => follow_file(rt, asked.file, given),
         JournalWork::First(lines, out) => {
             let place = Place::at(rt, out)?;
             let taken = take_first(rt, bytes.as_slice(), given, lines, &place);

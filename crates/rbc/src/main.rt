@@ -6,6 +6,7 @@ mod failure;
 mod history;
 mod journal;
 mod journal_fault;
+mod journal_follow;
 mod journal_report;
 mod output;
 mod reason;
@@ -13,8 +14,10 @@ mod serve;
 mod serve_kept;
 mod stay;
 mod stay_kept;
+mod terminal;
 mod track;
 mod version;
+mod watching;
 
 use failure::Failure;
 pub use history::HistoryFault;
@@ -27,6 +30,7 @@ pub use rbc_certifier::steps;
 pub use rbc_checks::check;
 use rbc_command_line::{Centre, Listed, Printing, Service, Shown, Staying, Task};
 pub use rbc_fields::{Form, Json, Plain, decode};
+use rbc_hints::Prompted;
 use rbc_model::Memory;
 use rbc_show::Stream;
 use rbc_show::kept::server::{self, Record};
@@ -35,19 +39,21 @@ pub use rbc_track_report::report;
 pub use rbc_trackfile::{LoadFault, read as track_in};
 pub use rbc_viewer::draw;
 pub use reason::Reason;
-use serve::{open_port, serve};
+use serve::{Opened, open_port, serve};
 use stay::{Entrance, open_entrance, stay_up};
 use std::env;
 use std::env::Env;
 use std::fs::{File, Files};
-use std::io::{BufRead, Eprint};
+use std::io::{BufRead, Eprint, IsTerminal};
 use std::net::{Net, TcpListener, TcpStream};
 use std::process::ExitCode;
 use std::sync::{Arc, Wait};
 use std::thread::Threads;
 use std::time::Clock;
+use terminal::{heard_output, terminal_of};
 use track::{TrackFile, read_track};
 use version::VERSION;
+use watching::watch_on;
 
 fn main(rt: HostRuntime) -> ExitCode {
     match run(&rt) {
@@ -60,7 +66,7 @@ fn main(rt: HostRuntime) -> ExitCode {
 }
 
 /// Does what the command line asks for.
-fn run<I: BufRead + Drop + Send + 'static>(
+fn run<I: BufRead + Drop + IsTerminal + Send + 'static>(
     rt: &(impl Env
         + Files<File = File>
         + Input<Reader = I>
@@ -149,8 +155,15 @@ fn decode_input<F: Form>(
 
 /// Runs a centre on the track of a file: it answers the lines of the standard input. However they end, the history that
 /// they led to is written, if a file is named for it.
-fn run_centre(
-    rt: &(impl Files<File = File> + Input + Print + AllocGlobal + Threads + Eprint + Sync),
+fn run_centre<I: BufRead + Drop + IsTerminal>(
+    rt: &(impl Files<File = File>
+        + Input<Reader = I>
+        + Print
+        + AllocGlobal
+        + Threads
+        + Clock
+        + Eprint
+        + Sync),
     centre: &Centre,
 ) -> Result<(), Failure> {
     let alloc = rt.alloc();
@@ -158,11 +171,16 @@ fn run_centre(
     if let Some(journal) = centre.journal {
         return run_kept(rt, journal, centre, track);
     }
-    let mut record = Record::new(alloc, Arc::new(alloc, track.track).map_err(Memory::from)?)?;
+    let track = Arc::new(alloc, track.track).map_err(Memory::from)?;
+    let terminal = terminal_of(rt, &track)?;
+    let mut record = Record::new(alloc, track)?;
     let history = history_of(rt, centre)?;
-    let mut output = standard_output(rt)?;
-    let reader = &mut Stream::reader(rt.reader());
+    let mut output = heard_output(rt, terminal.as_ref())?;
+    let reader = &mut Stream::reader(Prompted::new(rt.reader(), terminal.as_ref()));
     let answered = server::run(rt, alloc, reader, &mut output, &mut record);
+    if let Some(terminal) = &terminal {
+        terminal.end();
+    }
     let kept = match history {
         Some(file) => file.write(rt, &record),
         None => Ok(()),
@@ -219,7 +237,10 @@ fn serve_centre(
         + Clock
         + Eprint
         + Net<Listener = TcpListener, Stream = TcpStream>
-        + Sync),
+        + Copy
+        + Send
+        + Sync
+        + 'static),
     service: &Service,
 ) -> Result<(), Failure> {
     let alloc = rt.alloc();
@@ -228,9 +249,14 @@ fn serve_centre(
         return serve_with(rt, journal, track, service);
     }
     let track = Arc::new(alloc, track.track).map_err(Memory::from)?;
+    let watch = watch_on(rt, service.terms)?;
     let mut output = standard_output(rt)?;
-    let outcome = match open_port(rt, service, &mut output) {
-        Ok(port) => serve(rt, alloc, port, track, service, &mut output),
+    let outcome = match open_port(rt, service, &watch, &mut output) {
+        Ok(Opened { port, minutes }) => {
+            let outcome = serve(rt, alloc, port, track, service, &mut output);
+            minutes.end(rt);
+            outcome
+        }
         Err(failure) => Err(failure),
     };
     ended(output, outcome)
@@ -259,9 +285,20 @@ fn stay_at_port<I: BufRead + Drop + Send + 'static>(
         return stay_with(rt, journal, track, staying);
     }
     let track = Arc::new(alloc, track.track).map_err(Memory::from)?;
+    let watch = watch_on(rt, staying.terms)?;
     let mut output = standard_output(rt)?;
-    let outcome = match open_entrance(rt, staying, &mut output) {
-        Ok(Entrance { end, ports }) => stay_up(rt, alloc, &*end, ports, track, &mut output),
+    let outcome = match open_entrance(rt, staying, &watch, &mut output) {
+        Ok(
+            Entrance {
+                end,
+                ports,
+                minutes,
+            },
+        ) => {
+            let outcome = stay_up(rt, alloc, &*end, ports, track, &mut output);
+            minutes.end(rt);
+            outcome
+        }
         Err(failure) => Err(failure),
     };
     ended(output, outcome)

@@ -9,6 +9,7 @@ use crate::failure::Failure;
 use rbc_model::Memory;
 use rbc_show::kept::server::ServeFault;
 use rbc_show::{Buffered, SessionFault, Stream};
+use std::alloc::Global;
 use std::io::{self, ErrorKind, Printer, Write};
 
 /// A writer that notes whether its reader has gone, as that of `rbc steps | head -1` has after a line.
@@ -32,11 +33,27 @@ pub(crate) fn standard_output<P: Print + AllocGlobal>(
     ensures failed { IfOk result (λ output. output.inner.failed ≡ false) }
     ensures none_held_back { IfOk result (λ output. writer_buffer output.inner.writer ≡ []) }
 {
+    output_to(rt.alloc(), io::writer(rt))
+}
+
+/// The output to this writer, behind a buffer.
+///
+/// # Errors
+///
+/// `Memory`, where there is none for the buffer.
+pub(crate) fn output_to<W: Write + Drop>(
+    alloc: Global,
+    writer: W,
+) -> Result<Stream<Buffered<Output<W>>>, Memory>
+    ensures writer { IfOk result (λ output. (writer_inner output.inner.writer).inner.writer ≡ writer) }
+    ensures failed { IfOk result (λ output. output.inner.failed ≡ false) }
+    ensures none_held_back { IfOk result (λ output. writer_buffer output.inner.writer ≡ []) }
+{
     let writer = Output {
-        writer: io::writer(rt),
+        writer,
         is_unread: false,
     };
-    Stream::writer(rt.alloc(), writer)
+    Stream::writer(alloc, writer)
 }
 
 impl<W> Output<W> {

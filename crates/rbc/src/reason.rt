@@ -26,6 +26,13 @@ impl Reason {
             lines: format!(in alloc; "  {path}: {said}\n").ok(),
         }
     }
+
+    /// What is said of this port of the machine.
+    pub(crate) fn of_port<D: Display>(alloc: Global, port: u16, said: &D) -> Reason {
+        Reason {
+            lines: format!(in alloc; "  port {port}: {said}\n").ok(),
+        }
+    }
 }
 
 impl Display for Reason {

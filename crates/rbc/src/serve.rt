@@ -1,14 +1,15 @@
 //! A centre that serves connections: a desk is made for it, with a seat for each connection and each worker.
 
-ghost use Rattle.std.specs.Prelude.{◌≡◌, ◌<◌, ◌≤◌, false, [], OnOk};
+ghost use Rattle.std.specs.Prelude.{◌≡◌, ◌+◌, ◌≤◌, false, [], OnOk};
 ghost use Rattle.rbc_model.specs.Sessions.{Prints};
 ghost use Rattle.rbc.specs.Listening.{listening_line};
 
 use crate::failure::Failure;
+use crate::watching::MinuteLog;
 use rbc_command_line::Service;
+use rbc_port::Watch;
 use rbc_show::kept::server::{
-    self, Blank, Client, Clients, Desk, DeskName, NoJournal, Port, Record, ServeFault, Staff,
-    no_pens,
+    self, Blank, Client, Clients, Desk, DeskName, NoJournal, Port, Record, Staff, no_pens,
 };
 use rbc_show::{Sink, Source, Word, WriteFailed, print_line};
 use rbc_trackfile::Track;
@@ -20,24 +21,55 @@ use std::sync::{Arc, Wait};
 use std::thread::Threads;
 use std::time::Clock;
 
-/// Opens the port that a centre is asked to serve, and tells that it is open.
+/// The listener of this port of the machine.
 ///
 /// # Errors
 ///
-/// `Serve`, where the port can't be had; `Session`, where the writer fails.
-pub(crate) fn open_port<N: Net<Listener = TcpListener, Stream = TcpStream> + Clock, W: Sink>(
+/// `NoPort`, where the port can't be had.
+pub(crate) fn listener_of<N: Net<Listener = TcpListener, Stream = TcpStream> + AllocGlobal>(
     rt: &N,
-    service: &Service,
-    writer: &mut W,
-) -> Result<Port<TcpListener>, Failure>
+    port: u16,
+) -> Result<TcpListener, Failure> {
+    match TcpListener::bind(rt, (Ipv4Addr::LOCALHOST, port)) {
+        Ok(listener) => Ok(listener),
+        Err(error) => Err(Failure::no_port(rt.alloc(), port, &error)),
+    }
+}
+
+/// A port that takes so many connections, and what is told of them each minute.
+#[derive(Drop)]
+pub(crate) struct Opened {
+    pub(crate) port: Port<TcpListener>,
+    pub(crate) minutes: MinuteLog,
+}
+
+/// Opens the port that a centre is asked to serve, which is watched so, and tells that it is open.
+///
+/// # Errors
+///
+/// `NoPort`, where the port can't be had; `Serve`, where no thread can be started; `Memory`; `Session`, where the writer fails.
+pub(crate) fn open_port<
+    N: Net<Listener = TcpListener, Stream = TcpStream>
+        + AllocGlobal
+        + Threads
+        + Wait
+        + Clock
+        + Eprint
+        + Copy
+        + Send
+        + 'static,
+    W: Sink,
+>(rt: &N, service: &Service, watch: &Watch, writer: &mut W) -> Result<Opened, Failure>
     requires { W.failed writer.old ≡ false }
     ensures { OnOk result (W.failed writer.new ≡ false) }
 {
-    let Ok(listener) = TcpListener::bind(rt, (Ipv4Addr::LOCALHOST, service.port)) else {
-        return Err(Failure::Serve(ServeFault::Port));
-    };
+    let listener = listener_of(rt, service.port)?;
+    let port = Port::new(listener, service.terms, watch.again()?);
     print_listening(service.port, writer)?;
-    Ok(Port::new(rt, listener, service.terms))
+    Ok(Opened {
+        port,
+        minutes: MinuteLog::begin(rt, watch)?,
+    })
 }
 
 /// Tells that the port is open, and hands it on.
@@ -95,7 +127,7 @@ pub(crate) fn serve<
 pub(crate) struct Opening<H> {
     /// The history that it goes on from.
     pub(crate) history: H,
-    /// How many seats it has, at most 16: one for each connection and each worker.
+    /// How many seats it has: one for each connection and each worker.
     pub(crate) seats: usize,
     /// How many of them serve connections, at least one.
     pub(crate) connections: usize,
@@ -108,8 +140,9 @@ impl<H> Opening<H> {
     pub(crate) fn new(history: H, service: &Service) -> Opening<H>
         ensures history { result.history ≡ history }
         ensures parts { result.blank.ledger.parts ≡ result.seats }
+        ensures connections { result.connections ≡ service.now.connections }
+        ensures workers { result.seats ≡ service.now.connections + service.now.workers }
         ensures some { 1 ≤ result.connections }
-        ensures workers { result.connections < result.seats }
         ensures few { result.seats ≤ 16 }
     {
         let seats = service.connections + service.workers;
@@ -155,7 +188,7 @@ fn open<
     requires book { opening.blank.journal ≡ L.book }
     requires one_each { opening.seats ≡ L.parts }
     requires some { 1 ≤ opening.connections }
-    requires workers { opening.connections < opening.seats }
+    requires workers { opening.connections ≤ opening.seats }
     requires few { opening.seats ≤ 16 }
 {
     let Opening {

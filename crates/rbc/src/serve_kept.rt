@@ -1,6 +1,6 @@
 //! A centre that serves connections, and keeps its history in a journal.
 
-ghost use Rattle.std.specs.Prelude.{◌≡◌, ◌<◌, ◌≤◌, false};
+ghost use Rattle.std.specs.Prelude.{◌≡◌, ◌≤◌, false};
 ghost use Rattle.rbc_journal_file.specs.Past.{may_leave, seen};
 ghost use Rattle.rbc_journal_file.specs.Recorded.{past_of};
 ghost use Rattle.rbc_show.specs.Kept.{IsReady};
@@ -8,14 +8,15 @@ ghost use Rattle.rbc_show.specs.Kept.{IsReady};
 use crate::failure::{Failure, file_failed};
 use crate::serve::Opening;
 use rbc_command_line::Service;
-use rbc_journal_file::{Recorded, SystemFile};
+use rbc_journal_file::{Calls, Recorded};
 use rbc_show::kept::scribe::{self, ScribeName};
-use rbc_show::kept::server::{Client, Clients, DeskName, ServeFault, Served, Staff, serve};
+use rbc_show::kept::server::{Client, Clients, DeskName, Port, ServeFault, Served, Staff, serve};
 use rbc_show::kept::{self, DeskJournal, Kept, Opened, SeatTold, close};
 use rbc_show::{Sink, Source};
 use std::alloc::Global;
-use std::io::Eprint;
+use std::io::{Eprint, Read, Write};
 use std::marker::Brand;
+use std::net::{OpenListener, OpenStream};
 use std::sync::Wait;
 use std::thread::Threads;
 use std::time::Clock;
@@ -27,18 +28,16 @@ use std::time::Clock;
 ///
 /// `Memory` for the desk, and those of [`serve`].
 pub(crate) fn serve_kept<
-    I: Source + Send + Drop,
-    O: Sink + Send + Drop,
-    G: Send + Drop,
-    C: Client<Reader = I, Writer = O, Gone = G> + Send + Drop,
-    P: Clients<Each = C> + Drop,
+    S: Read + Write + OpenStream + Send + Sync + Drop,
+    N: OpenListener<Stream = S> + Send + Drop,
+    D: Calls + Send + Drop,
     W: Sink,
     T: Threads + Wait + Clock + Eprint + Sync,
 >(
     rt: &T,
     alloc: Global,
-    port: P,
-    kept: Kept<Recorded<SystemFile>>,
+    port: Port<N>,
+    kept: Kept<Recorded<D>>,
     service: &Service,
     writer: &mut W,
 ) -> Result<(), Failure>
@@ -47,7 +46,7 @@ pub(crate) fn serve_kept<
 {
     let opening = Opening::new(kept, service);
     let stamps = scribe::Blank::new();
-    open::<Brand, Brand, I, O, G, C, P, W, T>(rt, alloc, port, opening, stamps, writer)
+    open::<Brand, Brand, _, _, _, _, Port<N>, D, W, T>(rt, alloc, port, opening, stamps, writer)
 }
 
 /// Serves connections at a desk over the record, each from a seat with its pen. At the end the journal is closed.
@@ -59,13 +58,14 @@ fn open<
     G: Send + Drop,
     C: Client<Reader = I, Writer = O, Gone = G> + Send + Drop,
     P: Clients<Each = C> + Drop,
+    D: Calls + Send + Drop,
     W: Sink,
     T: Threads + Wait + Clock + Eprint + Sync,
 >(
     rt: &T,
     alloc: Global,
     port: P,
-    opening: Opening<Kept<Recorded<SystemFile>>>,
+    opening: Opening<Kept<Recorded<D>>>,
     stamps: scribe::Blank,
     writer: &mut W,
 ) -> Result<(), Failure>
@@ -78,7 +78,7 @@ fn open<
     requires stamps { stamps ≡ N.book }
     requires one_each { opening.seats ≡ L.parts }
     requires some { 1 ≤ opening.connections }
-    requires workers { opening.connections < opening.seats }
+    requires workers { opening.connections ≤ opening.seats }
     requires few { opening.seats ≤ 16 }
 {
     let Opening {

@@ -4,11 +4,12 @@ ghost use Rattle.std.specs.Prelude.{◌≡◌, ◌≤◌, false, IfOk, OnOk, vec
 
 use crate::end::watch_input;
 use crate::failure::Failure;
-use crate::serve::{Opening, print_listening};
+use crate::serve::{Opening, listener_of, print_listening};
+use crate::watching::MinuteLog;
 use rbc_command_line::Staying;
 use rbc_duty::{Post, stay};
 use rbc_model::OrMemory;
-use rbc_port::{Closing, Place, PortEnd, open_places};
+use rbc_port::{Closing, Place, PortEnd, Watch, open_places};
 use rbc_show::kept::server::{
     Client, Clients, Desk, DeskName, NoJournal, Port, Record, ServeFault, no_pens,
 };
@@ -17,23 +18,26 @@ use rbc_trackfile::Track;
 use std::alloc::Global;
 use std::io::{BufRead, Eprint, Read, Write};
 use std::marker::Brand;
-use std::net::{Ipv4Addr, Net, OpenListener, OpenStream, TcpListener, TcpStream};
+use std::net::{Net, OpenListener, OpenStream, TcpListener, TcpStream};
 use std::sync::{Arc, Wait};
 use std::thread::Threads;
 use std::time::Clock;
 
-/// A port that stays open until its end is asked for, and the places at it.
+/// A port that stays open until its end is asked for, the places at it, and what is told of them each minute.
 #[derive(Drop)]
 pub(crate) struct Entrance<'a, T> {
     pub(crate) end: Arc<PortEnd>,
     pub(crate) ports: Vec<Port<Place<'a, T>>>,
+    pub(crate) minutes: MinuteLog,
 }
 
-/// Opens the port that a centre is asked to stay at, tells that it is open, and has the standard input watched.
+/// Opens the port that a centre is asked to stay at, which is watched so, tells that it is open, and has the standard input
+/// watched for its end.
 ///
 /// # Errors
 ///
-/// `Serve`, where the port can't be had, or no thread be started; `Memory`; `Session`, where the writer fails.
+/// `NoPort`, where the port can't be had; `Serve`, where it can't be stayed at, or no thread be started; `Memory`; `Session`, where
+/// the writer fails.
 pub(crate) fn open_entrance<
     'a,
     I: BufRead + Drop + Send + 'static,
@@ -43,33 +47,36 @@ pub(crate) fn open_entrance<
         + Threads
         + Wait
         + Clock
+        + Eprint
         + Copy
         + Send
         + 'static,
     W: Sink,
->(rt: &'a T, staying: &Staying, writer: &mut W) -> Result<Entrance<'a, T>, Failure>
+>(rt: &'a T, staying: &Staying, watch: &Watch, writer: &mut W) -> Result<Entrance<'a, T>, Failure>
     requires { W.failed writer.old ≡ false }
     ensures going { OnOk result (W.failed writer.new ≡ false) }
     ensures places { IfOk result (λ entrance. vec_len entrance.ports ≡ staying.now.places) }
 {
     let alloc = rt.alloc();
-    let Ok(listener) = TcpListener::bind(rt, (Ipv4Addr::LOCALHOST, staying.port)) else {
-        return Err(Failure::Serve(ServeFault::Port));
-    };
+    let listener = listener_of(rt, staying.port)?;
     let Ok(end) = PortEnd::new(listener) else {
         return Err(Failure::Serve(ServeFault::Port));
     };
     let Ok(end) = Arc::new(alloc, end) else {
         return Err(Failure::Memory);
     };
-    let ports = match open_places(rt, alloc, &end, staying.terms, staying.places) {
+    let ports = match open_places(rt, alloc, &end, staying.terms, watch, staying.places) {
         Ok(ports) => ports,
         Err(OrMemory::Refused(_)) => return Err(Failure::Serve(ServeFault::Port)),
         Err(OrMemory::Memory) => return Err(Failure::Memory),
     };
     print_listening(staying.port, writer)?;
     watch_input(rt, rt.reader(), &end)?;
-    Ok(Entrance { end, ports })
+    Ok(Entrance {
+        end,
+        ports,
+        minutes: MinuteLog::begin(rt, watch)?,
+    })
 }
 
 /// Serves clients that come and go over a new record of the track.

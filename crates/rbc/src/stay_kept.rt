@@ -8,7 +8,7 @@ ghost use Rattle.rbc_show.specs.Kept.{IsReady};
 use crate::failure::{Failure, file_failed};
 use crate::serve::Opening;
 use rbc_duty::{Post, Stayed, stay};
-use rbc_journal_file::{Recorded, SystemFile};
+use rbc_journal_file::{Calls, Recorded};
 use rbc_port::Closing;
 use rbc_show::kept::scribe::{self, ScribeName};
 use rbc_show::kept::server::{Client, Clients, DeskName, Port, ServeFault};
@@ -31,6 +31,7 @@ use std::time::Clock;
 pub(crate) fn stay_kept<
     S: Read + Write + OpenStream + Send + Sync + Drop,
     N: OpenListener<Stream = S> + Send + Drop,
+    D: Calls + Send + Drop,
     E: Closing + Sync,
     W: Sink,
     T: Threads + Wait + Clock + Eprint + Sync,
@@ -39,7 +40,7 @@ pub(crate) fn stay_kept<
     alloc: Global,
     closing: &E,
     ports: Vec<Port<N>>,
-    kept: Kept<Recorded<SystemFile>>,
+    kept: Kept<Recorded<D>>,
     writer: &mut W,
 ) -> Result<(), Failure>
     requires going { W.failed writer.old ≡ false }
@@ -51,12 +52,14 @@ pub(crate) fn stay_kept<
         opening,
         stamps: scribe::Blank::new(),
     };
-    open::<Brand, Brand, _, _, _, _, Port<N>, E, W, T>(rt, alloc, closing, ports, journaled, writer)
+    open::<Brand, Brand, _, _, _, _, Port<N>, D, E, W, T>(
+        rt, alloc, closing, ports, journaled, writer,
+    )
 }
 
 /// What a desk with a journal is opened with.
-struct Journaled {
-    opening: Opening<Kept<Recorded<SystemFile>>>,
+struct Journaled<D: Calls> {
+    opening: Opening<Kept<Recorded<D>>>,
     /// The blank of the stamps that its pens are given.
     stamps: scribe::Blank,
 }
@@ -70,6 +73,7 @@ fn open<
     G: Send + Drop,
     C: Client<Reader = I, Writer = O, Gone = G> + Send + Drop,
     P: Clients<Each = C> + Send + Drop,
+    D: Calls + Send + Drop,
     E: Closing + Sync,
     W: Sink,
     T: Threads + Wait + Clock + Eprint + Sync,
@@ -78,7 +82,7 @@ fn open<
     alloc: Global,
     closing: &E,
     ports: Vec<P>,
-    journaled: Journaled,
+    journaled: Journaled<D>,
     writer: &mut W,
 ) -> Result<(), Failure>
     requires going { W.failed writer.old ≡ false }

@@ -3,6 +3,6 @@
 /// The version, the sum of the sources that the program is made of, which `tools/sources --write` writes here, and the sum
 /// of the logic that proves them.
 pub(crate) const VERSION: &str = "\
-0.5.0
-sources 82abaa68d9159280f2e7dfbd22f3231d8722bd017ca2e549dc86f58b313c09bb
+0.6.0
+sources 111d97d73f2e2802a7199fcb23fadf326f53544b0a324ca7c43a3c8d51bd9fc2
 logic dac8208d650f15bf";

@@ -5,7 +5,7 @@ ghost use Rattle.std.specs.Prelude.{◌≤◌};
 
 use clap::error::ErrorKind;
 use clap::{Arg, ArgAction, ArgMatches, Command, Error, value_parser};
-use rbc_port::Terms;
+pub use rbc_port::Terms;
 use std::alloc::{AllocError, Global};
 use std::time::Duration;
 
@@ -92,6 +92,8 @@ pub enum JournalWork<'a> {
     Report,
     /// Its lines are written.
     Lines,
+    /// Its lines are written, and then each that comes to be kept.
+    Follow,
     /// So many of its first lines are put into a new journal, in this file.
     First(u64, &'a str),
     /// The lines of a journal of format 1 are put into a new journal, in this file.
@@ -107,13 +109,13 @@ pub struct Service<'a> {
     pub port: u16,
     /// How many connections are taken, 1 to 8.
     pub connections: usize,
-    /// How many workers the sweep has, 1 to 8.
+    /// How many workers the sweep has, up to 8. Where there are none, there is no sweep.
     pub workers: usize,
     /// The file of its journal, if it has one.
     pub journal: Option<&'a str>,
     /// On what terms clients are served.
     pub terms: Terms,
-    pub ghost some: { (1 ≤ connections) × (1 ≤ workers) },
+    pub ghost some: { 1 ≤ connections },
     pub ghost few: { (connections ≤ 8) × (workers ≤ 8) },
 }
 
@@ -136,6 +138,12 @@ pub struct Staying<'a> {
 
 /// How many connections a centre takes that ends once all have ended.
 const MOST_CONNECTIONS: i64 = 8;
+
+/// Whether a centre makes a sweep: the words behind `--sweep`.
+const SWEEPS: &[&str] = &["yes", NO_SWEEP];
+
+/// The word for none.
+const NO_SWEEP: &str = "no";
 
 /// How many clients a centre that stays up serves at once, at most.
 const MOST_PLACES: i64 = 64;
@@ -219,7 +227,8 @@ Example:
 
 Exit status:
   0  The file is a journal, whole or cut by a crash, and of the track, if one is named; or OUT has the lines
-  3  It is no journal, is damaged, or is of another track or format; or it tells fewer than N lines
+  3  It is no journal, is damaged, or is of another track or format; or it tells fewer than N lines; or another journal
+     took its place
   4  A file can't be read, or OUT is there already, or fails; or a write fault
   5  No memory";
 
@@ -262,11 +271,12 @@ Requests, one a line:
   scene                                    Shows the locked sections and the trains, and what each would be granted
 
 Examples:
-  rbc serve station.toml --port 7001 --connections 2 --workers 2 --patience 60 --journal day.journal
+  rbc serve station.toml --port 7001 --connections 2 --workers 2 --patience 60
+  rbc serve station.toml --port 7001 --connections 2 --sweep no --journal day.journal
   rbc serve station.toml --stay --port 7001 --connections 8 --log --journal day.journal
 
 Exit status:
-  0  All connections have ended, and each train was served once more; with --stay the end was asked for
+  0  All connections have ended, and each train was served once more, if there is a sweep; with --stay the end was asked for
   3  The track file can't be read, or is refused; or the journal is not one of this track
   4  The port can't be opened, or accepts no connection; a write fault; or the journal can't be had or fails
   5  No memory, or no thread for a connection
@@ -275,8 +285,6 @@ Exit status:
 /// Reads the command line, whose first word is the program's name. A line that asks for help, or for the version, is an
 /// error whose exit code is 0.
 pub fn read<'a>(alloc: Global, version: &'a str, words: &'a [String]) -> Result<Task<'a>, Error> {
-    // What a centre that stays up is asked for differs.
-    let stays = words.iter().any(|word| word.as_str() == "--stay");
     let mut command = Command::new(alloc, "rbc")
         .about("The deciding part of an ETCS Level 2 radio block centre")
         .version(version)
@@ -289,7 +297,7 @@ pub fn read<'a>(alloc: Global, version: &'a str, words: &'a [String]) -> Result<
         .subcommand(run(alloc)?)?
         .subcommand(show(alloc)?)?
         .subcommand(track(alloc)?)?
-        .subcommand(serve(alloc, stays)?)?
+        .subcommand(serve(alloc, Ending::of(words))?)?
         .subcommand(journal(alloc)?)?;
     let matches = command.try_get_matches_from_mut(words)?;
     let Some(journal) = matches.subcommand_matches("journal") else {
@@ -312,6 +320,9 @@ pub fn read<'a>(alloc: Global, version: &'a str, words: &'a [String]) -> Result<
 fn work_in<'a>(matches: &ArgMatches<'a>) -> Option<JournalWork<'a>> {
     if matches.get_flag("lines") {
         return Some(JournalWork::Lines);
+    }
+    if matches.get_flag("follow") {
+        return Some(JournalWork::Follow);
     }
     if let Some(out) = matches.get_str("renew") {
         return Some(JournalWork::Renew(out));
@@ -464,6 +475,7 @@ fn journal<'a>(alloc: Global) -> Result<Command<'a>, AllocError> {
         .arg(file)?
         .arg(track)?
         .arg(journal_lines(alloc)?)?
+        .arg(followed(alloc)?)?
         .arg(first_lines(alloc)?)?
         .arg(renewed(alloc)?)
 }
@@ -474,6 +486,19 @@ fn journal_lines<'a>(alloc: Global) -> Result<Arg<'a>, AllocError> {
         .long("lines")
         .help("Writes the lines that it tells: those before the damage, if it is damaged")
         .action(ArgAction::SetTrue)
+        .conflicts_with("first")?
+        .conflicts_with("renew")
+}
+
+/// Whether the lines of a journal are written as they come to be kept.
+fn followed<'a>(alloc: Global) -> Result<Arg<'a>, AllocError> {
+    Arg::new(alloc, "follow")
+        .long("follow")
+        .help(
+            "Writes the lines that it tells, and then each that comes to be kept, until nobody reads them or FILE is gone",
+        )
+        .action(ArgAction::SetTrue)
+        .conflicts_with("lines")?
         .conflicts_with("first")?
         .conflicts_with("renew")
 }
@@ -537,9 +562,46 @@ fn number<'a>(alloc: Global, name: &'a str, value: &'a str, help: &'a str) -> Ar
         .action(ArgAction::Set)
 }
 
-/// The command that serves connections. One that stays up has more of them, and no sweep.
-fn serve<'a>(alloc: Global, stays: bool) -> Result<Command<'a>, AllocError> {
-    let most = if stays { MOST_PLACES } else { MOST_CONNECTIONS };
+/// How a centre that serves connections ends. It decides what else it may be asked for.
+#[derive(Clone, Copy, Debug, PartialEq, Eq)]
+enum Ending {
+    /// With a sweep, by workers.
+    Swept,
+    /// With all connections, and without a sweep.
+    Unswept,
+    /// When it is told to, without a sweep.
+    Told,
+}
+
+impl Ending {
+    /// The one that a command line asks for.
+    fn of(words: &[String]) -> Ending {
+        let mut names_sweep = false;
+        let mut ending = Ending::Swept;
+        for word in words {
+            let word = word.as_str();
+            if word == "--stay" {
+                return Ending::Told;
+            }
+            if word == "--sweep=no" || (names_sweep && word == NO_SWEEP) {
+                ending = Ending::Unswept;
+            }
+            names_sweep = word == "--sweep";
+        }
+        ending
+    }
+
+    /// How many connections there may be.
+    fn most_connections(self) -> i64 {
+        match self {
+            Ending::Told => MOST_PLACES,
+            Ending::Swept | Ending::Unswept => MOST_CONNECTIONS,
+        }
+    }
+}
+
+/// The command that serves connections, and ends so.
+fn serve<'a>(alloc: Global, ending: Ending) -> Result<Command<'a>, AllocError> {
     Command::new(alloc, "serve")
         .about(
             "Runs a centre on the track of a file for several connections at once, and serves every train at the end",
@@ -548,8 +610,9 @@ fn serve<'a>(alloc: Global, stays: bool) -> Result<Command<'a>, AllocError> {
         .arg(track_file(alloc))?
         .arg(port(alloc))?
         .arg(stay(alloc)?)?
-        .arg(connections(alloc, most))?
-        .arg(workers(alloc, !stays))?
+        .arg(connections(alloc, ending.most_connections()))?
+        .arg(workers(alloc, ending == Ending::Swept))?
+        .arg(sweep(alloc, ending)?)?
         .arg(patience(alloc))?
         .arg(log(alloc))?
         .arg(journal_file(alloc))
@@ -568,7 +631,8 @@ fn stay<'a>(alloc: Global) -> Result<Arg<'a>, AllocError> {
             "Serves clients that come and go, until standard input ends or has a line `end`; without a sweep",
         )
         .action(ArgAction::SetTrue)
-        .conflicts_with("workers")
+        .conflicts_with("workers")?
+        .conflicts_with("sweep")
 }
 
 /// How many connections a centre serves, up to this number.
@@ -594,6 +658,20 @@ fn workers<'a>(alloc: Global, sweeps: bool) -> Arg<'a> {
     .value_parser(value_parser!(u8).range(1..=8))
 }
 
+/// Whether a centre makes a sweep. Workers are for that alone.
+fn sweep<'a>(alloc: Global, ending: Ending) -> Result<Arg<'a>, AllocError> {
+    let sweep = Arg::new(alloc, "sweep")
+        .long("sweep")
+        .value_name("SWEEP")
+        .help("Whether each train is served once more at the end; with `no` there are no workers")
+        .action(ArgAction::Set)
+        .value_parser(SWEEPS);
+    match ending {
+        Ending::Unswept => sweep.conflicts_with("workers"),
+        Ending::Swept | Ending::Told => Ok(sweep),
+    }
+}
+
 /// How long a centre waits for a client.
 fn patience<'a>(alloc: Global) -> Arg<'a> {
     Arg::new(alloc, "patience")
@@ -610,7 +688,9 @@ fn patience<'a>(alloc: Global) -> Arg<'a> {
 fn log<'a>(alloc: Global) -> Arg<'a> {
     Arg::new(alloc, "log")
         .long("log")
-        .help("Tells on standard error which connections begin and end")
+        .help(
+            "Tells on standard error which connections begin and end, and each minute what was done",
+        )
         .action(ArgAction::SetTrue)
 }
 
@@ -636,9 +716,19 @@ fn service_in<'a>(matches: &ArgMatches<'a>) -> Service<'a> {
         track: matches.get_str("TRACK").unwrap_or(""),
         port: matches.get_one("port").unwrap_or(1),
         connections: count_in(matches, "connections"),
-        workers: count_in(matches, "workers"),
+        workers: workers_in(matches),
         journal: matches.get_str("journal"),
         terms: terms_in(matches),
+    }
+}
+
+/// How many workers a command line asks for, up to 8: none, where it asks for no sweep.
+fn workers_in(matches: &ArgMatches) -> usize
+    ensures { result ≤ 8 }
+{
+    match matches.get_str("sweep") {
+        Some(word) if word == NO_SWEEP => 0,
+        _ => count_in(matches, "workers"),
     }
 }
 

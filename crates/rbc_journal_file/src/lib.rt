@@ -8,6 +8,7 @@ mod opening;
 mod past;
 mod place;
 mod recorded;
+mod timed;
 
 pub use asked::{Call, CallFailed, Role};
 pub use calls::{Calls, SystemFile};
@@ -16,3 +17,4 @@ pub use past::{Bytes, Past};
 pub use place::Place;
 pub use rbc_journal::{ReadFault, Readable, new_file, read, track_digest};
 pub use recorded::Recorded;
+pub use timed::Timed;

@@ -6,6 +6,7 @@ mod journals;
 mod messages;
 mod scribes;
 mod sessions;
+mod tallies;
 
 /// Time 1000, group 17 of country 5, nominal direction, up to 1,000 m, at 100 km/h on a gradient of -5 per mille.
 const MESSAGE: [u8; 39] = [

@@ -6,10 +6,12 @@ ghost use Rattle.rbc_port.specs.Clients.{Coming};
 
 use crate::clients::{Client, Ends};
 use crate::ends::End;
-use crate::log::{Caller, Log, News, Parting};
+use crate::log::{Caller, News, Parting};
+use crate::watch::Watch;
 use rbc_model::SessionFault;
 use rbc_model::limits::LONGEST_LINE;
 use rbc_streams::{Buffered, LineReader, Retried, Stream};
+use rbc_tally::Replies;
 use std::alloc::Global;
 use std::io;
 use std::io::{Eprint, Error, ErrorKind, Read, Write};
@@ -33,22 +35,31 @@ pub struct Connection<S> {
     caller: Caller,
     lines: u64,
     stopped: Option<Parting>,
-    log: Log,
+    replies: Replies,
+    watch: Watch,
 }
 
 impl<S> Connection<S> {
-    pub(crate) fn new(stream: S, address: SocketAddr, number: usize, log: Log) -> Connection<S> {
+    pub(crate) fn new(
+        stream: S,
+        address: SocketAddr,
+        number: usize,
+        watch: Watch,
+    ) -> Connection<S> {
         Connection {
             stream,
             caller: Caller { number, address },
             lines: 0,
             stopped: None,
-            log,
+            replies: Replies::new(),
+            watch,
         }
     }
 
+    // Tells that it begins.
     pub(crate) fn tell_began(&self, rt: &(impl Clock + Eprint), alloc: Global) {
-        self.log.tell(rt, alloc, self.caller, News::Began);
+        self.watch.tally().began();
+        self.watch.log.tell(rt, alloc, &News::Began(self.caller));
     }
 
     // Why its session ended so.
@@ -68,9 +79,9 @@ impl<S: Read + OpenStream + Drop> Connection<S> {
         if ended == Err(SessionFault::Overlong) {
             self.drop_what_comes(rt);
         }
-        let parting = self.parting(ended);
-        self.log
-            .tell(rt, alloc, self.caller, News::Ended(self.lines, parting));
+        let news = News::Ended(self.caller, self.lines, self.parting(ended));
+        self.watch.tally().ended();
+        self.watch.log.tell(rt, alloc, &news);
     }
 
     // Reads and drops. Each read takes a byte at least, and waits no longer than the time that is left.
@@ -215,7 +226,11 @@ impl<S: Read> Read for Connection<S> {
     fn read(&mut self, buf: &mut [u8]) -> io::Result<usize> {
         let outcome = self.stream.read(buf);
         match &outcome {
-            Ok(count) => self.lines = self.lines.saturating_add(line_feeds(&buf[..*count])),
+            Ok(count) => {
+                let lines = line_feeds(&buf[..*count]);
+                self.lines = self.lines.saturating_add(lines);
+                self.watch.tally().read(lines);
+            }
             Err(error) => self.stopped = stopped_by(error),
         }
         outcome
@@ -227,8 +242,9 @@ impl<S: Write> Write for Connection<S> {
 
     fn write(&mut self, buf: &[u8]) -> io::Result<usize> {
         let outcome = self.stream.write(buf);
-        if let Err(error) = &outcome {
-            self.stopped = stopped_by(error);
+        match &outcome {
+            Ok(count) => self.replies.pass(&buf[..*count], self.watch.tally()),
+            Err(error) => self.stopped = stopped_by(error),
         }
         outcome
     }

@@ -6,12 +6,17 @@ mod closing;
 mod connection;
 mod ends;
 mod log;
+mod minutes;
 mod place;
 mod port;
+mod watch;
 
 pub use clients::{Client, Clients, Closed, Ends};
 pub use closing::{Closing, PortEnd};
 pub use connection::{Connection, Gone};
+pub use minutes::Minutes;
 pub use place::{Place, PlaceStream, open_places};
 pub use port::{Port, PortFailed, Terms};
 pub use rbc_model::SessionFault;
+pub use rbc_tally as tally;
+pub use watch::Watch;

@@ -1,4 +1,4 @@
-//! The log on standard error: a line for each client that comes, and for each that goes.
+//! The log on standard error: a line for each client that comes, for each that goes, and for each minute.
 
 use rbc_model::SessionFault;
 use std::alloc::{AllocError, Global};
@@ -58,16 +58,18 @@ impl Display for Caller {
 #[derive(Clone, Copy, Debug)]
 pub(crate) enum News {
     /// It began.
-    Began,
+    Began(Caller),
     /// It ended after this number of lines.
-    Ended(u64, Parting),
+    Ended(Caller, u64, Parting),
 }
 
 impl Display for News {
     fn fmt<W: fmt::Write>(&self, f: &mut fmt::Formatter<W>) -> fmt::Result {
         match self {
-            News::Began => f.write_str("began"),
-            News::Ended(lines, parting) => write!(f, "ended after line {lines}: {parting}"),
+            News::Began(caller) => write!(f, "{caller} began"),
+            News::Ended(caller, lines, parting) => {
+                write!(f, "{caller} ended after line {lines}: {parting}")
+            }
         }
     }
 }
@@ -81,20 +83,16 @@ impl Log {
         }
     }
 
-    /// Tells this of a client.
-    pub(crate) fn tell(
-        self,
-        rt: &(impl Clock + Eprint),
-        alloc: Global,
-        caller: Caller,
-        news: News,
-    ) {
+    /// Whether it is kept.
+    pub(crate) fn is_kept(self) -> bool {
+        self.is_kept
+    }
+
+    /// Tells this.
+    pub(crate) fn tell(self, rt: &(impl Clock + Eprint), alloc: Global, news: &impl Display) {
         if self.is_kept {
             let (seconds, millis) = self.time(rt);
-            print(
-                rt,
-                format!(in alloc; "{seconds}.{millis:03} s: {caller} {news}\n"),
-            );
+            print(rt, format!(in alloc; "{seconds}.{millis:03} s: {news}\n"));
         }
     }
 

@@ -5,8 +5,8 @@ ghost use Rattle.std.specs.Prelude.{◌≡◌, IfOk, IfSome, vec_len};
 ghost use Rattle.std.specs.Io.{ReadsAtMost, WritesAtMost};
 
 use crate::closing::{Closing, PortEnd};
-use crate::log::Log;
 use crate::port::{Port, PortFailed, Terms};
+use crate::watch::Watch;
 use rbc_model::OrMemory;
 use std::alloc::Global;
 use std::io;
@@ -36,7 +36,7 @@ pub struct Place<'a, T> {
     rt: &'a T,
 }
 
-/// Opens this number of places at a port. Their clients are served on these terms, and numbered together.
+/// Opens this number of places at a port. Their clients are served on these terms, numbered together, and watched so.
 ///
 /// # Errors
 /// No descriptor is left, or the allocator refuses memory.
@@ -45,11 +45,11 @@ pub fn open_places<'a, T: Clock>(
     alloc: Global,
     end: &Arc<PortEnd>,
     terms: Terms,
+    watch: &Watch,
     count: usize,
 ) -> Result<Vec<Port<Place<'a, T>>>, OrMemory<PortFailed>>
     ensures { IfOk result (λ ports. vec_len ports ≡ count) }
 {
-    let log = Log::new(rt, terms.is_logged);
     let Ok(accepted) = Arc::new(alloc, AtomicUsize::new(0)) else {
         return Err(OrMemory::Memory);
     };
@@ -58,10 +58,10 @@ pub fn open_places<'a, T: Clock>(
     };
     for _ in 0..count {
         let place = Place::open(rt, end)?;
-        let Ok(accepted) = Arc::try_clone(&accepted) else {
+        let (Ok(accepted), Ok(watch)) = (Arc::try_clone(&accepted), watch.again()) else {
             return Err(OrMemory::Memory);
         };
-        ports.push_reserved(Port::sharing(place, terms, log, accepted));
+        ports.push_reserved(Port::sharing(place, terms, watch, accepted));
     }
     Ok(ports)
 }

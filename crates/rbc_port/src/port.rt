@@ -4,7 +4,7 @@ ghost use Rattle.std.specs.Prelude.{None};
 
 use crate::clients::Clients;
 use crate::connection::Connection;
-use crate::log::Log;
+use crate::watch::Watch;
 use std::alloc::Global;
 use std::io::{Eprint, Error, ErrorKind, Read, Write};
 use std::net::{OpenListener, OpenStream, SocketAddr};
@@ -44,7 +44,7 @@ pub struct Terms {
 pub struct Port<N> {
     listener: N,
     patience: Option<Duration>,
-    log: Log,
+    watch: Watch,
     accepted: Accepted,
 }
 
@@ -82,27 +82,27 @@ enum Obstacle {
 }
 
 impl<N> Port<N> {
-    /// The port of this listener, whose clients are served on these terms.
-    pub fn new(rt: &impl Clock, listener: N, terms: Terms) -> Port<N> {
+    /// The port of this listener, whose clients are served on these terms, and are watched so.
+    pub fn new(listener: N, terms: Terms, watch: Watch) -> Port<N> {
         Port {
             listener,
             patience: terms.patience,
-            log: Log::new(rt, terms.is_logged),
+            watch,
             accepted: Accepted::Here(0),
         }
     }
 
-    // The same, with a log and a number of clients that it shares with other ports.
+    // The same, with a number of clients that it shares with other ports.
     pub(crate) fn sharing(
         listener: N,
         terms: Terms,
-        log: Log,
+        watch: Watch,
         accepted: Arc<AtomicUsize>,
     ) -> Port<N> {
         Port {
             listener,
             patience: terms.patience,
-            log,
+            watch,
             accepted: Accepted::Together(accepted),
         }
     }
@@ -125,7 +125,8 @@ impl<S: Read + Write + OpenStream + Drop, N: OpenListener<Stream = S>> Clients f
             match self.try_accept() {
                 Ok((stream, address)) => {
                     let number = self.accepted.next();
-                    let client = Connection::new(stream, address, number, self.log);
+                    let watch = self.watch.again().map_err(|_| PortFailed)?;
+                    let client = Connection::new(stream, address, number, watch);
                     client.tell_began(rt, alloc);
                     return Ok(client);
                 }

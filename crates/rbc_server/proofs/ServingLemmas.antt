@@ -1,9 +1,12 @@
 -- What comes of serving connections.
-use Rattle.std.proofs.Common.{◌≡◌, ℕ, ◌<◌, Bool, true, List, [], ◌∷◌, ◌++◌, get_or, length, map, set, Option, Some, None, Result, Ok, Err, refl, sym, ap, ◌∙◌, subst, inl, inr, lit≤, arith}
+use Rattle.std.proofs.Common.{◌≡◌, ℕ, ◌<◌, ◌==◌, Bool, true, false, List, [], ◌∷◌, ◌++◌, get_or, length, map, set, Option, Some, None, Result, Ok, Err, refl, sym, ap, ◌∙◌, subst, inl, inr, lit≤, arith}
+use Rattle.std.proofs.KnownBytes.{Appends-nil}
+use Rattle.std.proofs.lemmas.Bool.{eqb-true}
 use Rattle.std.proofs.lemmas.List.{length-append, length-map, take_all}
+use Rattle.std.specs.Global.{Vec}
 use Rattle.rbc_model.specs.Histories.{Receipt}
 use Rattle.rbc_model.specs.Tracks.{Track}
-use Rattle.std.specs.Prelude.{All, IsPermutation, IsTrue, IfOk, IfErr}
+use Rattle.std.specs.Prelude.{◌≤◌, All, IsPermutation, IsTrue, IfOk, IfErr, vec_len}
 use Rattle.std.specs.List.{AllZip}
 use Rattle.std.specs.Io.KnownBytes.{Appends}
 use Rattle.rbc_model.specs.Sessions.{WritesPart}
@@ -15,7 +18,7 @@ use Rattle.rbc_sessions.specs.Records.{HistoryOnTrack}
 use Rattle.rbc_sessions.specs.Seats.{Seated}
 use Rattle.rbc_sessions.specs.CloseFault.{CloseFault}
 use Rattle.rbc_server.specs.Connections.{AllButOneServed, AllServed, AllWhoComeServed, AreParted, Connection, OneKnows, StandsConnected}
-use Rattle.rbc_server.specs.Serving.{closed_line, AreKept, IsAttended, GoOn, IsBrought, IsClosed, IsCloseFault, IsCutOff, IsServed, IsServeFault, IsSweepFault, IsSwept, serve_fault}
+use Rattle.rbc_server.specs.Serving.{closed_line, AreKept, IsAttended, GoOn, IsBrought, IsClosed, IsCloseFault, IsCutOff, IsServed, IsServeFault, IsSweepFault, IsSwept, IsSweptBy, serve_fault}
 use Rattle.rbc_server.proofs.ConnectionLemmas.{no_more_came}
 use Rattle.rbc_server.specs.declared.connections.ConnectFault.{ConnectFault}
 use Rattle.rbc_server.specs.declared.connections.ConnectFault.TheVariants.{Port as NoConnection, Memory as NoThread, Journal as NotKeptInSession}
@@ -46,6 +49,31 @@ swept_with keeps coming partings staff served others brought swept heard seats s
   is_kept = is_kept;
   all = all;
 }
+
+-- whether there are workers, by their number
+pub none_there : {X : Type 0} (workers : Vec X) → (workers.len == 0) ≡ true → length workers.items ≡ 0
+none_there workers e = sym workers.ok.0 ∙ eqb-true workers.len 0 e
+
+-- where there are workers, such a sweep is what is owed
+pub swept_by : {L P : Type 0} (keeps : P → ℕ → Type 0) (coming : Option (List Coming)) (partings : List Parting) (staff : Staff L P) (seats : List Seated) (pens : List P) (outcomes : List Outcome) (workers : List Seated)
+    → 0 < length workers → IsSwept keeps coming partings staff seats pens outcomes → IsSweptBy workers keeps coming partings staff seats pens outcomes
+swept_by keeps coming partings staff seats pens outcomes [] some swept = absurd (omega (arith, some))
+swept_by keeps coming partings staff seats pens outcomes (worker ∷ workers) some swept = swept
+
+-- where there are none, nothing is owed behind the clients
+pub unswept_by : {L P : Type 0} (keeps : P → ℕ → Type 0) (track : Track) (coming : Option (List Coming)) (partings : List Parting) (staff : Staff L P) (seats : List Seated) (pens : List P) (old : Option (List ℕ))
+    → length staff.workers.items ≡ 0 → AreParted keeps coming staff.sittings.items seats pens partings → IsAttended keeps track coming partings staff seats pens old old
+unswept_by keeps track coming partings staff seats pens old none parted = record {
+  outcomes = [];
+  sweep = by staff.workers.items none;
+  told = [];
+  tells = refl;
+  written = Appends-nil old;
+}
+  where
+    by : (workers : List Seated) → length workers ≡ 0 → IsSweptBy workers keeps coming partings staff seats pens []
+    by [] none = (parted, refl)
+    by (worker ∷ workers) none = absurd (omega (arith, none))
 
 -- the first seat heard the others, and by its pen what was granted is kept
 pub swept_kept : {P : Type 0} (keeps : P → ℕ → Type 0) (others seats : List Seated) (pens : List P) (outcomes : List Outcome) (had told : Seated) (pen knows : P) → 0 < length seats → 0 < length pens
@@ -81,11 +109,27 @@ first_knows failed (p ∷ others) knows some broken = (knows, (0, omega arith, r
 
 -- where the sittings have served, there is a first seat
 pub first_is_there : {L P : Type 0} (keeps : P → ℕ → Type 0) (track : Track) (coming : Option (List Coming)) (partings : List Parting) (staff : Staff L P) (seats : List Seated) (pens : List P) (old new : Option (List ℕ))
-    → IsAttended keeps track coming partings staff seats pens old new → 0 < length seats
-first_is_there keeps track coming partings staff seats pens old new attended =
-    let sweep = attended.sweep in
-    let is_kept = sweep.is_kept in
-    omega (arith, ap (λ (l : List Seated). length l) (sweep.all ∙ ap (λ l. l ++ sweep.swept) is_kept.heard_is), length-append (is_kept.told ∷ is_kept.more) sweep.swept)
+    → 1 ≤ vec_len staff.sittings → IsAttended keeps track coming partings staff seats pens old new → 0 < length seats
+first_is_there {L} {P} keeps track coming partings staff seats pens old new some attended = by staff.workers.items attended.sweep
+  where
+    by : (workers : List Seated) → IsSweptBy workers keeps coming partings staff seats pens attended.outcomes → 0 < length seats
+    by [] unswept =
+        let parted = unswept.0 in
+        let cs = parted.connections.connections in
+        omega (
+          arith,
+          some,
+          staff.sittings.ok.0,
+          length-map cs (λ (c : Connection L P). c.before),
+          ap (λ (l : List (Sitting L P)). length l) parted.connections.before,
+          length-map cs (λ (c : Connection L P). c.after),
+          ap (λ (l : List (Sitting L P)). length l) parted.connections.after,
+          length-map parted.served (λ (s : Sitting L P). s.seat),
+          ap (λ (l : List Seated). length l) parted.seats_are,
+        )
+    by (worker ∷ workers) sweep =
+        let is_kept = sweep.is_kept in
+        omega (arith, ap (λ (l : List Seated). length l) (sweep.all ∙ ap (λ l. l ++ sweep.swept) is_kept.heard_is), length-append (is_kept.told ∷ is_kept.more) sweep.swept)
 
 pub served_then : {L P E : Type 0} (keeps : P → ℕ → Type 0) (r : Result HistoryOnTrack E) (opened : HistoryOnTrack) (coming : Option (List Coming)) (partings : List Parting) (staff : Staff L P) (seats : List Seated) (pens : List P)
     (old so_far new : Option (List ℕ)) → IsAttended keeps opened.track coming partings staff seats pens old so_far → IfOk r (IsClosed opened seats)

@@ -124,10 +124,16 @@ pub record IsSwept {L P : Type 0} (kept : P → ℕ → Type 0) (coming : Option
   pub is_kept : AreKept kept swept served served_pens outcomes heard pens
   pub all : seats ≡ heard ++ swept
 
--- The same, and what was written on this track tells the outcomes.
+-- Clients were served, and went so. Where there are workers, a sweep with these outcomes was made behind that. Where there are none, none was made: the
+-- seats and the pens came back as the clients left them, and there is no outcome.
+abbrev pub IsSweptBy : {L P : Type 0} → List Seated → (P → ℕ → Type 0) → Option (List Coming) → List Parting → Staff L P → List Seated → List P → List Outcome → Type 0
+IsSweptBy [] kept coming partings staff seats pens outcomes = AreParted kept coming staff.sittings.items seats pens partings × (outcomes ≡ [])
+IsSweptBy (worker ∷ workers) kept coming partings staff seats pens outcomes = IsSwept kept coming partings staff seats pens outcomes
+
+-- The same with all workers of this staff, and what was written on this track tells the outcomes.
 pub record IsAttended {L P : Type 0} (kept : P → ℕ → Type 0) (track : Track) (coming : Option (List Coming)) (partings : List Parting) (staff : Staff L P) (seats : List Seated) (pens : List P) (old new : Option (List ℕ)) : Type 0 where
   pub outcomes : List Outcome
-  pub sweep : IsSwept kept coming partings staff seats pens outcomes
+  pub sweep : IsSweptBy staff.workers.items kept coming partings staff seats pens outcomes
   pub told : List ℕ
   pub tells : TellsAll track outcomes told
   pub written : Appends old new told
@@ -138,8 +144,8 @@ pub record IsClosed (opened : HistoryOnTrack) (kept : List Seated) (log : Histor
   pub matches : Matches (all_receipts kept) log.entries (length opened.entries)
   pub goes_on : All (λ (seat : Seated). IsLater seat.told log) kept
 
--- Clients were served, and went so, and a sweep was made, at the desk that was opened with this history; then the desk was closed. This was written,
--- and these pens and this record came back.
+-- Clients were served, and went so, at the desk that was opened with this history, and a sweep was made, if there are workers; then the desk was closed.
+-- This was written, and these pens and this record came back.
 pub record IsServed {L P : Type 0} (kept : P → ℕ → Type 0) (opened : HistoryOnTrack) (coming : Option (List Coming)) (partings : List Parting) (staff : Staff L P) (pens : List P) (old new : Option (List ℕ)) (log : HistoryOnTrack) : Type 0 where
   pub seats : List Seated
   pub so_far : Option (List ℕ)
@@ -175,7 +181,7 @@ IsCloseFault opened parts kept old new (Close fault) = IsUnmatched opened parts 
 pub record IsCutOff {L P : Type 0} (kept : P → ℕ → Type 0) (track : Track) (coming : Option (List Coming)) (partings : List Parting) (staff : Staff L P) (pens : List P) (old new : Option (List ℕ)) : Type 0 where
   pub seats : List Seated
   pub outcomes : List Outcome
-  pub sweep : IsSwept kept coming partings staff seats pens outcomes
+  pub sweep : IsSweptBy staff.workers.items kept coming partings staff seats pens outcomes
   pub count : ℕ
   pub told : List ℕ
   pub tells : TellsAll track (take count outcomes) told

@@ -257,8 +257,8 @@ fn faulted<L: DeskName, P, Q, G>(
     }
 }
 
-/// Serves a client from each of the sittings. Once all sessions have ended a sweep is made with the workers' seats. Gives all
-/// seats back, in their order, with the pens and what is left of the clients.
+/// Serves a client from each of the sittings. Once all sessions have ended a sweep is made with the workers' seats, if there
+/// are any. Gives all seats back, in their order, with the pens and what is left of the clients.
 ///
 /// # Errors
 ///
@@ -286,7 +286,6 @@ fn attend<
 ) -> Result<(Parted<L, Q, G>, Closed<P>), Unserved<P, Q, G>>
     requires going { W.failed writer.old ≡ false }
     requires some { 1 ≤ vec_len staff.sittings }
-    requires workers { 1 ≤ vec_len staff.workers }
     requires few { vec_len staff.sittings + vec_len staff.workers ≤ 72 }
     ensures attended { IfOk result (λ back. IsAttended K.kept L.opened.track (P.coming port) (map C.parting back.0.gone.items)
         staff back.0.seats.items back.0.pens.items (W.written writer.old) (W.written writer.new)) }
@@ -304,6 +303,9 @@ fn attend<
     } = connect(rt, alloc, port, counter, sittings, workers.len());
     if let Some(fault) = fault {
         return Err(faulted(ServeFault::from(fault), visited, port));
+    }
+    if workers.is_empty() {
+        return Ok((visited, port));
     }
     match sweep_behind(rt, alloc, counter, &mut visited, workers, writer) {
         Ok(()) => Ok((visited, port)),
@@ -356,8 +358,8 @@ pub struct Served<Q, G> {
 
 /// Serves a client from each of the sittings at a desk, in the order in which they come, each in a session with a thread of
 /// its own. A fault of a session ends its connection, and no other: how each session ended is told by what is left of its
-/// client. Once all have ended, each train is served once more in a sweep with the workers' seats; its outcomes are printed,
-/// the desk is closed, and how many entries the record has is printed. A reply that tells of an entry is written, and an
+/// client. Once all have ended, each train is served once more in a sweep with the workers' seats, and its outcomes are printed;
+/// where there are no workers there is no sweep. Then the desk is closed, and how many entries the record has is printed. A reply that tells of an entry is written, and an
 /// outcome that does is printed, once the request that led to it is kept. The desk is ended on each way out.
 ///
 /// # Errors
@@ -392,7 +394,6 @@ pub fn serve<
 ) -> Result<Served<Q, G>, Unserved<P, Q, G>>
     requires going { W.failed writer.old ≡ false }
     requires some { 1 ≤ vec_len staff.sittings }
-    requires workers { 1 ≤ vec_len staff.workers }
     requires few { vec_len staff.sittings + vec_len staff.workers ≤ 72 }
 
     // The record goes on from the one at the desk's opening, and is legal.
@@ -402,9 +403,9 @@ pub fn serve<
 
     // The clients that came, in order, were served from the seats, in order: what each said was answered to it, line by
     // line, and what is left of it tells how far, and why no further. What led to the entries that it was told of is kept.
-    // The sweep is of a history that goes on from all that these sessions were told, and what it granted is kept too. No
-    // receipt is lost, and nothing that a seat was told. What was written tells what came of the sweep, and then how many
-    // entries the record has.
+    // Where there are workers, the sweep is of a history that goes on from all that these sessions were told, and what it
+    // granted is kept too; where there are none, there is none. No receipt is lost, and nothing that a seat was told. What was
+    // written tells what came of the sweep, and then how many entries the record has.
     ensures served { IfOk result (λ served. IsServed K.kept L.opened (P.coming port) (map C.parting served.clients.items)
         staff served.pens.items (W.written writer.old) (W.written writer.new) served.record) }
     ensures handed_on { OnOk result (W.held_back writer.new ≡ []) }

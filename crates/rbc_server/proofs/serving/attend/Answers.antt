@@ -1,8 +1,8 @@
-use Rattle.std.proofs.Common.{rules, ◌≡◌, Err, None, ap, map, refl, sym, subst}
+use Rattle.std.proofs.Common.{rules, ◌≡◌, Err, None, ap, map, refl, sym, ◌∙◌, subst}
 use Rattle.rbc_port.specs.Clients.{at_close}
 use Rattle.rbc_server.specs.Connections.{StandsConnected}
 use Rattle.rbc_server.specs.Serving.{IsAttended, IsServeFault}
-use Rattle.rbc_server.proofs.ServingLemmas.{connect_told, sweep_told}
+use Rattle.rbc_server.proofs.ServingLemmas.{connect_told, none_there, sweep_told, unswept_by}
 use Rattle.rbc_server.proofs.serving.attend.Goals as goal
 
 pub returns-in-Some-clause-fault : goal.returns-in-Some-clause-fault
@@ -19,6 +19,14 @@ returns-in-Some-clause-fault g c =
     subst (λ u. IsServeFault kept opened coming (g.P.Clients.coming (at_close u.port)) g.L.Ledger.parts (map g.C.Client.parting u.clients.items) staff u.pens.items old old u.fault) (sym c.faulted.ensures)
     (connect_told kept opened coming to_come g.L.Ledger.parts partings staff old old pens c.in-Some.fault c.from.result c.from.ensures
     (subst (StandsConnected kept coming to_come staff.sittings.items pens partings) c.in-Some.is c.connect-visited.ensures.stands))
+
+pub returns-then-is_empty-clause-attended : goal.returns-then-is_empty-clause-attended
+returns-then-is_empty-clause-attended g c =
+    let coming = g.P.Clients.coming c.args.port in
+    let connected = c.connect-visited.result in
+    let none : connected.fault ≡ None = search rules in
+    unswept_by g.K.Keeper.kept g.L.DeskName.opened.track coming (map g.C.Client.parting connected.parted.gone.items) c.args.staff connected.parted.seats.items connected.parted.pens.items
+    (g.W.Sink.written c.args.writer.now) (none_there c.args.staff.workers (sym c.is_empty.ensures ∙ c.if-is_empty.true)) (c.connect-visited.ensures.served none)
 
 pub returns-in-Ok-clause-attended : goal.returns-in-Ok-clause-attended
 returns-in-Ok-clause-attended g c =

@@ -1,9 +1,9 @@
-use Rattle.std.proofs.Common.{◌≡◌, Bool, true, false, length, refl, map, sym, subst, arith}
+use Rattle.std.proofs.Common.{◌≡◌, ◌<◌, Bool, true, false, List, length, refl, map, sym, subst, arith}
 use Rattle.std.specs.Prelude.{All, vec_len}
 use Rattle.rbc_port.specs.Clients.{FewerCome, at_close}
 use Rattle.rbc_sessions.specs.Later.{IsLater}
 use Rattle.rbc_sessions.specs.Seats.{Seated}
-use Rattle.rbc_server.proofs.ServingLemmas.{fewer_told, unclosed_told}
+use Rattle.rbc_server.proofs.ServingLemmas.{fewer_told, first_is_there, unclosed_told}
 use Rattle.rbc_server.proofs.serving.serve.Goals as goal
 
 not_true : (b : Bool) → (b ≡ true → ⊥) → b ≡ false
@@ -12,6 +12,11 @@ not_true false f = refl
 
 pub close_desk-requires : goal.close_desk-requires
 close_desk-requires g c = not_true (g.W.Sink.failed c.attend-attended.new.writer) (λ failed. c.in-Ok.ensures.write.1 failed)
+
+pub first_sight-told-requires : goal.first_sight-told-requires
+first_sight-told-requires g c =
+    subst (λ (seats : List Seated). 0 < length seats) (sym c.as_slice.ensures.value)
+    (first_is_there g.K.Keeper.kept _ _ _ c.args.staff _ _ _ _ c.requires.some c.in-Ok.ensures.attended)
 
 pub returns-in-Ok-close_desk-clause-told : goal.returns-in-Ok-close_desk-clause-told
 returns-in-Ok-close_desk-clause-told g c =

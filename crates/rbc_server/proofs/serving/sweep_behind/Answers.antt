@@ -1,4 +1,4 @@
-use Rattle.std.proofs.Common.{◌≡◌, ◌++◌, map, rules, refl, sym, subst, take}
+use Rattle.std.proofs.Common.{◌≡◌, ◌<◌, ◌++◌, List, length, map, rules, refl, sym, subst, take, arith}
 use Rattle.std.specs.Prelude.{All, IsPermutation}
 use Rattle.rbc_model.specs.SoundTracks.{IsSound}
 use Rattle.rbc_sessions.specs.Closing.{all_receipts}
@@ -7,7 +7,7 @@ use Rattle.rbc_sessions.specs.Seats.{Seated}
 use Rattle.std.specs.List.{AllZip}
 use Rattle.rbc_server.specs.Serving.{AreKept, IsBrought, IsTellable, TellsAll}
 use Rattle.rbc_server.proofs.OutcomeLemmas.{all_tellable}
-use Rattle.rbc_server.proofs.ServingLemmas.{swept_with}
+use Rattle.rbc_server.proofs.ServingLemmas.{swept_by, swept_with}
 use Rattle.rbc_server.proofs.serving.sweep_behind.Goals as goal
 
 pub keep_swept-requires-clause-told : goal.keep_swept-requires-clause-told
@@ -39,6 +39,7 @@ returns-clause-attended g c =
     let pens = c.args.visited.now.pens.items in
     let brought = c.bring_all-workers.result.items in
     let swept = c.sweep-workers.result.0.items in
+    let some : 0 < length c.args.workers.items = omega (arith, c.args.workers.ok.0, c.requires.workers) in
     let outcomes = c.in_ok-outcomes.outcomes.items in
     let heard = c.keep_swept.new.visited.seats.items in
     let last = c.keep_swept.new.visited.pens.items in
@@ -51,8 +52,9 @@ returns-clause-attended g c =
     let all : c.append.new.self.items ≡ heard ++ swept = search rules in
     λ coming partings staff same parted. record {
       outcomes = outcomes;
-      sweep = swept_with g.K.Keeper.kept coming partings staff served others brought swept heard c.append.new.self.items pens last outcomes parted c.as_slice.ensures.value
-          (subst (λ workers. AllZip (IsBrought others) workers brought) (sym same) c.bring_all-workers.ensures.brought) c.sweep-workers.ensures.seats trains answered gained is_kept all;
+      sweep = swept_by g.K.Keeper.kept coming partings staff c.append.new.self.items last outcomes staff.workers.items (subst (λ (l : List Seated). 0 < length l) (sym same) some)
+          (swept_with g.K.Keeper.kept coming partings staff served others brought swept heard c.append.new.self.items pens last outcomes parted c.as_slice.ensures.value
+          (subst (λ workers. AllZip (IsBrought others) workers brought) (sym same) c.bring_all-workers.ensures.brought) c.sweep-workers.ensures.seats trains answered gained is_kept all);
       told = printed.0;
       tells = subst (λ track. TellsAll track outcomes printed.0) of_desk (subst (λ l. TellsAll c.args.counter.now.track.now l printed.0) c.as_slice-5.ensures.value printed.1);
       written = printed.2;
@@ -66,6 +68,7 @@ returns-in_err-print_outcomes-clause-cut_off g c =
     let pens = c.args.visited.now.pens.items in
     let brought = c.bring_all-workers.result.items in
     let swept = c.sweep-workers.result.0.items in
+    let some : 0 < length c.args.workers.items = omega (arith, c.args.workers.ok.0, c.requires.workers) in
     let outcomes = c.in_ok-outcomes.outcomes.items in
     let heard = c.keep_swept.new.visited.seats.items in
     let last = c.keep_swept.new.visited.pens.items in
@@ -78,8 +81,9 @@ returns-in_err-print_outcomes-clause-cut_off g c =
     λ fault coming partings staff same parted. record {
       seats = heard ++ swept;
       outcomes = outcomes;
-      sweep = swept_with g.K.Keeper.kept coming partings staff served others brought swept heard (heard ++ swept) pens last outcomes parted c.as_slice.ensures.value
-          (subst (λ workers. AllZip (IsBrought others) workers brought) (sym same) c.bring_all-workers.ensures.brought) c.sweep-workers.ensures.seats trains answered gained is_kept refl;
+      sweep = swept_by g.K.Keeper.kept coming partings staff (heard ++ swept) last outcomes staff.workers.items (subst (λ (l : List Seated). 0 < length l) (sym same) some)
+          (swept_with g.K.Keeper.kept coming partings staff served others brought swept heard (heard ++ swept) pens last outcomes parted c.as_slice.ensures.value
+          (subst (λ workers. AllZip (IsBrought others) workers brought) (sym same) c.bring_all-workers.ensures.brought) c.sweep-workers.ensures.seats trains answered gained is_kept refl);
       count = part.0;
       told = part.1;
       tells = subst (λ track. TellsAll track (take part.0 outcomes) part.1) of_desk (subst (λ l. TellsAll c.args.counter.now.track.now (take part.0 l) part.1) c.as_slice-5.ensures.value part.2);

@@ -1,0 +1,93 @@
+//! Replies, found in the bytes that are written to a client.
+
+use crate::{Refusal, Tally};
+use std::str;
+
+/// How much of a line is looked at, in bytes: enough for `granted`, a train and a version.
+const HEAD: usize = 32;
+
+/// What the first line of a reply tells.
+#[derive(Clone, Copy, Debug, PartialEq, Eq)]
+pub enum Reply {
+    /// An event was entered, which led to this version.
+    Ok(u64),
+    /// An authority was granted, which led to this version.
+    Granted(u64),
+    /// A train may run no further.
+    Blocked,
+    /// The state or the scene is shown.
+    Shown,
+    /// The line was refused.
+    Refused(Refusal),
+}
+
+impl Reply {
+    /// The one that a line begins. None where the line begins none, such as the further lines of a grant or a scene.
+    fn begun_by(line: &[u8]) -> Option<Reply> {
+        let mut words = line.split(|byte| *byte == b' ');
+        match words.next()? {
+            b"ok" => Some(Reply::Ok(number(words.next()?)?)),
+            b"granted" => {
+                let _train = words.next()?;
+                Some(Reply::Granted(number(words.next()?)?))
+            }
+            b"blocked" => Some(Reply::Blocked),
+            b"state" | b"scene" => Some(Reply::Shown),
+            b"refused" => Some(Reply::Refused(Refusal::named(words.next()?))),
+            _ => None,
+        }
+    }
+}
+
+/// The number that a word writes.
+fn number(word: &[u8]) -> Option<u64> {
+    str::from_utf8(word).ok()?.parse().ok()
+}
+
+/// How far the line has come that is written to a client.
+#[derive(Drop)]
+pub struct Replies {
+    head: [u8; HEAD],
+    length: usize,
+}
+
+impl Replies {
+    /// A line that has not begun.
+    pub fn new() -> Replies {
+        Replies {
+            head: [0; HEAD],
+            length: 0,
+        }
+    }
+
+    /// Goes on through bytes that were written, and counts each reply whose first line ends in them.
+    pub fn pass(&mut self, bytes: &[u8], tally: &Tally) {
+        let mut lines = bytes.split(|byte| *byte == b'\n');
+        if let Some(rest) = lines.next() {
+            self.take(rest);
+        }
+        for line in lines {
+            self.end(tally);
+            self.take(line);
+        }
+    }
+
+    /// Goes on with a part of the line.
+    fn take(&mut self, part: &[u8]) {
+        for byte in part.iter().take(HEAD) {
+            if let Some(place) = self.head.get_mut(self.length) {
+                *place = *byte;
+                self.length = self.length.saturating_add(1);
+            }
+        }
+    }
+
+    /// Ends the line.
+    fn end(&mut self, tally: &Tally) {
+        let head = self.head.get(..self.length).unwrap_or(&[]);
+        if let Some(reply) = Reply::begun_by(head) {
+            tally.replied(reply);
+        }
+        self.length = 0;
+    }
+}
