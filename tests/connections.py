@@ -3,6 +3,8 @@
 
     connections TRACK CONNECTIONS WORKERS [CLIENT ..]
 
+With no workers, 0, there is no sweep.
+
 A step is a line: the number of a connection, and what it does. A connection is opened by its first step.
 
     1 open          nothing
@@ -73,7 +75,7 @@ def follow(steps, port):
 
 def main():
     track, count, workers, *client = sys.argv[1:]
-    server = Server("rbc", track, count, workers)
+    server = Server("rbc", track, count, int(workers))
     if not server.listening:
         sys.exit(f"the program does not listen: {server.told}")
     try:

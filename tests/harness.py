@@ -2,6 +2,7 @@
 loaded with, tests/faults.c and tests/recorder.c."""
 import functools
 import os
+import re
 import select
 import shutil
 import socket
@@ -13,6 +14,10 @@ ROOT = os.path.dirname(os.path.dirname(os.path.realpath(__file__)))
 LONGEST_WAIT = 60  # seconds
 GRANT_WORDS = ("granted", "message", "speed", "grade", "steps", "prices", "packet")  # each has a line behind it
 MOST_PORTS = 20  # that are tried, where others take them
+STAMP = r"\d+\.\d{3} s: "
+MINUTE = re.compile(rf"{STAMP}(\d+) lines, (\d+\.\d) a second; (\d+) entries, (\d+) left; ok (\d+), granted (\d+), blocked (\d+), shown (\d+), "
+                    r"refused (\d+)(?:: ([\w ,]+))?; (\d+) commits, at most (\d+\.\d{3}) ms; (\d+) connections")
+MINUTE_WORDS = ("lines", "rate", "entries", "left", "ok", "granted", "blocked", "shown", "refused", "kinds", "commits", "longest", "open")
 
 
 def program():
@@ -27,21 +32,22 @@ def free_port():
 
 
 class Server:
-    """The program, which serves a track on a port of the system's choice, with further words on its command line. Where it has no
-    workers it stays up until its standard input, a pipe, tells it to end."""
+    """The program, which serves a track on a port of the system's choice, with further words on its command line. With no workers
+    it makes no sweep. Where None is said of them it stays up until its standard input, a pipe, tells it to end."""
 
     def __init__(self, command, track, connections, workers, *further, environment=None, **how):
         for _ in range(MOST_PORTS):
             self.port = free_port()
             words = [command, "serve", track, "--port", str(self.port)]
-            words += ["--connections", str(connections), *(["--workers", str(workers)] if workers else ["--stay"]), *further]
-            how.update(stdin=subprocess.DEVNULL if workers else subprocess.PIPE, stdout=subprocess.PIPE, stderr=subprocess.PIPE, bufsize=0, env=environment)
+            ending = ["--stay"] if workers is None else ["--workers", str(workers)] if workers else ["--sweep", "no"]
+            words += ["--connections", str(connections), *ending, *further]
+            how.update(stdin=subprocess.PIPE if workers is None else subprocess.DEVNULL, stdout=subprocess.PIPE, stderr=subprocess.PIPE, bufsize=0, env=environment)
             self.process = subprocess.Popen(words, **how)
             self.listening = self.first_line() == f"listening {self.port}\n".encode()
             if self.listening:
                 return
             self.status, self.written, self.told = self.end()
-            if self.told != "rbc: no port\n":
+            if not self.told.startswith("rbc: no port\n"):
                 return
 
     def first_line(self):
@@ -57,6 +63,17 @@ class Server:
         finally:
             self.process.kill()
         return self.process.returncode, written.decode(), told.decode()
+
+
+def minutes_in(log):
+    """What the lines of a log tell that are told each minute."""
+    found = (MINUTE.fullmatch(line) for line in log.splitlines())
+    return [dict(zip(MINUTE_WORDS, minute.groups())) for minute in found if minute]
+
+
+def without_minutes(log):
+    """The other lines of a log."""
+    return [line for line in log.splitlines() if not MINUTE.fullmatch(line)]
 
 
 class Talk:
