@@ -7,6 +7,7 @@ _rbc() {
   fi
   case $before in
     --history | --journal) compopt -o default; return ;;
+    --sweep) COMPREPLY=($(compgen -W "yes no" -- "$word")); return ;;
     --port | --connections | --workers | --patience) return ;;
   esac
   case ${COMP_WORDS[1]} in
@@ -17,8 +18,8 @@ _rbc() {
     run) COMPREPLY=($(compgen -W "--history --journal --help" -- "$word")); compopt -o default ;;
     show) COMPREPLY=($(compgen -W "--each --page --help" -- "$word")); compopt -o default ;;
     track) COMPREPLY=($(compgen -W "--lines --help" -- "$word")); compopt -o default ;;
-    serve) COMPREPLY=($(compgen -W "--port --stay --connections --workers --patience --log --journal --help" -- "$word")); compopt -o default ;;
-    journal) COMPREPLY=($(compgen -W "--lines --first --renew --help" -- "$word")); compopt -o default ;;
+    serve) COMPREPLY=($(compgen -W "--port --stay --connections --workers --sweep --patience --log --journal --help" -- "$word")); compopt -o default ;;
+    journal) COMPREPLY=($(compgen -W "--lines --follow --first --renew --help" -- "$word")); compopt -o default ;;
     help) COMPREPLY=($(compgen -W "steps check decode draw run show track serve journal help" -- "$word")) ;;
   esac
 }
