@@ -2,7 +2,9 @@ pub mod Books
 pub mod Entries
 pub mod LegPlaces
 pub mod Presence
+pub use Rattle.rbc_extent.specs.Added
 pub use Rattle.rbc_extent.specs.Changes
 pub use Rattle.rbc_extent.specs.OnTracks
 pub use Rattle.rbc_extent.specs.SectionSets
+pub use Rattle.rbc_extent.specs.ToldTrains
 pub use Rattle.rbc_extent.specs.TrainsOnTracks

@@ -90,7 +90,7 @@ fn first_standing_on(trains: &Trains, section: SectionId) -> Option<TrainId>
     Some(standing.id())
 }
 
-/// The same trains, in the same order.
+/// A copy of the trains, in their order of arrival.
 fn copy_of(alloc: Global, trains: &Trains) -> Result<Trains, Memory>
     ensures { IfOk result (λ copy. copy.entries ≡ trains.now.entries) }
 {

@@ -6,5 +6,5 @@ mod places;
 mod presence;
 
 pub use book::{Along, Book};
-pub use rbc_extent::{Course, Line, Locks, Train, reported};
+pub use rbc_extent::{Course, Line, Locks, Places, Train, reported};
 pub use rbc_model::Memory;

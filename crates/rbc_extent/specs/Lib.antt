@@ -3,8 +3,10 @@ pub mod Findings
 pub mod PlacedTrains
 pub mod PlacingSteps
 pub mod Situations
+pub mod ToldTrains
 pub mod TrainsOnTracks
 pub mod Walks
 pub use Rattle.rbc_line.specs.OnTracks
 pub use Rattle.rbc_line.specs.SectionSets
+pub use Rattle.rbc_locks.specs.Added
 pub use Rattle.rbc_locks.specs.Changes

@@ -25,4 +25,4 @@ pub use rbc_line::Line;
 pub use rbc_locks::Locks;
 pub use rbc_model::{OrMemory, Refusal, Report};
 pub use reporting::reported;
-pub use train::Train;
+pub use train::{Places, Train};

@@ -5,6 +5,7 @@ ghost use Rattle.rbc_model.specs.Events.{with_authority, cut_at};
 ghost use Rattle.rbc_model.specs.Views.{start_of};
 ghost use Rattle.rbc_scene_laws.specs.Good.{IsGoodTrain};
 ghost use Rattle.rbc_extent.specs.PlacedTrains.{placed_train};
+ghost use Rattle.rbc_extent.specs.ToldTrains.{train_at};
 
 use crate::Placed;
 use crate::through::cut_ahead;
@@ -18,6 +19,22 @@ use std::marker::Model;
 pub(crate) struct Authority {
     pub(crate) from: u32,
     pub(crate) to: u32,
+}
+
+/// The places of a train on its line, in metres from the line's start: of the balise group that its last report counts
+/// from (the origin), of its min safe rear end and its front, and of its authority, from one up to another.
+#[derive(Clone, Copy)]
+pub struct Places {
+    /// The place of the balise group.
+    pub origin: u32,
+    /// The place of the first metre that the train may stand on.
+    pub rear: u32,
+    /// The place behind the last metre that the train may stand on.
+    pub front: u32,
+    /// The place of the first metre of its authority.
+    pub from: u32,
+    /// The place behind the last metre of its authority.
+    pub to: u32,
 }
 
 /// A train: its last report, its line, the place on it of the balise group that the report counts from (the origin),
@@ -64,6 +81,30 @@ impl Train {
         let (origin, rear, front) = (placed.origin(), placed.rear(), placed.front());
         let mut line = placed.into_line();
         cut_ahead(&mut line, report, front.max(to));
+        Train {
+            report: *report,
+            line,
+            origin,
+            rear,
+            front,
+            from,
+            to,
+        }
+    }
+
+    /// The train with this last report, on this line at these places. It takes no memory.
+    pub fn told(report: &Report, line: Line, places: Places) -> Train
+        requires { IsGoodTrain line.track (train_at line report.now places) }
+        ensures track { result.track ≡ line.track }
+        ensures train { result.train ≡ train_at line report.now places }
+    {
+        let Places {
+            origin,
+            rear,
+            front,
+            from,
+            to,
+        } = places;
         Train {
             report: *report,
             line,

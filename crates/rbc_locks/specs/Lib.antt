@@ -1,3 +1,4 @@
+pub mod Added
 pub mod Changes
 pub mod NextTables
 pub mod Room

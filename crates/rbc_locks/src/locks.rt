@@ -1,10 +1,11 @@
 //! The lock rows of a track's sections.
 
-ghost use Rattle.std.specs.Prelude.{◌≡◌, ◌<◌, length, IfOk, fold};
+ghost use Rattle.std.specs.Prelude.{◌≡◌, ◌<◌, length, IfOk, IfSome, fold};
 ghost use Rattle.std.specs.Result.{result_err};
 ghost use Rattle.rbc_model.specs.Locks.{no_locks, locked, freed, row, next, prev};
 ghost use Rattle.rbc_model.specs.Locks.{clash, taken_link, needed_rows, with_row};
 ghost use Rattle.rbc_scene_laws.specs.Good.{OneRowBehindEach};
+ghost use Rattle.rbc_locks.specs.Added.{added};
 ghost use Rattle.rbc_locks.specs.Changes.{ChangesAs};
 ghost use Rattle.rbc_locks.specs.Room.{HasRoom, HaveRoom, lock_refusal};
 
@@ -118,6 +119,31 @@ impl Locks {
         // A track is sound: a route has each section once, and enters no two of them from one leg.
         track.known();
         self.add_rows(route, asked);
+        Ok(())
+    }
+
+    /// Locks the section of a leg in its direction, for a route, and behind a leg if there is one. It takes no memory.
+    ///
+    /// # Errors
+    ///
+    /// The first of these, and nothing changes:
+    /// - `Clash`: the section is locked,
+    /// - `LinkTaken`: another section is locked behind the leg before.
+    pub fn add(&mut self, leg: Leg, route: RouteId, before: Option<Leg>) -> Result<(), Refusal>
+        requires leg { leg.section < length self.old }
+        requires before { IfSome before (λ behind. behind.section < length self.old) }
+        ensures added { ChangesAs result self.old self.new (added self.old route leg before) }
+        ensures sections { length self.new ≡ length self.old }
+    {
+        if self.row(leg.section).is_some() {
+            return Err(Refusal::Clash(leg.section));
+        }
+        if let Some(leg_before) = &before
+            && self.next(*leg_before).is_some()
+        {
+            return Err(Refusal::LinkTaken(*leg_before));
+        }
+        self.add_row(route, before, &leg);
         Ok(())
     }
 

@@ -79,8 +79,11 @@ pub const LEGS_A_LINE: usize = 64;
 /// How many trains a scene may have.
 pub const MOST_TRAINS: usize = 1_024;
 
-/// How many entries a history may have.
-pub const MOST_ENTRIES: usize = 100_000;
+/// How many entries a history may have where nothing else is said.
+pub const USUAL_ENTRIES: usize = 100_000;
+
+/// How many entries a history may be given room for, at most.
+pub const MOST_ENTRIES: usize = 50_000_000;
 
 /// What a train loses on one metre at most, whatever the level there and the one that it is given.
 pub const MOST_PRICE: u32 = 1_000_000;

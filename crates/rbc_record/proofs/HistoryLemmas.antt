@@ -1,8 +1,7 @@
 -- The beginnings of a legal history are legal, and what it promises part by part.
 use Rattle.std.proofs.Common.{◌≡◌, ℕ, zero, suc, ◌<◌, ◌≤◌, List, [], ◌∷◌, take, Some, refl, ap, sym, subst, arith}
 use Rattle.std.specs.Prelude.{slice_get}
-use Rattle.rbc_model.specs.Tracks.{Track}
-use Rattle.rbc_model.specs.Histories.{Entry, Granted, IsLegal, MayFollow}
+use Rattle.rbc_model.specs.Histories.{Beginning, Entry, Granted, IsLegal, MayFollow}
 use Rattle.rbc_record.specs.Headline.{EachEndIsFarthest, EachProfileIsBest}
 
 -- ---- beginnings
@@ -21,18 +20,18 @@ take_take (suc k) zero xs h = absurd (omega arith)
 take_take (suc k) (suc n) [] h = refl
 take_take (suc k) (suc n) (x ∷ xs) h = ap (λ ys. x ∷ ys) (take_take k n xs (omega arith))
 
-pub IsLegal-take : (track : Track) (entries : List Entry) (moment : ℕ) → IsLegal track entries → IsLegal track (take moment entries)
-IsLegal-take track entries moment legal place entry there =
+pub IsLegal-take : (begin : Beginning) (entries : List Entry) (moment : ℕ) → IsLegal begin entries → IsLegal begin (take moment entries)
+IsLegal-take begin entries moment legal place entry there =
     let whole = got_in_take moment entries place entry there in
     let low = whole.1 in
-    subst (λ before. MayFollow track before entry) (sym (take_take place moment entries (omega arith))) (legal place entry whole.0)
+    subst (λ before. MayFollow begin before entry) (sym (take_take place moment entries (omega arith))) (legal place entry whole.0)
 
 -- ---- parts of the promise
 
-pub EachEndIsFarthest-legal : (track : Track) (entries : List Entry) → IsLegal track entries → EachEndIsFarthest track entries
-EachEndIsFarthest-legal track entries legal moment grant train there known =
+pub EachEndIsFarthest-legal : (begin : Beginning) (entries : List Entry) → IsLegal begin entries → EachEndIsFarthest begin entries
+EachEndIsFarthest-legal begin entries legal moment grant train there known =
     (((legal moment (Granted grant) there).best grant refl).best train known).ends
 
-pub EachProfileIsBest-legal : (track : Track) (entries : List Entry) → IsLegal track entries → EachProfileIsBest track entries
-EachProfileIsBest-legal track entries legal moment grant train there known =
+pub EachProfileIsBest-legal : (begin : Beginning) (entries : List Entry) → IsLegal begin entries → EachProfileIsBest begin entries
+EachProfileIsBest-legal begin entries legal moment grant train there known =
     (((legal moment (Granted grant) there).best grant refl).best train known).profiles

@@ -6,7 +6,7 @@ use thiserror::Error;
 /// Why what is told is not entered.
 #[derive(Clone, Copy, Debug, PartialEq, Eq, Error)]
 pub enum ApplyFault {
-    /// The record has 100,000 entries.
+    /// The record has as many entries as it may have.
     #[error("the record is full")]
     Full,
     /// The scene refuses it.
@@ -17,7 +17,7 @@ pub enum ApplyFault {
 /// Why what a candidate would grant is not entered.
 #[derive(Clone, Copy, Debug, PartialEq, Eq, Error)]
 pub enum CommitFault {
-    /// The record has 100,000 entries.
+    /// The record has as many entries as it may have.
     #[error("the record is full")]
     Full,
     /// The record, which is at this version, shows the candidate's train another view, or none.

@@ -3,12 +3,11 @@
 ghost use Rattle.std.specs.Prelude.{◌≡◌, ◌++◌, ◌∷◌, ◌<◌, ◌≤◌, [], length, map, true, false, slice_get, option_map, None, Ok, Err, IfOk, IfSome, vec_len, vec_capacity};
 ghost use Rattle.std.specs.Arc.{arc_value};
 ghost use Rattle.std.specs.Option.{option_copied};
-ghost use Rattle.rbc_model.specs.declared.limits.TheConstants.{MOST_ENTRIES};
 ghost use Rattle.rbc_model.specs.declared.memory.OrMemory.TheVariants.{Refused};
 ghost use Rattle.rbc_model.specs.declared.refusals.ViewFault.TheVariants.{UnknownTrain};
 ghost use Rattle.rbc_model.specs.Answers.{AnswersOrMemory};
-ghost use Rattle.rbc_model.specs.Histories.{IsLegal, IsBestHistory};
-ghost use Rattle.rbc_model.specs.Scenes.{train_numbered};
+ghost use Rattle.rbc_model.specs.Histories.{IsLegal, IsBestHistory, empty_on};
+ghost use Rattle.rbc_model.specs.Scenes.{empty_scene, train_numbered};
 ghost use Rattle.rbc_model.specs.SoundTracks.{IsInForm};
 ghost use Rattle.rbc_model.specs.Views.{view};
 ghost use Rattle.rbc_grant.specs.Steps.{IsOfTrack};
@@ -17,24 +16,26 @@ ghost use Rattle.rbc_record.specs.declared.faults.CommitFault.TheVariants.{Full 
 ghost use Rattle.rbc_record.specs.Entries.{entry_of};
 ghost use Rattle.rbc_record.specs.Entering.{EntersOrMemory, as_apply_fault, entry_told, entry_granted, is_shown, refused_at_once};
 ghost use Rattle.rbc_record.specs.Present.{has_train};
-ghost use Rattle.rbc_record.specs.Records.{scene_now, is_full};
+ghost use Rattle.rbc_record.specs.Records.{IsRight, begin_of, begin_on, history_on, scene_now, is_full};
 
-use crate::{ApplyFault, CommitFault, Entry, Grant, Receipt};
+use crate::{ApplyFault, CommitFault, Entry, EntryLimit, Grant, Receipt};
 use rbc_grant::{Candidate, Scene, View};
-use rbc_model::limits::MOST_ENTRIES;
 use rbc_model::{Distance, Memory, OrMemory, Refusal, Told, TrainId, ViewFault};
 use rbc_track::Track;
 use std::alloc::Global;
 use std::marker::Model;
 use std::sync::Arc;
 
-/// All that was told and granted on a track, up to 100,000 entries, and the scene that it leads to.
+/// All that was told and granted on a track, the scene that it began with, and the scene that it leads to. It has no
+/// more entries than its limit says: 100,000 where nothing else is said.
 ///
 /// However it came about, each authority in it was the best for its train at its moment: no safe end that a message
 /// can give lies further, the obstacle that it names stood there, and no steps tell more of the track's speeds and
 /// gradients up to the end. And at no moment did a metre stand in the authorities of two trains.
 #[derive(Drop)]
 pub struct Record {
+    begin: Scene,
+    most: EntryLimit,
     scene: Scene,
     entries: Vec<Entry>,
 }
@@ -46,9 +47,14 @@ impl Model for Record {
 
     ghost Value = { HistoryOnTrack };
 
-    ghost view = { λ r. record { track = r.scene.track; entries = map entry_of r.entries.items } };
+    ghost view = { λ r. record {
+      track = r.scene.track;
+      begin = r.begin.scene;
+      most = r.most;
+      entries = map entry_of r.entries.items;
+    } };
 
-    ghost invariant = { λ r. IsKept r.scene (map entry_of r.entries.items) };
+    ghost invariant = { λ r. IsKept r.scene r.begin.scene r.most (map entry_of r.entries.items) };
 }
 
 /// A refusal of the scene as a refusal of the record.
@@ -77,15 +83,46 @@ impl Record {
     ///
     /// # Errors
     ///
-    /// `Memory`, where the allocator refuses room for the scene.
+    /// `Memory`, where the allocator refuses room for the scene or for the entries that there may be.
     pub fn new(alloc: Global, track: Arc<Track>) -> Result<Record, Memory>
-        ensures { IfOk result (λ r. r ≡ record { track = arc_value track; entries = [] }) }
+        ensures { IfOk result (λ r. r ≡ history_on (empty_on (arc_value track)) []) }
     {
-        track.known();
+        Record::with_limit(alloc, track, EntryLimit::usual())
+    }
+
+    /// The record of a track, in which nothing was told yet, and which may have so many entries.
+    ///
+    /// # Errors
+    ///
+    /// `Memory`, where the allocator refuses room for the scene or for the entries that there may be.
+    pub fn with_limit(alloc: Global, track: Arc<Track>, most: EntryLimit) -> Result<Record, Memory>
+        ensures { IfOk result (λ r.
+            r ≡ history_on (begin_on (arc_value track) (empty_scene (arc_value track)) most) []) }
+    {
         let scene = Scene::new(alloc, track)?;
+        Record::from(alloc, scene, most)
+    }
+
+    /// The record that begins with this scene, in which nothing was told yet, and which may have so many entries.
+    ///
+    /// # Errors
+    ///
+    /// `Memory`, where the allocator refuses room for the entries that there may be, or for the scene that it begins
+    /// with.
+    pub fn from(alloc: Global, scene: Scene, most: EntryLimit) -> Result<Record, Memory>
+        ensures { IfOk result (λ r. r ≡ history_on (begin_on scene.track scene.scene most) []) }
+    {
+        scene.track().known();
+        scene.known();
+        most.entries();
+        let begin = scene.copy(alloc)?;
+        // Room for all entries from the beginning on, so that they never move.
+        let entries = Vec::with_capacity(alloc, most.entries())?;
         Ok(Record {
+            begin,
+            most,
             scene,
-            entries: Vec::new(alloc),
+            entries,
         })
     }
 
@@ -96,18 +133,39 @@ impl Record {
         self.scene.track()
     }
 
-    /// Whatever the entries are, each was accepted after those before it. Each authority was the best at its place, and no
-    /// two ever overlapped. There are at most 100,000. This does nothing.
+    /// The scene that the history begins with.
+    pub fn begin(&self) -> &Scene
+        ensures { result.now.scene ≡ self.now.begin }
+    {
+        &self.begin
+    }
+
+    /// How many entries the record may have.
+    pub fn most(&self) -> EntryLimit
+        ensures { result ≡ self.now.most }
+    {
+        self.most
+    }
+
+    /// Whatever the entries are, each was accepted after those before it. Each authority was the best at its place, and
+    /// no two ever overlapped. There are no more than there may be. This does nothing.
     pub fn known(&self)
         ensures form { IsInForm self.now.track }
-        ensures legal { IsLegal self.now.track self.now.entries }
-        ensures best { IsBestHistory self.now.track self.now.entries }
-        ensures few { length self.now.entries ≤ MOST_ENTRIES }
+        ensures legal { IsLegal (begin_of self.now) self.now.entries }
+        ensures best { IsBestHistory (begin_of self.now) self.now.entries }
+        ensures few { length self.now.entries ≤ self.now.most }
     {
         let _ = &self.entries;
     }
 
-    /// How many entries the record has: 0 to 100,000.
+    /// It begins with a good scene, and may have 50,000,000 entries at most. This does nothing.
+    pub fn right(&self)
+        ensures { IsRight self.now }
+    {
+        let _ = &self.entries;
+    }
+
+    /// How many entries the record has: 0 to its limit.
     pub fn version(&self) -> u64
         ensures count { result ≡ length self.now.entries }
     {
@@ -132,7 +190,7 @@ impl Record {
     pub fn is_full(&self) -> bool
         ensures { result ≡ is_full self.now }
     {
-        self.entries.len() >= MOST_ENTRIES
+        self.entries.len() >= self.most.entries()
     }
 
     /// Why what is told would not be entered, where nothing has to grow to see it: `Full`, or what [`Scene::refusal`] tells.
@@ -153,7 +211,7 @@ impl Record {
     /// # Errors
     ///
     /// `Refused` with the first of these:
-    /// - `Full`, before all else: the record has 100,000 entries,
+    /// - `Full`, before all else: the record has as many entries as it may have,
     /// - `Refused` with the refusal of the scene.
     ///
     /// `Memory` comes in place of no refusal that [`Record::refusal`] tells.
@@ -182,7 +240,7 @@ impl Record {
     /// # Errors
     ///
     /// `Refused` with the first of these:
-    /// - `Full`, before all else: the record has 100,000 entries,
+    /// - `Full`, before all else: the record has as many entries as it may have,
     /// - `Stale` with the record's version: the record shows the candidate's train another view, or none.
     ///
     /// `Memory` may come in place of `Stale`, but not where there is no such train.
@@ -212,8 +270,8 @@ impl Record {
     ///
     /// # Errors
     ///
-    /// `Refused` with `Full`, before all else: the record has 100,000 entries. `Memory`, where the allocator refuses room
-    /// for the entry or for the train's line, or more keep the authority than can be counted.
+    /// `Refused` with `Full`, before all else: the record has as many entries as it may have. `Memory`, where the allocator
+    /// refuses room for the entry or for the train's line, or more keep the authority than can be counted.
     pub fn grant(
         &mut self,
         alloc: Global,
@@ -295,7 +353,7 @@ impl Record {
         &self.scene
     }
 
-    /// The same scene, apart from the record.
+    /// A copy of the scene that the history leads to, apart from the record.
     ///
     /// # Errors
     ///

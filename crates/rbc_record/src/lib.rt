@@ -3,6 +3,7 @@
 #![tactic(auto)]
 
 mod entry;
+mod entry_limit;
 mod faults;
 mod grant;
 mod history;
@@ -11,6 +12,7 @@ mod receipt;
 mod sameness;
 
 pub use entry::Entry;
+pub use entry_limit::EntryLimit;
 pub use faults::{ApplyFault, CommitFault};
 pub use grant::Grant;
 pub use history::Record;

@@ -45,11 +45,18 @@ impl Receipt {
         }
     }
 
-    /// How many entries stand before it: 0 to 99,999.
+    /// How many entries stand before it: 0 to 49,999,999.
     pub fn place(&self) -> u64
         ensures { result ≡ self.now.place }
     {
         self.place
+    }
+
+    /// The entry.
+    pub fn entry(&self) -> &Entry
+        ensures { entry_of result.now ≡ self.now.entry }
+    {
+        &self.entry
     }
 
     /// Whether it is for an entry that says just this.

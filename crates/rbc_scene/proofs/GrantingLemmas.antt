@@ -31,11 +31,11 @@ use Rattle.rbc_scene_laws.proofs.GrantingLemmas.{good_after_grant}
 use Rattle.rbc_scene_laws.proofs.LengtheningLemmas.{ahead_fully}
 use Rattle.rbc_scene_laws.proofs.OnLineLemmas.{IsLine-OnLine, OnLine, OnLine-IsLine, OnLine-left}
 use Rattle.rbc_reach_laws.proofs.ShownLemmas.{legs_shown}
-use Rattle.rbc_way.specs.OnTracks.{LineOnTrack}
-use Rattle.rbc_way.specs.TrainsOnTracks.{TrainOnTrack}
-use Rattle.rbc_way.specs.Books.{Book, HoldsOfTrain, book_with, scene_of, train_in}
-use Rattle.rbc_way.specs.Entries.{on_track}
-use Rattle.rbc_way.specs.Reaches.{BeginsWay}
+use Rattle.rbc_search.specs.OnTracks.{LineOnTrack}
+use Rattle.rbc_search.specs.TrainsOnTracks.{TrainOnTrack}
+use Rattle.rbc_search.specs.Books.{Book, HoldsOfTrain, book_with, scene_of, train_in}
+use Rattle.rbc_search.specs.Entries.{on_track}
+use Rattle.rbc_search.specs.Reaches.{BeginsWay}
 use Rattle.rbc_scene.specs.declared.granting.Granted.{Granted}
 use Rattle.rbc_scene.specs.Grants.{granted_train}
 use Rattle.rbc_scene.specs.ScenesOnTracks.{SceneOnTrack, IsKept, scene_on}

@@ -26,10 +26,10 @@ use Rattle.rbc_scene_laws.proofs.KeptLemmas.{good_empty_scene}
 use Rattle.rbc_scene_laws.proofs.LeavingLemmas.{good_without_train}
 use Rattle.rbc_scene_laws.proofs.LockingLemmas.{good_after_lock}
 use Rattle.rbc_scene_laws.proofs.ReportingLemmas.{good_after_report}
-use Rattle.rbc_way.specs.Changes.{ChangesAs}
-use Rattle.rbc_way.specs.TrainsOnTracks.{TrainOnTrack}
-use Rattle.rbc_way.specs.Books.{Book, HoldsOfTrain, book_with, book_without, scene_of, train_in}
-use Rattle.rbc_way.specs.Entries.{on_track}
+use Rattle.rbc_search.specs.Changes.{ChangesAs}
+use Rattle.rbc_search.specs.TrainsOnTracks.{TrainOnTrack}
+use Rattle.rbc_search.specs.Books.{Book, HoldsOfTrain, book_with, book_without, scene_of, train_in}
+use Rattle.rbc_search.specs.Entries.{on_track}
 use Rattle.rbc_scene.specs.ScenesOnTracks.{SceneOnTrack, IsKept, scene_on}
 use Rattle.rbc_scene.specs.Steps.{StepsTo, end_cut, end_given_back, is_crowded, told_at_once}
 

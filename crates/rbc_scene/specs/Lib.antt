@@ -1,6 +1,12 @@
 pub mod Grants
 pub mod ScenesOnTracks
 pub mod Steps
-pub use Rattle.rbc_way.specs.Entries
-pub use Rattle.rbc_way.specs.Reaches
-pub use Rattle.rbc_way.specs.TrainsOnTracks
+pub use Rattle.rbc_search.specs.Added
+pub use Rattle.rbc_search.specs.Books
+pub use Rattle.rbc_search.specs.Changes
+pub use Rattle.rbc_search.specs.Entries
+pub use Rattle.rbc_search.specs.OnTracks
+pub use Rattle.rbc_search.specs.Presence
+pub use Rattle.rbc_search.specs.Reaches
+pub use Rattle.rbc_search.specs.ToldTrains
+pub use Rattle.rbc_search.specs.TrainsOnTracks

@@ -4,7 +4,7 @@ use Rattle.rbc_model.specs.SoundTracks.{IsSound}
 use Rattle.rbc_model.specs.Locks.{Locks}
 use Rattle.rbc_model.specs.Scenes.{Scene}
 use Rattle.rbc_scene_laws.specs.Good.{IsGoodScene}
-use Rattle.rbc_way.specs.Books.{Book}
+use Rattle.rbc_search.specs.Books.{Book}
 
 -- a scene, and the track that it is of
 pub record SceneOnTrack : Type 0 where

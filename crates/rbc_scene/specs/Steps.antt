@@ -20,7 +20,7 @@ use Rattle.rbc_model.specs.Reports.{Report}
 use Rattle.rbc_model.specs.Trains.{Train}
 use Rattle.rbc_model.specs.Scenes.{Scene, train_numbered}
 use Rattle.rbc_model.specs.Views.{reach, stop}
-use Rattle.rbc_way.specs.Reaches.{BeginsWay}
+use Rattle.rbc_search.specs.Reaches.{BeginsWay}
 use Rattle.rbc_scene.specs.ScenesOnTracks.{SceneOnTrack}
 
 -- The call changed the old scene into the new one that the definition names, or it was refused as the definition says and the scene is the old one.

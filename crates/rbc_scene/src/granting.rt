@@ -12,10 +12,10 @@ ghost use Rattle.rbc_model.specs.Views.{start_of};
 ghost use Rattle.rbc_scene.specs.Grants.{granted_train};
 ghost use Rattle.rbc_scene.specs.Steps.{is_out_of_range};
 ghost use Rattle.rbc_scene_laws.specs.Good.{IsGoodLocks};
-ghost use Rattle.rbc_way.specs.Reaches.{BeginsWay, scene_of};
+ghost use Rattle.rbc_search.specs.Reaches.{BeginsWay, scene_of};
 
 use rbc_model::{Distance, Leg, Memory, OrMemory, Refusal};
-use rbc_way::{Book, Line, Locks, Train, reach};
+use rbc_search::{Book, Line, Locks, Train, reach};
 use std::alloc::Global;
 
 /// An authority from one place to another, and the train's line, continued to have its metres.

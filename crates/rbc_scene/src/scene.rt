@@ -12,6 +12,7 @@ ghost use Rattle.rbc_model.specs.Placing.{reported};
 ghost use Rattle.rbc_model.specs.Scenes.{empty_scene, train_numbered};
 ghost use Rattle.rbc_model.specs.Trains.{Train as KnownTrain};
 ghost use Rattle.rbc_scene.specs.Grants.{granted_train};
+ghost use Rattle.rbc_scene.specs.ScenesOnTracks.{scene_on};
 ghost use Rattle.rbc_scene_laws.specs.Good.{IsGoodScene};
 ghost use Rattle.rbc_scene.specs.Steps.{IsEventOfTrack, IsOfTrack, IsReportTold, LeadTo, MayNeedMemory, StepsOrMemory, StepsTo};
 ghost use Rattle.rbc_scene.specs.Steps.{end_cut, end_given_back, granted_at_once, is_crowded, is_out_of_range, reach_of, refused_at_once, told_at_once};
@@ -22,8 +23,8 @@ use rbc_model::{
     Distance, Event, Leg, Memory, Obstacle, OrMemory, Refusal, Report, RouteId, SectionId, Told,
     TrainId,
 };
+use rbc_search::{Book, Locks, Train, reach, reported};
 use rbc_track::Track;
-use rbc_way::{Book, Locks, Train, reach, reported};
 use std::alloc::Global;
 use std::marker::Model;
 use std::sync::Arc;
@@ -86,6 +87,15 @@ impl Scene {
         Ok(Scene { locks, book })
     }
 
+    /// The scene of these locks and these trains. It takes no memory.
+    pub fn of(locks: Locks, book: Book) -> Scene
+        requires { IsGoodScene book.track (scene_on locks book).scene }
+        ensures { result ≡ scene_on locks book }
+    {
+        book.track().known();
+        Scene { locks, book }
+    }
+
     /// The track.
     pub fn track(&self) -> &Arc<Track>
         ensures { arc_value result.now ≡ self.now.track }
@@ -122,7 +132,7 @@ impl Scene {
     ///
     /// `Refused` with the first of these:
     /// - `Crowded`: the train is new, and there are 1,024,
-    /// - `UnknownGroup`, `Offline`, `Unplaced` or `TooFar`, as [`rbc_way::reported`] says.
+    /// - `UnknownGroup`, `Offline`, `Unplaced` or `TooFar`, as [`rbc_search::reported`] says.
     ///
     /// `Memory` is told of a report that is not refused, and of no other.
     pub fn report(&mut self, alloc: Global, report: &Report) -> Result<(), OrMemory<Refusal>>

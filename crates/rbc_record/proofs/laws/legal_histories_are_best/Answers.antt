@@ -1,4 +1,4 @@
-use Rattle.rbc_scene_laws.proofs.KeptLemmas.{IsBestHistory-of_legal, NoMetreIsHeldTwice-legal}
+use Rattle.rbc_scene_laws.proofs.KeptLemmas.{IsBestHistory-of_legal, NoMetreIsHeldTwice-any}
 use Rattle.rbc_record.proofs.HistoryLemmas.{IsLegal-take, EachEndIsFarthest-legal, EachProfileIsBest-legal}
 use Rattle.rbc_record.proofs.laws.legal_histories_are_best.Goals as goal
 
@@ -15,4 +15,4 @@ pub returns-clause-profiles : goal.returns-clause-profiles
 returns-clause-profiles c = EachProfileIsBest-legal
 
 pub returns-clause-apart : goal.returns-clause-apart
-returns-clause-apart c = NoMetreIsHeldTwice-legal
+returns-clause-apart c = λ begin entries sound good legal. NoMetreIsHeldTwice-any begin entries sound good

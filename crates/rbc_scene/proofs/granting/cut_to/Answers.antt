@@ -1,6 +1,6 @@
 -- Some legs begin before the place, so some are left.
 use Rattle.std.proofs.Common.{◌-◌, length, take, ap, ◌∙◌, ◌≡◌, arith}
-use Rattle.rbc_way.specs.OnTracks.{LineOnTrack}
+use Rattle.rbc_search.specs.OnTracks.{LineOnTrack}
 use Rattle.rbc_scene.proofs.GrantingLemmas.{some_begun}
 use Rattle.rbc_scene.proofs.granting.cut_to.Goals as goal
 

@@ -4,7 +4,7 @@ use Rattle.rbc_model.specs.Tracks.{Track}
 use Rattle.rbc_model.specs.Lines.{Line}
 use Rattle.rbc_model.specs.Views.{is_expressible_end, is_safe, reach}
 use Rattle.rbc_scene_laws.specs.Good.{IsGoodLocks}
-use Rattle.rbc_way.specs.Reaches.{BeginsWay, scene_of}
+use Rattle.rbc_search.specs.Reaches.{BeginsWay, scene_of}
 use Rattle.rbc_model.specs.Events.{line_to}
 use Rattle.rbc_scene.proofs.GrantingLemmas.{safe, some_metres}
 use Rattle.rbc_scene.proofs.granting.granted_to.Goals as goal

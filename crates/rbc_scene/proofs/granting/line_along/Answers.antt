@@ -2,7 +2,7 @@
 use Rattle.std.proofs.Common.{◌≡◌, ◌<◌, ◌≤◌, take, ap, sym, ◌∙◌, subst, arith}
 use Rattle.rbc_model.specs.Lines.{IsLine, legs_begun_before, line_length}
 use Rattle.rbc_model.specs.Tracks.{Track}
-use Rattle.rbc_way.specs.OnTracks.{LineOnTrack}
+use Rattle.rbc_search.specs.OnTracks.{LineOnTrack}
 use Rattle.rbc_scene.proofs.GrantingLemmas.{copied_as, line_to-far, line_to-near}
 use Rattle.rbc_scene.proofs.granting.line_along.Goals as goal
 

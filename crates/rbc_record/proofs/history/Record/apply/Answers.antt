@@ -7,9 +7,9 @@ use Rattle.rbc_record.proofs.history.Record.apply.Goals as goal
 use Rattle.rbc_record.proofs.history.Record.apply.Goals.{After-append-place}
 
 -- with what was told the record keeps what it keeps
-kept : (c : After-append-place) → IsKept c.tell.new.self (map entry_of c.append-place.new.entries.items)
+kept : (c : After-append-place) → IsKept c.tell.new.self c.self.inside.begin.scene c.self.inside.most (map entry_of c.append-place.new.entries.items)
 kept c =
-    kept_after_told c.self.inside.scene c.tell.new.self c.self.inside.entries.items c.append-place.new.entries.items c.args.self.now c.self.view_is c.self.invariant
+    kept_after_told c.self.inside.scene c.tell.new.self c.self.inside.begin.scene c.self.inside.most c.self.inside.entries.items c.append-place.new.entries.items c.args.self.now c.self.view_is c.self.invariant
     (not_full c.args.self.now c.args.told.now (sym c.refusal.ensures.at_once ∙ c.in_default.is)) c.in-Ok.ensures.told.1 c.args.told.now
     (c.append-place.ensures.items ∙ ap (λ items. items ++ Heard c.args.told.now ∷ []) c.reserve.ensures.items) c.in-Ok.ensures.told.0
 

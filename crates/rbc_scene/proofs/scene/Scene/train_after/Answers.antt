@@ -5,8 +5,8 @@ use Rattle.std.specs.Arc.{arc_value}
 use Rattle.rbc_model.specs.Answers.{AnswersAs}
 use Rattle.rbc_model.specs.Placing.{reported}
 use Rattle.rbc_model.specs.Scenes.{train_numbered}
-use Rattle.rbc_way.specs.TrainsOnTracks.{TrainOnTrack}
-use Rattle.rbc_way.specs.Books.{train_in}
+use Rattle.rbc_search.specs.TrainsOnTracks.{TrainOnTrack}
+use Rattle.rbc_search.specs.Books.{train_in}
 use Rattle.rbc_scene.specs.ScenesOnTracks.{SceneOnTrack}
 use Rattle.rbc_scene.proofs.KeepingLemmas.{known_as}
 use Rattle.rbc_scene.proofs.scene.Scene.train_after.Goals as goal
