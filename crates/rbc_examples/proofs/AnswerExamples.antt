@@ -5,6 +5,7 @@ use Rattle.rbc_model.specs.declared.places.Format.TheVariants.{Far}
 use Rattle.rbc_model.specs.Levels.{speed_levels}
 use Rattle.rbc_table_laws.specs.LeastTables.{least_to, made, least_price, filled, greatest_prices, break_back, steps_back, first_row, steps_read, chosen_steps}
 use Rattle.rbc_model.specs.HistoryText.{history_text}
+use Rattle.rbc_model.specs.Histories.{empty_on}
 use Rattle.rbc_session_laws.specs.Answers.{grant_of, speed_prices_of, grade_prices_of, line_answer, turns_of, answers_of, entries_after}
 use Rattle.rbc_session_laws.specs.CheckAnswers.{check_answers_of, are_all_certified}
 use Rattle.rbc_examples.specs.Places.{single, double}
@@ -26,7 +27,7 @@ abbrev feed : List ℕ
 feed = 10 ∷ []
 
 -- a route is locked, a train reports and asks, and a train asks that is not there
-session_computed : answers_of single []
+session_computed : answers_of (empty_on single) []
     (codes "lock Along" ++ feed ++ codes "report 1 5/17 nominal 300 5 5 200 1000" ++ feed ++ codes "ask 1" ++ feed ++ codes "ask 2")
     ≡ codes "ok 1" ++ feed
     ++ codes "ok 2" ++ feed
@@ -57,7 +58,7 @@ two_trains =
     ++ codes "ask 2" ++ feed
     ++ codes "asks 2"
 
-two_trains_computed : answers_of double [] two_trains
+two_trains_computed : answers_of (empty_on double) [] two_trains
     ≡ codes "ok 1" ++ feed
     ++ codes "refused UnknownName Nowhere" ++ feed
     ++ codes "ok 2" ++ feed
@@ -81,7 +82,7 @@ unfolding digits turns_of line_answer grant_of speed_prices_of grade_prices_of c
 two_trains_computed = refl
 
 -- its history as a text has a line for each entry, and none for what was refused
-two_trains_told : history_text double (entries_after double [] two_trains)
+two_trains_told : history_text double (entries_after (empty_on double) [] two_trains)
     ≡ codes "lock Along" ++ feed
     ++ codes "lock Onward" ++ feed
     ++ codes "report 1 5/17 nominal 300 5 5 200 1000" ++ feed

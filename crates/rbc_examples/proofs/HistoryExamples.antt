@@ -8,7 +8,7 @@ use Rattle.rbc_model.specs.Trains.{Train}
 use Rattle.rbc_model.specs.Scenes.{train_numbered}
 use Rattle.rbc_model.specs.Reports.{Report}
 use Rattle.rbc_model.specs.declared.reports.Told.TheVariants.{Report as ToldReport, Lock as ToldLock}
-use Rattle.rbc_model.specs.Histories.{MayFollow, IsBest, Stops, scene_at, IsBestHistory, Entry, Heard, Granted, Grants, IsBestFor, IsLegal, replay}
+use Rattle.rbc_model.specs.Histories.{Beginning, MayFollow, IsBest, Stops, scene_at, IsBestHistory, Entry, Heard, Granted, Grants, IsBestFor, IsLegal, empty_on, replay}
 use Rattle.rbc_model.proofs.EndLemmas.{IsSafe-is_safe}
 use Rattle.rbc_model.proofs.LegalLemmas.{IsBestHistory-legal, AuthoritiesAreApart-one_train, IsLegal-empty, IsLegal-append}
 use Rattle.rbc_model.specs.Levels.{speed_levels, grade_levels}
@@ -23,6 +23,10 @@ use Rattle.rbc_model.specs.declared.reports.Told.{Told}
 use Rattle.rbc_model.specs.declared.reports.Event.TheVariants.{Tell}
 use Rattle.rbc_model.proofs.TableLemmas.{fits_by_tests, best_of_no_loss}
 use Rattle.rbc_examples.specs.Places.{single, plus}
+
+-- the history begins with the empty scene
+abbrev begin : Beginning
+begin = empty_on single
 
 abbrev pub report : Report
 report = record { train = 1; group = record { country = 5; number = 17 }; nominal = true; distance = 300; over = 5; under = 5; length = 200; time = 1000 }
@@ -45,24 +49,24 @@ abbrev train : Train
 train = record { report = report; line = plus 0 ∷ []; origin = 0; rear = 95; front = 305; from = 305; to = 305 }
 
 -- its line ends 1,000 metres from the group
-stands_there : obstacle single (replay single before) train 1000 ≡ Some (NoLink (plus 0))
+stands_there : obstacle single (replay begin before) train 1000 ≡ Some (NoLink (plus 0))
 stands_there = refl
 
-safe_there : IsSafe single (replay single before) train 1000
-safe_there = IsSafe-is_safe single (replay single before) train 1000 refl
+safe_there : IsSafe single (replay begin before) train 1000
+safe_there = IsSafe-is_safe single (replay begin before) train 1000 refl
 
 not_both : (o : Option Obstacle) (x : Obstacle) → o ≡ Some x → o ≡ None → ⊥
 not_both o x some none = cc
 
-none_beyond : (farther : ℕ) → 1000 < farther → IsSafe single (replay single before) train farther → ⊥
-none_beyond farther beyond s = not_both (obstacle single (replay single before) train 1000) (NoLink (plus 0)) stands_there (s.clear 1000 (lit≤ tt) beyond)
+none_beyond : (farther : ℕ) → 1000 < farther → IsSafe single (replay begin before) train farther → ⊥
+none_beyond farther beyond s = not_both (obstacle single (replay begin before) train 1000) (NoLink (plus 0)) stands_there (s.clear 1000 (lit≤ tt) beyond)
 
 -- the speeds and gradients from the group on
 abbrev speeds_ahead : ℕ → Option ℕ
-speeds_ahead = speeds_from single (way single (replay single before) train) 0
+speeds_ahead = speeds_from single (way single (replay begin before) train) 0
 
 abbrev grades_ahead : ℕ → Option ℤ
-grades_ahead = grades_from single (way single (replay single before) train) 0
+grades_ahead = grades_from single (way single (replay begin before) train) 0
 
 -- they are the same all along, so one step each loses nothing
 speeds_best : IsBestProfile speed_levels 1 31 1000 speeds_ahead ((0, 100) ∷ [])
@@ -72,10 +76,10 @@ grades_best : IsBestProfile grade_levels 1 31 1000 grades_ahead ((0, negsuc 4) �
 grades_best = best_of_no_loss grade_levels 1 31 1000 grades_ahead _ (fits_by_tests grade_levels 1 31 1000 grades_ahead _ refl refl refl (lit≤ tt) refl refl) refl
 
 -- it is the first obstacle
-stopped_there : Stops single (replay single before) train 1000 (NoLink (plus 0)) 1000
+stopped_there : Stops single (replay begin before) train 1000 (NoLink (plus 0)) 1000
 stopped_there = record { beyond = lit≤ tt; on_way = lit≤ tt; real = stands_there; first = λ i low high. safe_there.clear i low high }
 
-grant_is_best : IsBestFor single (replay single before) grant train
+grant_is_best : IsBestFor single (replay begin before) grant train
 grant_is_best =
     record {
       time = refl;
@@ -85,7 +89,7 @@ grant_is_best =
       ends = record {
         expressible = refl;
         safe = safe_there;
-        farthest = λ farther told beyond s. none_beyond farther beyond (let t : IsSafe single (replay single before) train farther = rw zero-add at s in t);
+        farthest = λ farther told beyond s. none_beyond farther beyond (let t : IsSafe single (replay begin before) train farther = rw zero-add at s in t);
         place = 1000;
         stopped = stopped_there;
       };
@@ -97,22 +101,22 @@ entries = before ++ Granted grant ∷ []
 
 -- ---- grants that are not the best: an end that is too near, another obstacle, another start
 
-not_best : (wrong : Grants) → (IsBestFor single (replay single before) wrong train → ⊥)
-    → IsBest single (replay single before) wrong
-    → train_numbered (replay single before) wrong.train ≡ Some train → ⊥
+not_best : (wrong : Grants) → (IsBestFor single (replay begin before) wrong train → ⊥)
+    → IsBest single (replay begin before) wrong
+    → train_numbered (replay begin before) wrong.train ≡ Some train → ⊥
 not_best wrong refused h there = refused (h.best train there)
 
-pub too_near : IsBest single (replay single before) (record grant { authority = record grant.authority { end = 900 } }) → ⊥
+pub too_near : IsBest single (replay begin before) (record grant { authority = record grant.authority { end = 900 } }) → ⊥
 too_near h = not_best _ (λ b. b.ends.farthest 1000 refl (lit≤ tt) safe_there) h refl
 
 other_obstacle : NoLink (plus 0) ≡ Limit → ⊥
 other_obstacle e = cc
 
-pub stopped_by_another : IsBest single (replay single before) (record grant { obstacle = Limit }) → ⊥
+pub stopped_by_another : IsBest single (replay begin before) (record grant { obstacle = Limit }) → ⊥
 stopped_by_another h = not_best _ (λ b. let s = b.ends.stopped in other_obstacle (the_obstacle (NoLink (plus 0)) Limit (at_end b.ends.place s.beyond s.on_way s.real))) h refl
   where
-    at_end : (place : ℕ) → 1000 ≤ place → place ≤ 1000 → obstacle single (replay single before) train place ≡ Some Limit → obstacle single (replay single before) train 1000 ≡ Some Limit
-    at_end place beyond near = subst (λ i. obstacle single (replay single before) train i ≡ Some Limit) (let e : place ≡ 1000 = omega arith in e)
+    at_end : (place : ℕ) → 1000 ≤ place → place ≤ 1000 → obstacle single (replay begin before) train place ≡ Some Limit → obstacle single (replay begin before) train 1000 ≡ Some Limit
+    at_end place beyond near = subst (λ i. obstacle single (replay begin before) train i ≡ Some Limit) (let e : place ≡ 1000 = omega arith in e)
 
     the_obstacle : (a b : Obstacle) → Some a ≡ Some b → a ≡ b
     the_obstacle a b e = cc
@@ -123,40 +127,40 @@ other_start a b e below = let same = the_number a b e in omega arith
     the_number : (a b : ℕ) → pos a ≡ pos b → a ≡ b
     the_number a b e = cc
 
-pub from_behind : IsBest single (replay single before) (record grant { from = pos 304 }) → ⊥
+pub from_behind : IsBest single (replay begin before) (record grant { from = pos 304 }) → ⊥
 from_behind h = not_best _ (λ b. other_start 304 305 b.from (lit< tt)) h refl
 
 -- ---- the whole history
 
 -- what is told may always follow, where it is accepted
-told_may_follow : (earlier : List Entry) (told : Told) → is_ok (step single (replay single earlier) (Tell told)) ≡ true → MayFollow single earlier (Heard told)
+told_may_follow : (earlier : List Entry) (told : Told) → is_ok (step single (replay begin earlier) (Tell told)) ≡ true → MayFollow begin earlier (Heard told)
 told_may_follow earlier told accepted = record { accepted = accepted; best = λ g e. absurd cc }
 
 -- and so may the grant
-grant_may_follow : MayFollow single before (Granted grant)
+grant_may_follow : MayFollow begin before (Granted grant)
 grant_may_follow =
     record {
       accepted = refl;
-      best = λ g e. subst (IsBest single (replay single before)) (the_grant grant g e) (record { train_is_there = refl; best = λ t there. subst (IsBestFor single (replay single before) grant) (same_Some train t there) grant_is_best });
+      best = λ g e. subst (IsBest single (replay begin before)) (the_grant grant g e) (record { train_is_there = refl; best = λ t there. subst (IsBestFor single (replay begin before) grant) (same_Some train t there) grant_is_best });
     }
   where
     the_grant : (g h : Grants) → Granted g ≡ Granted h → g ≡ h
     the_grant g h e = cc
 
-pub history_is_legal : IsLegal single entries
+pub history_is_legal : IsLegal begin entries
 history_is_legal =
-    IsLegal-append single before (Granted grant)
-    (IsLegal-append single (Heard (ToldLock 0) ∷ []) (Heard (ToldReport report))
-    (IsLegal-append single [] (Heard (ToldLock 0)) (IsLegal-empty single) (told_may_follow [] (ToldLock 0) refl))
+    IsLegal-append begin before (Granted grant)
+    (IsLegal-append begin (Heard (ToldLock 0) ∷ []) (Heard (ToldReport report))
+    (IsLegal-append begin [] (Heard (ToldLock 0)) (IsLegal-empty begin) (told_may_follow [] (ToldLock 0) refl))
     (told_may_follow (Heard (ToldLock 0) ∷ []) (ToldReport report) refl))
     grant_may_follow
 
 -- at no moment is there more than one train
 abbrev few_trains : ℕ → Bool
-few_trains moment = nat_le (length (scene_at single entries moment).trains) 1
+few_trains moment = nat_le (length (scene_at begin entries moment).trains) 1
 
-pub history_is_best : IsBestHistory single entries
+pub history_is_best : IsBestHistory begin entries
 history_is_best =
-    IsBestHistory-legal single entries history_is_legal
-    (λ moment within. AuthoritiesAreApart-one_train single (scene_at single entries moment)
-    (leb-true (length (scene_at single entries moment).trains) 1 (all_below-holds 4 few_trains refl moment (omega arith))))
+    IsBestHistory-legal begin entries history_is_legal
+    (λ moment within. AuthoritiesAreApart-one_train single (scene_at begin entries moment)
+    (leb-true (length (scene_at begin entries moment).trains) 1 (all_below-holds 4 few_trains refl moment (omega arith))))

@@ -23,7 +23,7 @@ use Rattle.rbc_model.specs.Obstacles.{obstacle, way}
 use Rattle.rbc_model.specs.Views.{View, view, view_to, shown_up_to, view_of, start_of, IsSafe, is_safe, is_expressible_end, way_end, reach, stop, greatest_end}
 use Rattle.rbc_model.specs.Events.{step, with_train, with_authority, line_to}
 use Rattle.rbc_model.specs.declared.reports.Event.TheVariants.{Grant}
-use Rattle.rbc_model.specs.Histories.{Entry, Granted, Grants, Stops, IsBestFor, IsBest, MayFollow, replay}
+use Rattle.rbc_model.specs.Histories.{Beginning, Entry, Granted, Grants, Stops, IsBestFor, IsBest, MayFollow, replay}
 use Rattle.rbc_model.proofs.ScanLemmas.{IsLast, filter-numbers, le_or_lt}
 use Rattle.rbc_model.proofs.EndLemmas.{IsStopped, IsGreatestEnd, IsGreatestEnd-greatest_end, none_safe-greatest_end, is_safe-IsSafe, le_reach-IsSafe, reach-le, reach-EndsFarthest, obstacle-before_reach}
 use Rattle.rbc_model.proofs.StopLemmas.{IsStopped-reach}
@@ -334,10 +334,10 @@ is_ok-best track scene grant best =
     (with_train scene (with_authority t.0 (line_to track scene t.0 to) (start_of t.0) to))
     (and_from (is_safe track scene t.0 to) (is_expressible_end track t.0 to) (is_safe-IsSafe track scene t.0 to b.ends.safe) (expressible_at track t.0 grant.authority.end b.ends.expressible)))
 
-pub MayFollow-best : (track : Track) (before : List Entry) (grant : Grants) → IsBest track (replay track before) grant → MayFollow track before (Granted grant)
-MayFollow-best track before grant best = record {
-  accepted = is_ok-best track (replay track before) grant best;
-  best = λ other same. subst (IsBest track (replay track before)) (let e : grant ≡ other = cc in e) best;
+pub MayFollow-best : (begin : Beginning) (before : List Entry) (grant : Grants) → IsBest begin.track (replay begin before) grant → MayFollow begin before (Granted grant)
+MayFollow-best begin before grant best = record {
+  accepted = is_ok-best begin.track (replay begin before) grant best;
+  best = λ other same. subst (IsBest begin.track (replay begin before)) (let e : grant ≡ other = cc in e) best;
 }
 
 -- a grant that a view allows is accepted
@@ -345,9 +345,9 @@ pub is_ok-candidate : (track : Track) (scene : Scene) (number : ℕ) (v : View) 
 is_ok-candidate track scene number v grant form h c = is_ok-best track scene grant (IsBest-candidate track scene number v grant form h c)
 
 -- and it may follow in each history whose replay is a scene with this view
-pub MayFollow-candidate : (track : Track) (before : List Entry) (scene : Scene) (number : ℕ) (v : View) (grant : Grants) → IsInForm track → replay track before ≡ scene → view track scene number ≡ Ok v → IsCandidateOf v grant → MayFollow track before (Granted grant)
-MayFollow-candidate track before scene number v grant form same h c =
-    MayFollow-best track before grant (IsBest-candidate track (replay track before) number v grant form (ap (λ s. view track s number) same ∙ h) c)
+pub MayFollow-candidate : (begin : Beginning) (before : List Entry) (scene : Scene) (number : ℕ) (v : View) (grant : Grants) → IsInForm begin.track → replay begin before ≡ scene → view begin.track scene number ≡ Ok v → IsCandidateOf v grant → MayFollow begin before (Granted grant)
+MayFollow-candidate begin before scene number v grant form same h c =
+    MayFollow-best begin before grant (IsBest-candidate begin.track (replay begin before) number v grant form (ap (λ s. view begin.track s number) same ∙ h) c)
 
 -- ---- where the obstacle stands
 

@@ -127,6 +127,11 @@ pub record IsMoved (track : Track) (group : BaliseGroup) (report : Report) (star
   pub has_told : has_leg stays (leg_told group report) ≡ true
   pub one : (line_length track gone ≡ 0) ⊎ (line_length track added ≡ 0)
   pub front : front_on track group report line ≤ line_length track line
+  pub rear : rear_on track group report line + (report.over + report.length) ≡ origin_on track group report line + report.distance
+
+-- the rear of a line that has it is as far behind the front end as is told
+rear_there : (origin other distance behind : ℕ) → origin ≡ other → behind ≤ other + distance → origin + distance - behind + behind ≡ origin + distance
+rear_there origin other distance behind same low = omega (arith, same, low)
 
 -- nothing is added behind a line that has the rear; one that lacks it lost nothing
 not_both : (gone back stay origin distance behind rear : ℕ) → stay + distance < behind → origin ≡ gone + stay → rear ≡ origin + distance - behind → gone ≤ rear → gone ≡ 0
@@ -188,6 +193,11 @@ module _ (track : Track) (locks : Locks) (group : BaliseGroup) (report : Report)
         has_told = stays_told;
         one = elim (cases_Bool (has_rear track group report stays_legs)) [ inl e ↦ inr (nothing_added mid b h e) | inr e ↦ inl (nothing_gone e) ];
         front = leb-true (front_on track group report line) (line_length track line) front.1;
+        rear =
+            let mid_told = subst (λ l. has_leg l (leg_told group report) ≡ true) (sym b.is) (has_leg-right b.more stays_legs (leg_told group report) stays_told) in
+            let same = ap (origin_on track group report) f.is ∙ origin-append_left track group report mid f.more mid_told in
+            rear_there (origin_on track group report line) (origin_on track group report mid) report.distance (report.over + report.length) same
+            (leb-true (report.over + report.length) (origin_on track group report mid + report.distance) back.1);
       }
 
   pub is_moved : covered track locks group report (without_legs_behind track group report start) ≡ Some line → IsMoved track group report start line

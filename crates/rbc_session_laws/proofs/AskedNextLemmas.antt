@@ -7,11 +7,10 @@ use Rattle.rbc_model.specs.Words.{line_of, hex_of}
 use Rattle.rbc_model.specs.Kinds.{speed_kind, grade_kind}
 use Rattle.rbc_model.specs.Messages.{message_bytes}
 use Rattle.rbc_model.specs.StepsReply.{certificate}
-use Rattle.rbc_model.specs.Tracks.{Track}
 use Rattle.rbc_model.specs.Trains.{Train}
 use Rattle.rbc_model.specs.declared.refusals.ViewFault.TheVariants.{UnknownTrain}
 use Rattle.rbc_model.specs.Views.{View, greatest_end, shown_up_to, start_of, stop, view, view_of, view_to}
-use Rattle.rbc_model.specs.Histories.{Entry, Grants, replay}
+use Rattle.rbc_model.specs.Histories.{Beginning, Entry, Grants, replay}
 use Rattle.rbc_model.specs.SceneLines.{distance_word, end_word}
 use Rattle.rbc_model.specs.SessionReply.{grant_reply, obstacle_words, Full}
 use Rattle.rbc_grant_laws.proofs.CandidateLemmas.{view-train}
@@ -21,17 +20,17 @@ use Rattle.rbc_session_laws.specs.AskedNext.{AnswersAsNext, BeginsWith, NextsAre
 first_of_five : (a b c d e : List ℕ) → a ++ b ++ c ++ d ++ e ≡ a ++ (b ++ c ++ d ++ e)
 first_of_five a b c d e = ap (λ t. t ++ d ++ e) (append_assoc a b c) ∙ ap (λ t. t ++ e) (append_assoc a (b ++ c) d) ∙ append_assoc a (b ++ c ++ d) e
 
-module _ (track : Track) (before : List Entry) (number : ℕ) (train : Train) where
+module _ (begin : Beginning) (before : List Entry) (number : ℕ) (train : Train) where
   words_to : ℕ → ℕ → List (List ℕ)
   words_to asker end =
-      codes "granted" ∷ decimal asker ∷ decimal (length before + 1) ∷ distance_word train (start_of train) ∷ end_word train (Some end) ∷ obstacle_words track (stop track (replay track before) train)
+      codes "granted" ∷ decimal asker ∷ decimal (length before + 1) ∷ distance_word train (start_of train) ∷ end_word train (Some end) ∷ obstacle_words begin.track (stop begin.track (replay begin before) train)
 
   -- the words of a grant's first line
   told_words : Grants → List (List ℕ)
   told_words grant =
-      codes "granted" ∷ decimal grant.train ∷ decimal (length before + 1) ∷ signed_decimal grant.from ∷ decimal grant.authority.end ∷ obstacle_words track grant.obstacle
+      codes "granted" ∷ decimal grant.train ∷ decimal (length before + 1) ∷ signed_decimal grant.from ∷ decimal grant.authority.end ∷ obstacle_words begin.track grant.obstacle
 
-  begins : (shown : View) (grant : Grants) (speed_rows grade_rows : List (List ℕ)) → BeginsWith (told_words grant) (grant_reply track (length before + 1) shown grant speed_rows grade_rows)
+  begins : (shown : View) (grant : Grants) (speed_rows grade_rows : List (List ℕ)) → BeginsWith (told_words grant) (grant_reply begin.track (length before + 1) shown grant speed_rows grade_rows)
   unfolding told_words
   begins shown grant speed_rows grade_rows =
       let message = line_of (codes "message" ∷ hex_of (message_bytes grant.authority) ∷ []) in
@@ -40,29 +39,29 @@ module _ (track : Track) (before : List Entry) (number : ℕ) (train : Train) wh
       let done = line_of (codes "done" ∷ []) in
       (message ++ speeds ++ grades ++ done, first_of_five (line_of (told_words grant)) message speeds grades done)
 
-  words_are : (end : ℕ) → train.report.train ≡ number → told_words (grant_of (view_to track (replay track before) train end)) ≡ words_to number end
+  words_are : (end : ℕ) → train.report.train ≡ number → told_words (grant_of (view_to begin.track (replay begin before) train end)) ≡ words_to number end
   unfolding told_words words_to grant_of
   words_are end same = ap (λ n. words_to n end) same
 
-  grants : (end : ℕ) → train.report.train ≡ number → BeginsWith (words_to number end) (grant_answer track before (view_to track (replay track before) train end)).reply
+  grants : (end : ℕ) → train.report.train ≡ number → BeginsWith (words_to number end) (grant_answer begin before (view_to begin.track (replay begin before) train end)).reply
   grants end same =
-      let shown = view_to track (replay track before) train end in
-      subst (λ words. BeginsWith words (grant_answer track before shown).reply) (words_are end same) (begins shown (grant_of shown) (speed_prices_of shown) (grade_prices_of shown))
+      let shown = view_to begin.track (replay begin before) train end in
+      subst (λ words. BeginsWith words (grant_answer begin before shown).reply) (words_are end same) (begins shown (grant_of shown) (speed_prices_of shown) (grade_prices_of shown))
 
-  by_end : (end : Option ℕ) → ((shown : View) → shown_up_to track (replay track before) train end ≡ Ok shown → shown.train ≡ number)
-      → AnswersAsNext track before number train end (asker_answer track before number (shown_up_to track (replay track before) train end)).reply
+  by_end : (end : Option ℕ) → ((shown : View) → shown_up_to begin.track (replay begin before) train end ≡ Ok shown → shown.train ≡ number)
+      → AnswersAsNext begin before number train end (asker_answer begin before number (shown_up_to begin.track (replay begin before) train end)).reply
   unfolding words_to
   by_end None same = refl
   by_end (Some end) same = λ room.
-      subst (λ full. BeginsWith (words_to number end) (cond full (refused track before Full) (grant_answer track before (view_to track (replay track before) train end))).reply) (sym room)
-      (grants end (same (view_to track (replay track before) train end) refl))
+      subst (λ full. BeginsWith (words_to number end) (cond full (refused begin before Full) (grant_answer begin before (view_to begin.track (replay begin before) train end))).reply) (sym room)
+      (grants end (same (view_to begin.track (replay begin before) train end) refl))
 
 pub nexts_are_asked : NextsAreAsked
 unfolding line_answer
-nexts_are_asked track before line number train there asks =
-    let shown : view track (replay track before) number ≡ view_of track (replay track before) train =
-    ap (λ found. option_map_or (view_of track (replay track before)) found (Err UnknownTrain)) there in
-    let answer : line_answer track before line ≡ asker_answer track before number (view_of track (replay track before) train) =
-    ap (demand_answer track before) asks ∙ ap (asker_answer track before number) shown in
-    subst (AnswersAsNext track before number train (greatest_end track (replay track before) train)) (sym (ap (λ a. a.reply) answer))
-    (by_end track before number train (greatest_end track (replay track before) train) (λ v is. view-train track (replay track before) number v (shown ∙ is)))
+nexts_are_asked begin before line number train there asks =
+    let shown : view begin.track (replay begin before) number ≡ view_of begin.track (replay begin before) train =
+    ap (λ found. option_map_or (view_of begin.track (replay begin before)) found (Err UnknownTrain)) there in
+    let answer : line_answer begin before line ≡ asker_answer begin before number (view_of begin.track (replay begin before) train) =
+    ap (demand_answer begin before) asks ∙ ap (asker_answer begin before number) shown in
+    subst (AnswersAsNext begin before number train (greatest_end begin.track (replay begin before) train)) (sym (ap (λ a. a.reply) answer))
+    (by_end begin before number train (greatest_end begin.track (replay begin before) train) (λ v is. view-train begin.track (replay begin before) number v (shown ∙ is)))

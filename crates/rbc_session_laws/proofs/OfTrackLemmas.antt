@@ -14,7 +14,7 @@ use Rattle.rbc_model.specs.RequestText.{line_in}
 use Rattle.rbc_model.specs.Tracks.{Track, section_named, route_named}
 use Rattle.rbc_model.specs.Events.{step}
 use Rattle.rbc_model.specs.Views.{View, view}
-use Rattle.rbc_model.specs.Histories.{Entry, Granted, is_full, replay}
+use Rattle.rbc_model.specs.Histories.{Beginning, Entry, Granted, is_full, replay}
 use Rattle.rbc_model.specs.SessionText.{SessionLine, Blank, Report, Lock, Free, Leave, GiveBack, Ask, Inquire, parse_session}
 use Rattle.rbc_model.specs.SessionReply.{SessionRefusal, BadLine, UnknownName}
 use Rattle.rbc_model.specs.HistoryText.{entry_line}
@@ -54,28 +54,28 @@ read_there : (track : Track) (read : Result SessionLine LineFault) (demand : Dem
 read_there track (Ok said) demand h = looked_up_there track said demand h
 read_there track (Err fault) demand h = absurd (no_demand (BadLine fault) demand h)
 
-module _ (track : Track) (before : List Entry) (entry : Entry) where
-  of_grant : (shown : View) → Granted (grant_of shown) ≡ entry → IsEntryOfTrack track entry
-  of_grant shown e = subst (IsEntryOfTrack track) e tt
+module _ (begin : Beginning) (before : List Entry) (entry : Entry) where
+  of_grant : (shown : View) → Granted (grant_of shown) ≡ entry → IsEntryOfTrack begin.track entry
+  of_grant shown e = subst (IsEntryOfTrack begin.track) e tt
 
-  of_asker : (train : ℕ) (seen : Result View ViewFault) → (asker_answer track before train seen).added ≡ Some entry → IsEntryOfTrack track entry
-  of_asker train (Ok shown) h = of_grant shown (granted_entry track before entry shown (is_full before) h)
+  of_asker : (train : ℕ) (seen : Result View ViewFault) → (asker_answer begin before train seen).added ≡ Some entry → IsEntryOfTrack begin.track entry
+  of_asker train (Ok shown) h = of_grant shown (granted_entry begin before entry shown (is_full begin before) h)
   of_asker train (Err (Blocked obstacle at)) h = absurd (none-some entry h)
   of_asker train (Err UnknownTrain) h = absurd (none-some entry h)
 
-  of_demand : (line : List ℕ) (demand : Result Demand SessionRefusal) → demand_in track line ≡ demand → (demand_answer track before demand).added ≡ Some entry
-      → IsEntryOfTrack track entry
+  of_demand : (line : List ℕ) (demand : Result Demand SessionRefusal) → demand_in begin.track line ≡ demand → (demand_answer begin before demand).added ≡ Some entry
+      → IsEntryOfTrack begin.track entry
   of_demand line (Ok Nothing) e h = absurd (none-some entry h)
   of_demand line (Ok (Event told)) e h =
-      subst (IsEntryOfTrack track) (told_entry track before entry told (is_full before) (step track (replay track before) (Tell told)) h)
-      (read_there track (parse_session line) (Event told) e)
-  of_demand line (Ok (Authority train)) e h = of_asker train (view track (replay track before) train) h
+      subst (IsEntryOfTrack begin.track) (told_entry begin before entry told (is_full begin before) (step begin.track (replay begin before) (Tell told)) h)
+      (read_there begin.track (parse_session line) (Event told) e)
+  of_demand line (Ok (Authority train)) e h = of_asker train (view begin.track (replay begin before) train) h
   of_demand line (Ok (Show inquiry)) e h = absurd (none-some entry h)
   of_demand line (Err refusal) e h = absurd (none-some entry h)
 
-  of_line : (line : List ℕ) → (line_answer track before line).added ≡ Some entry → IsEntryOfTrack track entry
+  of_line : (line : List ℕ) → (line_answer begin before line).added ≡ Some entry → IsEntryOfTrack begin.track entry
   unfolding line_answer
-  of_line line h = of_demand line (demand_in track line) refl h
+  of_line line h = of_demand line (demand_in begin.track line) refl h
 
 pub retold_entries_are_of_track : RetoldEntriesAreOfTrack
-retold_entries_are_of_track track entries retold place entry here = of_line track (take place entries) entry (entry_line track entry) (retold place entry here)
+retold_entries_are_of_track begin entries retold place entry here = of_line begin (take place entries) entry (entry_line begin.track entry) (retold place entry here)

@@ -22,7 +22,7 @@ use Rattle.rbc_model.specs.Tracks.{Track, section_named, route_named}
 use Rattle.rbc_model.specs.Scenes.{Scene}
 use Rattle.rbc_model.specs.Events.{step}
 use Rattle.rbc_model.specs.Views.{View, view}
-use Rattle.rbc_model.specs.Histories.{Entry, Heard, Granted, is_full, replay}
+use Rattle.rbc_model.specs.Histories.{Beginning, Entry, Heard, Granted, is_full, replay}
 use Rattle.rbc_model.specs.SessionText.{SessionLine, Blank, Report, Lock, Free, Leave, GiveBack, Ask, Inquire, parse_session, IsSayable}
 use Rattle.rbc_model.specs.SessionReply.{SessionRefusal, BadLine, UnknownName, Full}
 use Rattle.rbc_model.specs.HistoryText.{told_request, entry_request, entry_line, history_text}
@@ -125,81 +125,81 @@ leads_by track line entry demand (Err fault) e h same = absurd (no_demand (BadLi
 
 -- ---- the entry that an answer adds
 
-module _ (track : Track) (before : List Entry) (entry : Entry) where
+module _ (begin : Beginning) (before : List Entry) (entry : Entry) where
   pub told_entry : (told : Told) (full : Bool) (after : Result Scene Refusal)
-      → (cond full (refused track before Full) (told_answer track before told after)).added ≡ Some entry → Heard told ≡ entry
+      → (cond full (refused begin before Full) (told_answer begin before told after)).added ≡ Some entry → Heard told ≡ entry
   told_entry told true after h = absurd (none-some entry h)
   told_entry told false (Ok after) h = same_Some (Heard told) entry h
   told_entry told false (Err refusal) h = absurd (none-some entry h)
 
-  pub granted_entry : (shown : View) (full : Bool) → (cond full (refused track before Full) (grant_answer track before shown)).added ≡ Some entry → Granted (grant_of shown) ≡ entry
+  pub granted_entry : (shown : View) (full : Bool) → (cond full (refused begin before Full) (grant_answer begin before shown)).added ≡ Some entry → Granted (grant_of shown) ≡ entry
   granted_entry shown true h = absurd (none-some entry h)
   granted_entry shown false h = same_Some (Granted (grant_of shown)) entry h
 
   -- the train that is granted an authority is the one that asked
-  asked_entry : (train : ℕ) (seen : Result View ViewFault) → view track (replay track before) train ≡ seen → (asker_answer track before train seen).added ≡ Some entry
-      → entry_request track entry ≡ Ask train
+  asked_entry : (train : ℕ) (seen : Result View ViewFault) → view begin.track (replay begin before) train ≡ seen → (asker_answer begin before train seen).added ≡ Some entry
+      → entry_request begin.track entry ≡ Ask train
   unfolding grant_of
   asked_entry train (Ok shown) e h =
-      ap (entry_request track) (sym (granted_entry shown (is_full before) h)) ∙ ap Ask (view-train track (replay track before) train shown e)
+      ap (entry_request begin.track) (sym (granted_entry shown (is_full begin before) h)) ∙ ap Ask (view-train begin.track (replay begin before) train shown e)
   asked_entry train (Err (Blocked obstacle at)) e h = absurd (none-some entry h)
   asked_entry train (Err UnknownTrain) e h = absurd (none-some entry h)
 
-  demanded_entry : (line : List ℕ) (demand : Result Demand SessionRefusal) → demand_in track line ≡ demand → (demand_answer track before demand).added ≡ Some entry → Leads track line entry
+  demanded_entry : (line : List ℕ) (demand : Result Demand SessionRefusal) → demand_in begin.track line ≡ demand → (demand_answer begin before demand).added ≡ Some entry → Leads begin.track line entry
   demanded_entry line (Ok Nothing) e h = absurd (none-some entry h)
   demanded_entry line (Ok (Event told)) e h =
-      leads_by track line entry (Event told) (parse_session line) refl e
-      (ap (entry_request track) (sym (told_entry told (is_full before) (step track (replay track before) (Tell told)) h)))
+      leads_by begin.track line entry (Event told) (parse_session line) refl e
+      (ap (entry_request begin.track) (sym (told_entry told (is_full begin before) (step begin.track (replay begin before) (Tell told)) h)))
   demanded_entry line (Ok (Authority train)) e h =
-      leads_by track line entry (Authority train) (parse_session line) refl e (asked_entry train (view track (replay track before) train) refl h)
+      leads_by begin.track line entry (Authority train) (parse_session line) refl e (asked_entry train (view begin.track (replay begin before) train) refl h)
   demanded_entry line (Ok (Show inquiry)) e h = absurd (none-some entry h)
   demanded_entry line (Err refusal) e h = absurd (none-some entry h)
 
-  leads : (line : List ℕ) → (line_answer track before line).added ≡ Some entry → Leads track line entry
+  leads : (line : List ℕ) → (line_answer begin before line).added ≡ Some entry → Leads begin.track line entry
   unfolding line_answer
-  leads line h = demanded_entry line (demand_in track line) refl h
+  leads line h = demanded_entry line (demand_in begin.track line) refl h
 
-  sayable : (line : List ℕ) → Leads track line entry → IsSayable (entry_request track entry)
+  sayable : (line : List ℕ) → Leads begin.track line entry → IsSayable (entry_request begin.track entry)
   sayable line l = subst IsSayable (sym l.is) (read_is_sayable line l.said l.read)
 
-  again : (line : List ℕ) → Leads track line entry → line_answer track before (entry_line track entry) ≡ line_answer track before line
+  again : (line : List ℕ) → Leads begin.track line entry → line_answer begin before (entry_line begin.track entry) ≡ line_answer begin before line
   unfolding line_answer
   again line l =
-      let back : parse_session (entry_line track entry) ≡ Ok l.said = said_line_read (entry_request track entry) (sayable line l) ∙ ap Ok l.is in
-      ap (λ read. demand_answer track before (result_map_both (λ said. said) BadLine read >>= looked_up track)) (back ∙ sym l.read)
+      let back : parse_session (entry_line begin.track entry) ≡ Ok l.said = said_line_read (entry_request begin.track entry) (sayable line l) ∙ ap Ok l.is in
+      ap (λ read. demand_answer begin before (result_map_both (λ said. said) BadLine read >>= looked_up begin.track)) (back ∙ sym l.read)
 
 pub entries_are_told_again : EntriesAreToldAgain
-entries_are_told_again track before line entry h = again track before entry line (leads track before entry line h)
+entries_are_told_again begin before line entry h = again begin before entry line (leads begin before entry line h)
 
 -- ---- histories that are retold
 
-module _ (track : Track) where
+module _ (begin : Beginning) where
   -- the same, entry by entry behind those before
   Retells : List Entry → List Entry → Type 0
   Retells before [] = Unit {0}
-  Retells before (entry ∷ entries) = ((line_answer track before (entry_line track entry)).added ≡ Some entry) × Retells (before ++ entry ∷ []) entries
+  Retells before (entry ∷ entries) = ((line_answer begin before (entry_line begin.track entry)).added ≡ Some entry) × Retells (before ++ entry ∷ []) entries
 
   from_each : (before entries : List Entry)
-      → ((place : ℕ) (entry : Entry) → slice_get entries place ≡ Some entry → (line_answer track (before ++ take place entries) (entry_line track entry)).added ≡ Some entry)
+      → ((place : ℕ) (entry : Entry) → slice_get entries place ≡ Some entry → (line_answer begin (before ++ take place entries) (entry_line begin.track entry)).added ≡ Some entry)
       → Retells before entries
   unfolding Retells
   from_each before [] each = tt
   from_each before (entry ∷ entries) each = (
-    subst (λ b. (line_answer track b (entry_line track entry)).added ≡ Some entry) (append-nil before) (each 0 entry refl),
+    subst (λ b. (line_answer begin b (entry_line begin.track entry)).added ≡ Some entry) (append-nil before) (each 0 entry refl),
     from_each (before ++ entry ∷ []) entries
         (λ place other here.
-        subst (λ b. (line_answer track b (entry_line track other)).added ≡ Some other) (sym (append_assoc before (entry ∷ []) (take place entries))) (each (suc place) other here)),
+        subst (λ b. (line_answer begin b (entry_line begin.track other)).added ≡ Some other) (sym (append_assoc before (entry ∷ []) (take place entries))) (each (suc place) other here)),
   )
 
   to_each : (before entries : List Entry) → Retells before entries → (place : ℕ) (entry : Entry) → slice_get entries place ≡ Some entry
-      → (line_answer track (before ++ take place entries) (entry_line track entry)).added ≡ Some entry
+      → (line_answer begin (before ++ take place entries) (entry_line begin.track entry)).added ≡ Some entry
   unfolding Retells
   to_each before [] are place entry here = absurd (none-some entry here)
   to_each before (first ∷ entries) are zero entry here =
-      subst (λ e. (line_answer track (before ++ []) (entry_line track e)).added ≡ Some e) (same_Some first entry here)
-      (subst (λ b. (line_answer track b (entry_line track first)).added ≡ Some first) (sym (append-nil before)) are.0)
+      subst (λ e. (line_answer begin (before ++ []) (entry_line begin.track e)).added ≡ Some e) (same_Some first entry here)
+      (subst (λ b. (line_answer begin b (entry_line begin.track first)).added ≡ Some first) (sym (append-nil before)) are.0)
   to_each before (first ∷ entries) are (suc place) entry here =
-      subst (λ b. (line_answer track b (entry_line track entry)).added ≡ Some entry) (append_assoc before (first ∷ []) (take place entries))
+      subst (λ b. (line_answer begin b (entry_line begin.track entry)).added ≡ Some entry) (append_assoc before (first ∷ []) (take place entries))
       (to_each (before ++ first ∷ []) entries are.1 place entry here)
 
   behind_retold : (before entries more : List Entry) → Retells before entries → Retells (before ++ entries) more → Retells before (entries ++ more)
@@ -209,15 +209,15 @@ module _ (track : Track) where
       (are.0, behind_retold (before ++ entry ∷ []) entries more are.1 (subst (λ b. Retells b more) (sym (append_assoc before (entry ∷ []) entries)) later))
 
   -- what a session adds is retold
-  turns_retell : (before : List Entry) (lines : List (List ℕ)) → Retells before (entries_added (turns_of track before lines))
+  turns_retell : (before : List Entry) (lines : List (List ℕ)) → Retells before (entries_added (turns_of begin before lines))
   unfolding Retells turns_of
   turns_retell before [] = tt
-  turns_retell before (line ∷ lines) = by_added (line_answer track before line).added refl (turns_retell (before ++ entries_of (line_answer track before line).added) lines)
+  turns_retell before (line ∷ lines) = by_added (line_answer begin before line).added refl (turns_retell (before ++ entries_of (line_answer begin before line).added) lines)
     where
-      by_added : (added : Option Entry) → (line_answer track before line).added ≡ added → Retells (before ++ entries_of added) (entries_added (turns_of track (before ++ entries_of added) lines))
-          → Retells before (entries_of added ++ entries_added (turns_of track (before ++ entries_of added) lines))
-      by_added None e rest = subst (λ b. Retells b (entries_added (turns_of track (before ++ []) lines))) (append-nil before) rest
-      by_added (Some entry) e rest = (ap (λ a. a.added) (entries_are_told_again track before line entry e) ∙ e, rest)
+      by_added : (added : Option Entry) → (line_answer begin before line).added ≡ added → Retells (before ++ entries_of added) (entries_added (turns_of begin (before ++ entries_of added) lines))
+          → Retells before (entries_of added ++ entries_added (turns_of begin (before ++ entries_of added) lines))
+      by_added None e rest = subst (λ b. Retells b (entries_added (turns_of begin (before ++ []) lines))) (append-nil before) rest
+      by_added (Some entry) e rest = (ap (λ a. a.added) (entries_are_told_again begin before line entry e) ∙ e, rest)
 
   -- ---- the session over the text of a history
 
@@ -229,23 +229,23 @@ module _ (track : Track) where
       let e : (byte == 10) ≡ false = grind arith in
       ap (λ t. cond t ([] ∷ lines_of (line ++ 10 ∷ rest)) (with_front byte (lines_of (line ++ 10 ∷ rest)))) e ∙ ap (with_front byte) (text_line line rest b.1)
 
-  lines_are : (before entries : List Entry) → Retells before entries → lines_of (history_text track entries) ≡ map (entry_line track) entries
+  lines_are : (before entries : List Entry) → Retells before entries → lines_of (history_text begin.track entries) ≡ map (entry_line begin.track) entries
   unfolding Retells
   lines_are before [] are = refl
   lines_are before (entry ∷ entries) are =
-      let line = entry_line track entry in
-      let rest = history_text track entries in
-      let said = sayable track before entry line (leads track before entry line are.0) in
+      let line = entry_line begin.track entry in
+      let rest = history_text begin.track entries in
+      let said = sayable begin before entry line (leads begin before entry line are.0) in
       ap lines_of (append_assoc line (10 ∷ []) rest)
-      ∙ text_line line rest (said_is_text (entry_request track entry) said)
+      ∙ text_line line rest (said_is_text (entry_request begin.track entry) said)
       ∙ ap (λ lines. line ∷ lines) (lines_are (before ++ entry ∷ []) entries are.1)
 
-  each_adds : (before entries : List Entry) → Retells before entries → map (λ turn. turn.added) (turns_of track before (map (entry_line track) entries)) ≡ map Some entries
+  each_adds : (before entries : List Entry) → Retells before entries → map (λ turn. turn.added) (turns_of begin before (map (entry_line begin.track) entries)) ≡ map Some entries
   unfolding Retells turns_of
   each_adds before [] are = refl
   each_adds before (entry ∷ entries) are =
       ap₂ (λ (added : Option Entry) later. added ∷ later) are.0
-      (ap (λ added. map (λ turn. turn.added) (turns_of track (before ++ entries_of added) (map (entry_line track) entries))) are.0 ∙ each_adds (before ++ entry ∷ []) entries are.1)
+      (ap (λ added. map (λ turn. turn.added) (turns_of begin (before ++ entries_of added) (map (entry_line begin.track) entries))) are.0 ∙ each_adds (before ++ entry ∷ []) entries are.1)
 
 added_of : (turns : List Turn) (entries : List Entry) → map (λ turn. turn.added) turns ≡ map Some entries → entries_added turns ≡ entries
 added_of turns entries h = as_map turns ∙ ap (flat_map entries_of) h ∙ of_some entries
@@ -258,22 +258,22 @@ added_of turns entries h = as_map turns ∙ ap (flat_map entries_of) h ∙ of_so
     of_some [] = refl
     of_some (entry ∷ entries) = ap (λ rest. entry ∷ rest) (of_some entries)
 
-its_session : (track : Track) (entries : List Entry) → Retells track [] entries → IsItsSession track entries
-its_session track entries are =
-    let each : map (λ turn. turn.added) (turns_of track [] (lines_of (history_text track entries))) ≡ map Some entries =
-    ap (λ lines. map (λ turn. turn.added) (turns_of track [] lines)) (lines_are track [] entries are) ∙ each_adds track [] entries are in
-    record { each = each; all = added_of (turns_of track [] (lines_of (history_text track entries))) entries each }
+its_session : (begin : Beginning) (entries : List Entry) → Retells begin [] entries → IsItsSession begin entries
+its_session begin entries are =
+    let each : map (λ turn. turn.added) (turns_of begin [] (lines_of (history_text begin.track entries))) ≡ map Some entries =
+    ap (λ lines. map (λ turn. turn.added) (turns_of begin [] lines)) (lines_are begin [] entries are) ∙ each_adds begin [] entries are in
+    record { each = each; all = added_of (turns_of begin [] (lines_of (history_text begin.track entries))) entries each }
 
 pub retold_histories_are_sessions : RetoldHistoriesAreSessions
-retold_histories_are_sessions track entries retold = its_session track entries (from_each track [] entries retold)
+retold_histories_are_sessions begin entries retold = its_session begin entries (from_each begin [] entries retold)
 
 pub sessions_are_retold : SessionsAreRetold
-sessions_are_retold track before after input old new result form session retold =
-    let a = sessions_are_answered track before after input old new result form session in
-    let turns = heard track session.turns in
-    let added : Retells track before (entries_added turns) =
-    subst (λ ts. Retells track before (entries_added ts)) (sym a.turns_are) (turns_retell track before (lines_treated turns)) in
-    subst (IsRetold track) (sym a.entries) (to_each track [] (before ++ entries_added turns) (behind_retold track [] before (entries_added turns) (from_each track [] before retold) added))
+sessions_are_retold begin before after input old new result form session retold =
+    let a = sessions_are_answered begin before after input old new result form session in
+    let turns = heard begin.track session.turns in
+    let added : Retells begin before (entries_added turns) =
+    subst (λ ts. Retells begin before (entries_added ts)) (sym a.turns_are) (turns_retell begin before (lines_treated turns)) in
+    subst (IsRetold begin) (sym a.entries) (to_each begin [] (before ++ entries_added turns) (behind_retold begin [] before (entries_added turns) (from_each begin [] before retold) added))
 
 pub histories_are_sessions : HistoriesAreSessions
-histories_are_sessions track input = its_session track (entries_added (turns_of track [] (lines_of input))) (turns_retell track [] (lines_of input))
+histories_are_sessions begin input = its_session begin (entries_added (turns_of begin [] (lines_of input))) (turns_retell begin [] (lines_of input))

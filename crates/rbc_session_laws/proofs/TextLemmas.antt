@@ -15,7 +15,7 @@ use Rattle.rbc_model.specs.Tracks.{Track}
 use Rattle.rbc_model.specs.Scenes.{Scene}
 use Rattle.rbc_model.specs.Events.{step}
 use Rattle.rbc_model.specs.Views.{View, view}
-use Rattle.rbc_model.specs.Histories.{Entry, Grants, is_full, replay}
+use Rattle.rbc_model.specs.Histories.{Beginning, Entry, Grants, is_full, replay}
 use Rattle.rbc_model.specs.Sessions.{lines_of, with_front}
 use Rattle.rbc_model.specs.Words.{line_of, hex_of}
 use Rattle.rbc_model.specs.Rows.{Row, rows_text}
@@ -96,17 +96,17 @@ rows_whole (row ∷ rows) = inr (behind (rows_text rows) (rows_whole rows))
     behind rest (inl e) = subst (λ text. EndsLine (line_of row ++ text)) (sym e) (subst EndsLine (sym (append-nil (line_of row))) (line_ends row))
     behind rest (inr e) = ends_behind (line_of row) rest e
 
-module _ (track : Track) (before : List Entry) (reply : List ℕ) (added : Option Entry) where
+module _ (begin : Beginning) (before : List Entry) (reply : List ℕ) (added : Option Entry) where
   ends : (text : List ℕ) → EndsLine text → reply ≡ text → IsWhole reply
   ends text e same = inr (subst EndsLine (sym same) e)
 
-  refused_whole : (refusal : SessionRefusal) → IsRefused track before reply added refusal → IsWhole reply
-  refused_whole refusal h = ends (refused_reply track refusal) (line_ends (codes "refused" ∷ refusal_words track refusal)) h.0
+  refused_whole : (refusal : SessionRefusal) → IsRefused begin before reply added refusal → IsWhole reply
+  refused_whole refusal h = ends (refused_reply begin.track refusal) (line_ends (codes "refused" ∷ refusal_words begin.track refusal)) h.0
 
-  granted_ends : (version : ℕ) (shown : View) (grant : Grants) (speed_rows grade_rows : List (List ℕ)) → EndsLine (grant_reply track version shown grant speed_rows grade_rows)
+  granted_ends : (version : ℕ) (shown : View) (grant : Grants) (speed_rows grade_rows : List (List ℕ)) → EndsLine (grant_reply begin.track version shown grant speed_rows grade_rows)
   granted_ends version shown grant speed_rows grade_rows =
       four
-      (line_of (codes "granted" ∷ decimal grant.train ∷ decimal version ∷ signed_decimal grant.from ∷ decimal grant.authority.end ∷ obstacle_words track grant.obstacle))
+      (line_of (codes "granted" ∷ decimal grant.train ∷ decimal version ∷ signed_decimal grant.from ∷ decimal grant.authority.end ∷ obstacle_words begin.track grant.obstacle))
       (line_of (codes "message" ∷ hex_of (message_bytes grant.authority) ∷ []))
       (certificate speed_kind (record { limit = shown.speed_steps; runs = shown.speeds; end = grant.authority.end }) grant.authority.speeds speed_rows)
       (certificate grade_kind (record { limit = shown.grade_steps; runs = shown.grades; end = grant.authority.end }) grant.authority.grades grade_rows)
@@ -115,51 +115,51 @@ module _ (track : Track) (before : List Entry) (reply : List ℕ) (added : Optio
       four a b c d = ends_behind (a ++ b ++ c ++ d) (line_of (codes "done" ∷ [])) (line_ends (codes "done" ∷ []))
 
   told_whole : (told : Told) (full : Bool) (after : Result Scene Refusal)
-      → MatchBool full (IsRefused track before reply added Full)
-      (MatchResult after (λ _. IsAccepted track before reply added told) (λ refusal. IsRefused track before reply added (BadEvent refusal)) ⊎ IsToldInVain track before reply added told)
+      → MatchBool full (IsRefused begin before reply added Full)
+      (MatchResult after (λ _. IsAccepted begin before reply added told) (λ refusal. IsRefused begin before reply added (BadEvent refusal)) ⊎ IsToldInVain begin before reply added told)
       → IsWhole reply
   told_whole told true after h = refused_whole Full h
   told_whole told false (Ok after) (inl h) = ends (line_of (codes "ok" ∷ decimal (length before + 1) ∷ [])) (line_ends (codes "ok" ∷ decimal (length before + 1) ∷ [])) h.0
   told_whole told false (Err refusal) (inl h) = refused_whole (BadEvent refusal) h
   told_whole told false after (inr (h, needed)) = refused_whole Memory h
 
-  asked_whole : (train : ℕ) (shown : View) (full : Bool) → MatchBool full (IsRefused track before reply added Full) (IsGranted track before reply added train shown) → IsWhole reply
+  asked_whole : (train : ℕ) (shown : View) (full : Bool) → MatchBool full (IsRefused begin before reply added Full) (IsGranted begin before reply added train shown) → IsWhole reply
   asked_whole train shown true h = refused_whole Full h
   asked_whole train shown false (grant, speed_rows, grade_rows, g, said, entry) =
-      ends (grant_reply track (length before + 1) shown grant speed_rows grade_rows) (granted_ends (length before + 1) shown grant speed_rows grade_rows) said
+      ends (grant_reply begin.track (length before + 1) shown grant speed_rows grade_rows) (granted_ends (length before + 1) shown grant speed_rows grade_rows) said
 
-  asker_whole : (train : ℕ) (seen : Result View ViewFault) → AnswersAsker track before reply added train seen → IsWhole reply
-  asker_whole train (Ok shown) (inl h) = asked_whole train shown (is_full before) h
+  asker_whole : (train : ℕ) (seen : Result View ViewFault) → AnswersAsker begin before reply added train seen → IsWhole reply
+  asker_whole train (Ok shown) (inl h) = asked_whole train shown (is_full begin before) h
   asker_whole train (Ok shown) (inr h) = refused_whole Memory h
   asker_whole train (Err (Blocked obstacle at)) (inl h) =
-      let words = codes "blocked" ∷ decimal train ∷ decimal (length before) ∷ signed_decimal at ∷ obstacle_words track obstacle in
+      let words = codes "blocked" ∷ decimal train ∷ decimal (length before) ∷ signed_decimal at ∷ obstacle_words begin.track obstacle in
       ends (line_of words) (line_ends words) h.0
   asker_whole train (Err (Blocked obstacle at)) (inr h) = refused_whole Memory h
   asker_whole train (Err UnknownTrain) h = refused_whole (BadEvent (NoSuchTrain train)) h
 
-  shown_whole : (inquiry : Inquiry) → IsShown track before reply added inquiry → IsWhole reply
+  shown_whole : (inquiry : Inquiry) → IsShown begin before reply added inquiry → IsWhole reply
   shown_whole AskedState h =
-      let scene = replay track before in
+      let scene = replay begin before in
       let words = codes "state" ∷ decimal (length before) ∷ decimal (length scene.trains) ∷ decimal (locked_count scene.locks) ∷ [] in
       ends (line_of words) (line_ends words) h.0
   shown_whole AskedScene h =
-      let scene = replay track before in
-      subst IsWhole (sym h.0) (rows_whole ((codes "scene" ∷ decimal (length before) ∷ []) ∷ (scene_body track scene ++ (codes "done" ∷ []) ∷ [])))
+      let scene = replay begin before in
+      subst IsWhole (sym h.0) (rows_whole ((codes "scene" ∷ decimal (length before) ∷ []) ∷ (scene_body begin.track scene ++ (codes "done" ∷ []) ∷ [])))
 
-  inquiry_whole : (inquiry : Inquiry) → AnswersInquiry track before reply added inquiry → IsWhole reply
+  inquiry_whole : (inquiry : Inquiry) → AnswersInquiry begin before reply added inquiry → IsWhole reply
   inquiry_whole AskedState h = shown_whole AskedState h
   inquiry_whole AskedScene (inl h) = shown_whole AskedScene h
   inquiry_whole AskedScene (inr h) = refused_whole Memory h
 
-  demand_whole : (demand : Result Demand SessionRefusal) → AnswersDemand track before reply added demand → IsWhole reply
+  demand_whole : (demand : Result Demand SessionRefusal) → AnswersDemand begin before reply added demand → IsWhole reply
   demand_whole (Ok Nothing) h = inl h.0
-  demand_whole (Ok (Event told)) h = told_whole told (is_full before) (step track (replay track before) (Tell told)) h
-  demand_whole (Ok (Authority train)) h = asker_whole train (view track (replay track before) train) h
+  demand_whole (Ok (Event told)) h = told_whole told (is_full begin before) (step begin.track (replay begin before) (Tell told)) h
+  demand_whole (Ok (Authority train)) h = asker_whole train (view begin.track (replay begin before) train) h
   demand_whole (Ok (Show inquiry)) h = inquiry_whole inquiry h
   demand_whole (Err refusal) h = refused_whole refusal h
 
-pub reply_whole : (track : Track) (before : List Entry) (line reply : List ℕ) (added : Option Entry) → AnswersLine track before line reply added → IsWhole reply
-reply_whole track before line reply added h = demand_whole track before reply added (demand_in track line) h
+pub reply_whole : (begin : Beginning) (before : List Entry) (line reply : List ℕ) (added : Option Entry) → AnswersLine begin before line reply added → IsWhole reply
+reply_whole begin before line reply added h = demand_whole begin before reply added (demand_in begin.track line) h
 
 -- ---- the reply that says that memory was refused
 

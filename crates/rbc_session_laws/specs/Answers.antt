@@ -10,11 +10,10 @@ use Rattle.rbc_model.specs.Inquiries.{inquiry_reply}
 use Rattle.rbc_model.specs.Levels.{speed_levels, grade_levels}
 use Rattle.rbc_model.specs.Scales.{unit_of}
 use Rattle.rbc_model.specs.Sessions.{lines_of}
-use Rattle.rbc_model.specs.Tracks.{Track}
 use Rattle.rbc_model.specs.Scenes.{Scene}
 use Rattle.rbc_model.specs.Events.{step}
 use Rattle.rbc_model.specs.Views.{View, view}
-use Rattle.rbc_model.specs.Histories.{Entry, Heard, Granted, Grants, is_full, replay}
+use Rattle.rbc_model.specs.Histories.{Beginning, Entry, Heard, Granted, Grants, is_full, replay}
 use Rattle.rbc_model.specs.SessionReply.{SessionRefusal, BadEvent, Full, accepted_reply, grant_reply, blocked_reply, refused_reply}
 use Rattle.rbc_table_laws.specs.LeastTables.{greatest_prices, chosen_steps}
 use Rattle.rbc_session_laws.specs.declared.demand.Demand.{Demand}
@@ -59,10 +58,10 @@ pub record Answer : Type 0 where
   pub added : Option Entry
 
 -- after these entries
-module _ (track : Track) (before : List Entry) where
+module _ (begin : Beginning) (before : List Entry) where
   -- the answer to what is refused
   abbrev pub refused : SessionRefusal → Answer
-  refused refusal = record { reply = refused_reply track refusal; added = None }
+  refused refusal = record { reply = refused_reply begin.track refusal; added = None }
 
   -- to what is told, by what the scene makes of it
   abbrev pub told_answer : Told → Result Scene Refusal → Answer
@@ -70,45 +69,45 @@ module _ (track : Track) (before : List Entry) where
   told_answer told (Err refusal) = refused (BadEvent refusal)
 
   abbrev pub event_answer : Told → Answer
-  event_answer told = if is_full before then refused Full else told_answer told (step track (replay track before) (Tell told))
+  event_answer told = if is_full begin before then refused Full else told_answer told (step begin.track (replay begin before) (Tell told))
 
   -- to a train that asks, by what it is shown
   abbrev pub grant_answer : View → Answer
   grant_answer shown = record {
-    reply = grant_reply track (length before + 1) shown (grant_of shown) (speed_prices_of shown) (grade_prices_of shown);
+    reply = grant_reply begin.track (length before + 1) shown (grant_of shown) (speed_prices_of shown) (grade_prices_of shown);
     added = Some (Granted (grant_of shown));
   }
 
   abbrev pub asker_answer : ℕ → Result View ViewFault → Answer
-  asker_answer train (Ok shown) = if is_full before then refused Full else grant_answer shown
-  asker_answer train (Err (Blocked obstacle at)) = record { reply = blocked_reply track train (length before) at obstacle; added = None }
+  asker_answer train (Ok shown) = if is_full begin before then refused Full else grant_answer shown
+  asker_answer train (Err (Blocked obstacle at)) = record { reply = blocked_reply begin.track train (length before) at obstacle; added = None }
   asker_answer train (Err UnknownTrain) = refused (BadEvent (NoSuchTrain train))
 
   -- to what is asked for
   abbrev pub demand_answer : Result Demand SessionRefusal → Answer
   demand_answer (Ok Nothing) = record { reply = []; added = None }
   demand_answer (Ok (Event told)) = event_answer told
-  demand_answer (Ok (Authority train)) = asker_answer train (view track (replay track before) train)
-  demand_answer (Ok (Show inquiry)) = record { reply = inquiry_reply track (length before) (replay track before) inquiry; added = None }
+  demand_answer (Ok (Authority train)) = asker_answer train (view begin.track (replay begin before) train)
+  demand_answer (Ok (Show inquiry)) = record { reply = inquiry_reply begin.track (length before) (replay begin before) inquiry; added = None }
   demand_answer (Err refusal) = refused refusal
 
   -- and to a line
   unfoldable pub line_answer : List ℕ → Answer
-  line_answer line = demand_answer (demand_in track line)
+  line_answer line = demand_answer (demand_in begin.track line)
 
 -- ---- what a session answers
 
 -- the turns of a session that treats these lines, each after the entries of those before it
-unfoldable pub turns_of : Track → List Entry → List (List ℕ) → List Turn
-turns_of track before [] = []
-turns_of track before (line ∷ lines) =
-    let answer = line_answer track before line in
-    record { line = line; reply = answer.reply; added = answer.added } ∷ turns_of track (before ++ entries_of answer.added) lines
+unfoldable pub turns_of : Beginning → List Entry → List (List ℕ) → List Turn
+turns_of begin before [] = []
+turns_of begin before (line ∷ lines) =
+    let answer = line_answer begin before line in
+    record { line = line; reply = answer.reply; added = answer.added } ∷ turns_of begin (before ++ entries_of answer.added) lines
 
 -- what is written in answer to an input
-abbrev pub answers_of : Track → List Entry → List ℕ → List ℕ
-answers_of track before input = replies_to (turns_of track before (lines_of input))
+abbrev pub answers_of : Beginning → List Entry → List ℕ → List ℕ
+answers_of begin before input = replies_to (turns_of begin before (lines_of input))
 
 -- and the entries after it
-abbrev pub entries_after : Track → List Entry → List ℕ → List Entry
-entries_after track before input = before ++ entries_added (turns_of track before (lines_of input))
+abbrev pub entries_after : Beginning → List Entry → List ℕ → List Entry
+entries_after begin before input = before ++ entries_added (turns_of begin before (lines_of input))

@@ -9,7 +9,7 @@ use Rattle.rbc_model.specs.Tracks.{Track}
 use Rattle.rbc_model.specs.SoundTracks.{IsInForm}
 use Rattle.rbc_model.specs.Scenes.{Scene}
 use Rattle.rbc_model.specs.Views.{View, view}
-use Rattle.rbc_model.specs.Histories.{Entry, Grants}
+use Rattle.rbc_model.specs.Histories.{Beginning, Entry, Grants}
 use Rattle.rbc_model.specs.SessionReply.{Memory, refused_reply}
 use Rattle.rbc_session_laws.specs.Turns.{IsGrantFor, AnswersLine}
 use Rattle.rbc_session_laws.specs.SessionRuns.{Turn, entries_added, lines_treated, IsSession}
@@ -31,23 +31,23 @@ GrantsAreReadBack = (authority : Authority) → IsAuthority Far authority ↔ (r
 
 -- a line is answered so, unless memory was refused in its treatment
 abbrev pub LinesAreAnswered : Type 0
-LinesAreAnswered = (track : Track) (before : List Entry) (line reply : List ℕ) (added : Option Entry) → IsInForm track
-    → AnswersLine track before line reply added → reply ≢ refused_reply track Memory
-    → (let answer = line_answer track before line in (reply ≡ answer.reply) × (added ≡ answer.added))
+LinesAreAnswered = (begin : Beginning) (before : List Entry) (line reply : List ℕ) (added : Option Entry) → IsInForm begin.track
+    → AnswersLine begin before line reply added → reply ≢ refused_reply begin.track Memory
+    → (let answer = line_answer begin before line in (reply ≡ answer.reply) × (added ≡ answer.added))
 
 -- the turns in which memory was not refused
 abbrev pub heard : Track → List Turn → List Turn
 heard track turns = filter (λ turn. not (bytes_eq turn.reply (refused_reply track Memory))) turns
 
 -- The turns in which memory was not refused are those that the function makes of their lines, and the others added nothing.
-pub record AreAnswered (track : Track) (before after : List Entry) (turns : List Turn) : Type 0 where
-  pub turns_are : heard track turns ≡ turns_of track before (lines_treated (heard track turns))
-  pub entries : after ≡ before ++ entries_added (heard track turns)
+pub record AreAnswered (begin : Beginning) (before after : List Entry) (turns : List Turn) : Type 0 where
+  pub turns_are : heard begin.track turns ≡ turns_of begin before (lines_treated (heard begin.track turns))
+  pub entries : after ≡ before ++ entries_added (heard begin.track turns)
 
 -- so it is in each session, however it ended
 abbrev pub SessionsAreAnswered : Type 0
-SessionsAreAnswered = (track : Track) (before after : List Entry) (input : List ℕ) (old new : Option (List ℕ)) (result : Result (Unit {0}) SessionFault) → IsInForm track
-    → (session : IsSession track before after input old new result) → AreAnswered track before after session.turns
+SessionsAreAnswered = (begin : Beginning) (before after : List Entry) (input : List ℕ) (old new : Option (List ℕ)) (result : Result (Unit {0}) SessionFault) → IsInForm begin.track
+    → (session : IsSession begin before after input old new result) → AreAnswered begin before after session.turns
 
 -- ---- told by the bytes that were written
 
@@ -57,13 +57,13 @@ SaysNoMemory text = All (λ line. line ≢ codes "refused Memory") (lines_of tex
 
 -- A session up to the end of its input that wrote no line `refused Memory` wrote what the function answers to the input, and left the entries that it adds.
 abbrev pub WrittenIsAnswered : Type 0
-WrittenIsAnswered = (track : Track) (before after : List Entry) (input old text : List ℕ) → IsInForm track
-    → IsSession track before after input (Some old) (Some (old ++ text)) (Ok tt) → SaysNoMemory text
-    → (text ≡ answers_of track before input) × (after ≡ entries_after track before input)
+WrittenIsAnswered = (begin : Beginning) (before after : List Entry) (input old text : List ℕ) → IsInForm begin.track
+    → IsSession begin before after input (Some old) (Some (old ++ text)) (Ok tt) → SaysNoMemory text
+    → (text ≡ answers_of begin before input) × (after ≡ entries_after begin before input)
 
 -- So two such sessions over one track, from one record on and over one input wrote the same, and left the same entries.
 abbrev pub SessionsAreOne : Type 0
-SessionsAreOne = (track : Track) (before after other_after : List Entry) (input old other_old text other : List ℕ) → IsInForm track
-    → IsSession track before after input (Some old) (Some (old ++ text)) (Ok tt) → SaysNoMemory text
-    → IsSession track before other_after input (Some other_old) (Some (other_old ++ other)) (Ok tt) → SaysNoMemory other
+SessionsAreOne = (begin : Beginning) (before after other_after : List Entry) (input old other_old text other : List ℕ) → IsInForm begin.track
+    → IsSession begin before after input (Some old) (Some (old ++ text)) (Ok tt) → SaysNoMemory text
+    → IsSession begin before other_after input (Some other_old) (Some (other_old ++ other)) (Ok tt) → SaysNoMemory other
     → (text ≡ other) × (after ≡ other_after)

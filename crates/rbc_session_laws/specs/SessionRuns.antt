@@ -5,8 +5,7 @@ use Rattle.rbc_model.specs.declared.limits.TheConstants.{LONGEST_LINE, MOST_LINE
 use Rattle.rbc_model.specs.declared.sessions.SessionFault.{SessionFault}
 use Rattle.rbc_model.specs.Sessions.{lines_of}
 use Rattle.rbc_model.specs.Talks.{Ends}
-use Rattle.rbc_model.specs.Tracks.{Track}
-use Rattle.rbc_model.specs.Histories.{Entry}
+use Rattle.rbc_model.specs.Histories.{Beginning, Entry}
 use Rattle.rbc_session_laws.specs.Turns.{AnswersLine}
 
 -- A line that was treated, the reply to it, and the entry that it added, or none.
@@ -32,12 +31,12 @@ replies_to turns = flat_map (λ turn. turn.reply) turns
 
 -- A session over this input, from these entries to those, that ended so: its first lines were treated, each after the entries of those before it;
 -- the entries that they added stand behind the old ones; and what was written is made of their replies.
-pub record IsSession (track : Track) (before after : List Entry) (input : List ℕ) (old new : Option (List ℕ)) (result : Result (Unit {0}) SessionFault) : Type 0 where
+pub record IsSession (begin : Beginning) (before after : List Entry) (input : List ℕ) (old new : Option (List ℕ)) (result : Result (Unit {0}) SessionFault) : Type 0 where
   pub turns : List Turn
   pub rest : List (List ℕ)
   pub lines : lines_of input ≡ lines_treated turns ++ rest
   pub few : length turns ≤ MOST_LINES
   pub each : (place : ℕ) (turn : Turn) → slice_get turns place ≡ Some turn
-      → AnswersLine track (before ++ entries_added (take place turns)) turn.line turn.reply turn.added
+      → AnswersLine begin (before ++ entries_added (take place turns)) turn.line turn.reply turn.added
   pub entries : after ≡ before ++ entries_added turns
   pub ends : Ends LONGEST_LINE input old new (lines_treated turns) rest (replies_to turns) result

@@ -21,7 +21,7 @@ use Rattle.rbc_model.specs.Tracks.{Track, group_named}
 use Rattle.rbc_model.specs.Scenes.{Scene, train_numbered}
 use Rattle.rbc_model.specs.Events.{step}
 use Rattle.rbc_model.specs.Views.{View, view}
-use Rattle.rbc_model.specs.Histories.{Entry, Heard, Granted, Grants, IsBest, is_full, replay}
+use Rattle.rbc_model.specs.Histories.{Beginning, Entry, Heard, Granted, Grants, IsBest, is_full, replay}
 use Rattle.rbc_model.specs.SessionReply.{SessionRefusal, BadEvent, Full, Memory, accepted_reply, grant_reply, blocked_reply, refused_reply}
 use Rattle.rbc_session_laws.specs.declared.demand.Demand.{Demand}
 use Rattle.rbc_session_laws.specs.declared.demand.Demand.TheVariants.{Nothing, Event, Authority, Show}
@@ -53,10 +53,10 @@ is_refused_at_once track scene told = is_err (step track scene (Tell told))
 -- ---- what a line comes to
 
 -- After these entries a line is answered by this reply, and adds this entry, or none.
-module _ (track : Track) (before : List Entry) (reply : List ℕ) (added : Option Entry) where
+module _ (begin : Beginning) (before : List Entry) (reply : List ℕ) (added : Option Entry) where
   -- it is refused
   abbrev pub IsRefused : SessionRefusal → Type 0
-  IsRefused refusal = (reply ≡ refused_reply track refusal) × (added ≡ None)
+  IsRefused refusal = (reply ≡ refused_reply begin.track refusal) × (added ≡ None)
 
   -- memory was refused in its treatment
   abbrev pub IsGivenUp : Type 0
@@ -64,7 +64,7 @@ module _ (track : Track) (before : List Entry) (reply : List ℕ) (added : Optio
 
   -- the same for what is told, where it is not refused before anything has to grow
   abbrev pub IsToldInVain : Told → Type 0
-  IsToldInVain told = IsGivenUp × (is_refused_at_once track (replay track before) told ≡ false)
+  IsToldInVain told = IsGivenUp × (is_refused_at_once begin.track (replay begin before) told ≡ false)
 
   -- what is told is added, and the reply tells the version after it
   abbrev pub IsAccepted : Told → Type 0
@@ -73,30 +73,30 @@ module _ (track : Track) (before : List Entry) (reply : List ℕ) (added : Optio
   -- what is told is refused where the history is full, or where the scene refuses it
   abbrev pub AnswersEvent : Told → Type 0
   AnswersEvent told =
-      MatchBool (is_full before)
+      MatchBool (is_full begin before)
       (IsRefused Full)
-      (MatchResult (step track (replay track before) (Tell told)) (λ after. IsAccepted told) (λ refusal. IsRefused (BadEvent refusal)) ⊎ IsToldInVain told)
+      (MatchResult (step begin.track (replay begin before) (Tell told)) (λ after. IsAccepted told) (λ refusal. IsRefused (BadEvent refusal)) ⊎ IsToldInVain told)
 
   -- what the train is granted is added, and the reply tells it with the version after it
   abbrev pub IsGranted : ℕ → View → Type 0
   IsGranted train shown = (grant : Grants) × (speed_rows : List (List ℕ)) × (grade_rows : List (List ℕ))
-      × IsGrantFor track (replay track before) train shown grant speed_rows grade_rows
-      × (reply ≡ grant_reply track (length before + 1) shown grant speed_rows grade_rows)
+      × IsGrantFor begin.track (replay begin before) train shown grant speed_rows grade_rows
+      × (reply ≡ grant_reply begin.track (length before + 1) shown grant speed_rows grade_rows)
       × (added ≡ Some (Granted grant))
 
   -- a train that asks is not there, or is shown what stands in its way, or is granted an authority, unless the history is full
   abbrev pub AnswersAsker : ℕ → Result View ViewFault → Type 0
-  AnswersAsker train (Ok shown) = MatchBool (is_full before) (IsRefused Full) (IsGranted train shown) ⊎ IsGivenUp
-  AnswersAsker train (Err (Blocked obstacle at)) = ((reply ≡ blocked_reply track train (length before) at obstacle) × (added ≡ None)) ⊎ IsGivenUp
+  AnswersAsker train (Ok shown) = MatchBool (is_full begin before) (IsRefused Full) (IsGranted train shown) ⊎ IsGivenUp
+  AnswersAsker train (Err (Blocked obstacle at)) = ((reply ≡ blocked_reply begin.track train (length before) at obstacle) × (added ≡ None)) ⊎ IsGivenUp
   AnswersAsker train (Err UnknownTrain) = IsRefused (BadEvent (NoSuchTrain train))
 
   -- a train that asks, by what it is shown after the entries
   abbrev pub AnswersAuthority : ℕ → Type 0
-  AnswersAuthority train = AnswersAsker train (view track (replay track before) train)
+  AnswersAuthority train = AnswersAsker train (view begin.track (replay begin before) train)
 
   -- what is asked to be shown is shown, as it is after the entries
   abbrev pub IsShown : Inquiry → Type 0
-  IsShown inquiry = (reply ≡ inquiry_reply track (length before) (replay track before) inquiry) × (added ≡ None)
+  IsShown inquiry = (reply ≡ inquiry_reply begin.track (length before) (replay begin before) inquiry) × (added ≡ None)
 
   -- only for a scene may memory be refused
   abbrev pub AnswersInquiry : Inquiry → Type 0
@@ -112,5 +112,5 @@ module _ (track : Track) (before : List Entry) (reply : List ℕ) (added : Optio
   AnswersDemand (Err refusal) = IsRefused refusal
 
 -- After these entries the line is answered by this reply, and adds this entry, or none.
-abbrev pub AnswersLine : Track → List Entry → List ℕ → List ℕ → Option Entry → Type 0
-AnswersLine track before line reply added = AnswersDemand track before reply added (demand_in track line)
+abbrev pub AnswersLine : Beginning → List Entry → List ℕ → List ℕ → Option Entry → Type 0
+AnswersLine begin before line reply added = AnswersDemand begin before reply added (demand_in begin.track line)

@@ -26,7 +26,7 @@ use Rattle.rbc_sweep.specs.Candidates.{Candidate, HasChosenProfiles}
 use Rattle.rbc_sweep.specs.CommitFault.{CommitFault}
 use Rattle.rbc_sweep.specs.CommitFault.TheVariants.{Full as FullToGrants, Stale}
 use Rattle.rbc_sweep.specs.Entering.{EntersOrMemory, entry_granted, is_shown}
-use Rattle.rbc_sweep.specs.Records.{HistoryOnTrack, scene_now, is_full, with_entry}
+use Rattle.rbc_sweep.specs.Records.{IsRight, begin_of, HistoryOnTrack, scene_now, is_full, with_entry}
 use Rattle.rbc_replies.specs.Certificates.{IsBasisOf, speeds_of, grades_of}
 use Rattle.rbc_replies.specs.PriceText.{prices_of}
 use Rattle.rbc_replies.specs.Replies.{ObstacleIsOfTrack, grant_text}
@@ -41,38 +41,42 @@ use Rattle.rbc_sessions.proofs.TellingLemmas.{nothing_added}
 
 module _ (history : HistoryOnTrack) (number : ℕ) where
   abbrev Asked : List ℕ → Option Entry → Result View ViewFault → Type 0
-  Asked reply added answer = AnswersAsker history.track history.entries reply added number answer
+  Asked reply added answer = AnswersAsker (begin_of history) history.entries reply added number answer
 
   -- what a train that asks is answered, by what it is shown
   pub asked_answers : (reply : List ℕ) (added : Option Entry) (answer : Result View ViewFault) → view history.track (scene_now history) number ≡ answer
-      → Asked reply added answer → AnswersAuthority history.track history.entries reply added number
+      → Asked reply added answer → AnswersAuthority (begin_of history) history.entries reply added number
   asked_answers reply added answer e said = subst (Asked reply added) (sym e) said
 
-  pub blocked_named : (obstacle : Obstacle) (at : ℤ) → IsSound history.track → view history.track (scene_now history) number ≡ Err (Blocked obstacle at) → ObstacleIsOfTrack history.track obstacle
-  blocked_named obstacle at sound e = subst (IsNamedIn history.track) e (named_view history.track (scene_now history) number (good_replay history.track history.entries sound))
+  pub blocked_named : (obstacle : Obstacle) (at : ℤ) → IsRight history → IsSound history.track → view history.track (scene_now history) number ≡ Err (Blocked obstacle at) → ObstacleIsOfTrack history.track obstacle
+  blocked_named obstacle at right sound e =
+      let r = right in
+      subst (IsNamedIn history.track) e (named_view history.track (scene_now history) number (good_replay (begin_of history) history.entries sound r.good))
 
-  pub shown_named : (shown : View) → IsSound history.track → view history.track (scene_now history) number ≡ Ok shown → ObstacleIsOfTrack history.track shown.obstacle
-  shown_named shown sound e = subst (IsNamedIn history.track) e (named_view history.track (scene_now history) number (good_replay history.track history.entries sound))
+  pub shown_named : (shown : View) → IsRight history → IsSound history.track → view history.track (scene_now history) number ≡ Ok shown → ObstacleIsOfTrack history.track shown.obstacle
+  shown_named shown right sound e =
+      let r = right in
+      subst (IsNamedIn history.track) e (named_view history.track (scene_now history) number (good_replay (begin_of history) history.entries sound r.good))
 
   -- ---- a train that is shown an end
 
   module _ (shown : View) (e : view history.track (scene_now history) number ≡ Ok shown) where
     full_said : (full : Bool) → full ≡ true
-        → MatchBool full (IsRefused history.track history.entries (refused_reply history.track Full) None Full) (IsGranted history.track history.entries (refused_reply history.track Full) None number shown)
+        → MatchBool full (IsRefused (begin_of history) history.entries (refused_reply history.track Full) None Full) (IsGranted (begin_of history) history.entries (refused_reply history.track Full) None number shown)
     full_said true h = (refl, refl)
     full_said false h = absurd (let c : ⊥ = cc in c)
 
-    pub shown_full : (after : HistoryOnTrack) → after ≡ history → is_full history ≡ true → Comes (λ track entries said more. AnswersAuthority track entries said more number) history (refused_reply history.track Full) after
+    pub shown_full : (after : HistoryOnTrack) → after ≡ history → is_full history ≡ true → Comes (λ begin entries said more. AnswersAuthority begin entries said more number) history (refused_reply history.track Full) after
     shown_full after same full =
         (None, asked_answers (refused_reply history.track Full) None (Ok shown) e (inl (full_said (is_full history) full)), same ∙ nothing_added history)
 
-    granted_said : (full : Bool) (reply : List ℕ) (added : Option Entry) → full ≡ false → IsGranted history.track history.entries reply added number shown
-        → MatchBool full (IsRefused history.track history.entries reply added Full) (IsGranted history.track history.entries reply added number shown)
+    granted_said : (full : Bool) (reply : List ℕ) (added : Option Entry) → full ≡ false → IsGranted (begin_of history) history.entries reply added number shown
+        → MatchBool full (IsRefused (begin_of history) history.entries reply added Full) (IsGranted (begin_of history) history.entries reply added number shown)
     granted_said true reply added h said = absurd (let c : ⊥ = cc in c)
     granted_said false reply added h said = said
 
-    pub shown_granted : (reply : List ℕ) (added : Option Entry) → is_full history ≡ false → IsGranted history.track history.entries reply added number shown
-        → AnswersAuthority history.track history.entries reply added number
+    pub shown_granted : (reply : List ℕ) (added : Option Entry) → is_full history ≡ false → IsGranted (begin_of history) history.entries reply added number shown
+        → AnswersAuthority (begin_of history) history.entries reply added number
     shown_granted reply added free said = asked_answers reply added (Ok shown) e (inl (granted_said (is_full history) reply added free said))
 
 -- ---- what the record answers to a candidate of a view that it shows
@@ -175,7 +179,7 @@ pub granted_answers : (history : HistoryOnTrack) (candidate : Candidate) (place 
     → is_full history ≡ false → place ≡ length history.entries → IsToldOf candidate (place + 1) granted
     → IsCandidateOf candidate.view candidate.grant → HasChosenProfiles candidate.view candidate.grant → IsInForm history.track
     → view history.track (scene_now history) candidate.view.train ≡ Ok candidate.view
-    → AnswersAuthority history.track history.entries (grant_text history.track granted) (Some (Granted candidate.grant)) candidate.view.train
+    → AnswersAuthority (begin_of history) history.entries (grant_text history.track granted) (Some (Granted candidate.grant)) candidate.view.train
 granted_answers history candidate place granted free at is best chosen form e =
     shown_granted history candidate.view.train candidate.view e (grant_text history.track granted) (Some (Granted candidate.grant)) free (
       candidate.grant,
@@ -191,7 +195,7 @@ pub granted_comes : (history after : HistoryOnTrack) (candidate : Candidate) (re
     → EntersOrMemory {E = CommitFault} (Ok receipt) history after (entry_granted history candidate) → place ≡ receipt.place → IsToldOf candidate (place + 1) granted
     → IsCandidateOf candidate.view candidate.grant → HasChosenProfiles candidate.view candidate.grant → IsInForm history.track
     → view history.track (scene_now history) candidate.view.train ≡ Ok candidate.view
-    → Comes (λ track entries said more. AnswersAuthority track entries said more candidate.view.train) history (grant_text history.track granted) after
+    → Comes (λ begin entries said more. AnswersAuthority begin entries said more candidate.view.train) history (grant_text history.track granted) after
 granted_comes history after candidate receipt place granted enters at is best chosen form e =
     let entry = grant_entered history candidate receipt.entry enters.0 in (
       Some (Granted candidate.grant),

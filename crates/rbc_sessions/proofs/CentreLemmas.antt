@@ -1,9 +1,9 @@
 -- A line: what its demand comes to is what it comes to.
 use Rattle.std.proofs.Common.{◌≡◌, ℕ, List, Option, None, Result, Ok, Err, refl, sym, ap, ◌∙◌, subst}
 use Rattle.rbc_model.specs.Tracks.{Track}
-use Rattle.rbc_model.specs.Histories.{Entry}
+use Rattle.rbc_model.specs.Histories.{Beginning, Entry}
 use Rattle.rbc_model.specs.SessionReply.{SessionRefusal, refused_reply}
-use Rattle.rbc_sweep.specs.Records.{HistoryOnTrack}
+use Rattle.rbc_sweep.specs.Records.{begin_of, HistoryOnTrack}
 use Rattle.rbc_replies.specs.Replies.{reply_text}
 use Rattle.rbc_replies.specs.declared.replies.SessionReply.{SessionReply}
 use Rattle.rbc_session_laws.specs.declared.demand.Demand.{Demand}
@@ -13,7 +13,7 @@ use Rattle.rbc_sessions.specs.Changes.{Comes, Goes}
 use Rattle.rbc_sessions.proofs.TellingLemmas.{nothing_added}
 
 -- the reply is printed with the names of the track, which stays
-pub printed_comes : (Answers : Track → List Entry → List ℕ → Option Entry → Type 0) (before after : HistoryOnTrack) (reply : SessionReply) (track : Track) → track ≡ after.track
+pub printed_comes : (Answers : Beginning → List Entry → List ℕ → Option Entry → Type 0) (before after : HistoryOnTrack) (reply : SessionReply) (track : Track) → track ≡ after.track
     → Comes Answers before (reply_text before.track reply) after → Comes Answers before (reply_text track reply) after
 printed_comes Answers before after reply track is comes =
     subst (λ t. Comes Answers before (reply_text t reply) after) (sym (is ∙ ap (λ (h : HistoryOnTrack). h.track) comes.2)) comes
@@ -21,7 +21,7 @@ printed_comes Answers before after reply track is comes =
 pub line_comes : (before after : HistoryOnTrack) (line reply : List ℕ) (demand : Result Demand SessionRefusal) (track : Track) → track ≡ before.track → demand ≡ demand_in track line
     → Comes (λ t entries said added. AnswersDemand t entries said added demand) before reply after → Goes before line reply after
 line_comes before after line reply demand track is e comes =
-    (comes.0, subst (AnswersDemand before.track before.entries reply comes.0) (e ∙ ap (λ t. demand_in t line) is) comes.1, comes.2)
+    (comes.0, subst (AnswersDemand (begin_of before) before.entries reply comes.0) (e ∙ ap (λ t. demand_in t line) is) comes.1, comes.2)
 
 -- what a line asks for, as it was found
 pub demand_is : (track : Track) (line : List ℕ) (found demand : Demand) → found ≡ demand → Ok found ≡ demand_in track line → Ok demand ≡ demand_in track line

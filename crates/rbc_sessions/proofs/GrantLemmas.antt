@@ -1,5 +1,5 @@
 -- What a sweep granted is kept, entry by entry.
-use Rattle.std.proofs.Common.{◌≡◌, ℕ, ◌+◌, ◌<◌, Bool, true, false, cond, List, [], ◌∷◌, ◌++◌, length, take, get_or, Some, Result, Ok, Err, ◌⊎◌, inl, inr, refl, sym, ap, ◌∙◌, subst, arith}
+use Rattle.std.proofs.Common.{◌≡◌, ℕ, ◌+◌, ◌<◌, ◌≤◌, Bool, true, false, cond, List, [], ◌∷◌, ◌++◌, length, take, get_or, Some, Result, Ok, Err, ◌⊎◌, inl, inr, refl, sym, ap, ◌∙◌, subst, arith}
 use Rattle.std.proofs.Math.Seq.{take-append_seam}
 use Rattle.std.specs.Prelude.{All, IsPermutation, OnOk, slice_get}
 use Rattle.std.proofs.lemmas.List.{get_or_read, take-take}
@@ -7,11 +7,10 @@ use Rattle.std.proofs.lemmas.List.Elements.{All-nil, All-cons, All-append, All-c
 use Rattle.std.proofs.lemmas.List.Sorted.{Contains-permutation}
 use Rattle.std.proofs.lemmas.Option.{slice_get_within}
 use Rattle.rbc_model.specs.declared.limits.TheConstants.{MOST_ENTRIES}
-use Rattle.rbc_model.specs.Histories.{Entry, Granted as GrantedEntry, Grants, Receipt, is_full, replay}
+use Rattle.rbc_model.specs.Histories.{Beginning, Entry, Granted as GrantedEntry, Grants, Receipt, is_full, replay}
 use Rattle.rbc_model.specs.SessionReply.{Full as NoRoom}
 use Rattle.rbc_model.specs.SessionText.{SessionLine, Ask}
 use Rattle.rbc_model.specs.SoundTracks.{IsInForm}
-use Rattle.rbc_model.specs.Tracks.{Track}
 use Rattle.rbc_model.specs.Views.{View, view}
 use Rattle.rbc_model.proofs.BasicLemmas.{slice_get-from_take}
 use Rattle.rbc_grant_laws.proofs.CandidateLemmas.{IsBest-candidate, view-train}
@@ -22,7 +21,7 @@ use Rattle.rbc_session_laws.proofs.GrantLemmas.{the_grant}
 use Rattle.rbc_sweep.specs.Asking.{IsAnswered}
 use Rattle.rbc_sweep.specs.Granted.{Granted as Grant}
 use Rattle.rbc_sweep.specs.Outcomes.{Begins, granted, receipts_of}
-use Rattle.rbc_sweep.specs.Records.{HistoryOnTrack, history_on, with_entry}
+use Rattle.rbc_sweep.specs.Records.{begin_on, begin_of, HistoryOnTrack, history_on, with_entry}
 use Rattle.rbc_sweep.specs.declared.outcome.Answer.{Answer}
 use Rattle.rbc_sweep.specs.declared.outcome.Answer.TheVariants.{Granted, Blocked, Gone, Full, Memory}
 use Rattle.rbc_sweep.specs.declared.outcome.Outcome.{Outcome}
@@ -42,33 +41,34 @@ adds_still a b place said begins is =
     let below = slice_get_within a.entries place is.entry is.stands in
     let first : take place b.entries ≡ take place a.entries =
     sym (take-take place n b.entries (omega (arith, below))) ∙ ap (λ l. take place l) begins.opening in
+    let same : begin_of b ≡ begin_of a = λ i. begin_on (begins.track i) (begins.begin i) (begins.most i) in
     record {
       entry = is.entry;
       stands = slice_get-from_take n b.entries place is.entry (subst (λ l. slice_get l place ≡ Some is.entry) (sym begins.opening) is.stands);
-      adds = subst (λ t. (demand_answer t (take place b.entries) (looked_up t said)).added ≡ Some is.entry) (sym begins.track)
-          (subst (λ l. (demand_answer a.track l (looked_up a.track said)).added ≡ Some is.entry) (sym first) is.adds);
+      adds = subst (λ (begin : Beginning). (demand_answer begin (take place b.entries) (looked_up begin.track said)).added ≡ Some is.entry) (sym same)
+          (subst (λ l. (demand_answer (begin_of a) l (looked_up a.track said)).added ≡ Some is.entry) (sym first) is.adds);
     }
 
 -- where there is room, the one grant for what a train is shown is added
-added_by : (track : Track) (entries : List Entry) (shown : View) (full : Bool) (grant : Grants) (entry : Entry) → full ≡ false → grant ≡ grant_of shown → entry ≡ GrantedEntry grant
-    → (cond full (refused track entries NoRoom) (grant_answer track entries shown)).added ≡ Some entry
-added_by track entries shown true grant entry free is of_grant = absurd (let c : ⊥ = cc in c)
-added_by track entries shown false grant entry free is of_grant = ap (λ e. Some e) (sym (of_grant ∙ ap (λ g. GrantedEntry g) is))
+added_by : (begin : Beginning) (entries : List Entry) (shown : View) (full : Bool) (grant : Grants) (entry : Entry) → full ≡ false → grant ≡ grant_of shown → entry ≡ GrantedEntry grant
+    → (cond full (refused begin entries NoRoom) (grant_answer begin entries shown)).added ≡ Some entry
+added_by begin entries shown true grant entry free is of_grant = absurd (let c : ⊥ = cc in c)
+added_by begin entries shown false grant entry free is of_grant = ap (λ e. Some e) (sym (of_grant ∙ ap (λ g. GrantedEntry g) is))
 
 -- what a train is granted at a desk is what the centre adds for it
-grant_added : (track : Track) (entries : List Entry) (train : ℕ) (grant : Grant) → IsInForm track → IsAnswered (history_on track entries) train (Ok grant)
-    → (demand_answer track entries (Ok (Authority train))).added ≡ Some grant.receipt.entry
-grant_added track entries train grant form is =
+grant_added : (begin : Beginning) (entries : List Entry) (train : ℕ) (grant : Grant) → IsInForm begin.track → IsAnswered (history_on begin entries) train (Ok grant)
+    → (demand_answer begin entries (Ok (Authority train))).added ≡ Some grant.receipt.entry
+grant_added begin entries train grant form is =
     let candidate = grant.candidate in
-    let scene = replay track entries in
-    let shown = viewed (view track scene train) (length entries) candidate.view is.1 in
+    let scene = replay begin entries in
+    let shown = viewed (view begin.track scene train) (length entries) candidate.view is.1 in
     let best = is.4 in
     let chosen = is.5 in
     let one =
-    the_grant track scene train candidate.view candidate.grant form shown (best.train ∙ view-train track scene train candidate.view shown)
-    (IsBest-candidate track scene train candidate.view candidate.grant form shown best) chosen.speeds chosen.grades in
-    subst (λ r. (asker_answer track entries train r).added ≡ Some grant.receipt.entry) (sym shown)
-    (added_by track entries candidate.view (is_full entries) candidate.grant grant.receipt.entry is.0 one is.3)
+    the_grant begin.track scene train candidate.view candidate.grant form shown (best.train ∙ view-train begin.track scene train candidate.view shown)
+    (IsBest-candidate begin.track scene train candidate.view candidate.grant form shown best) chosen.speeds chosen.grades in
+    subst (λ r. (asker_answer begin entries train r).added ≡ Some grant.receipt.entry) (sym shown)
+    (added_by begin entries candidate.view (is_full begin entries) candidate.grant grant.receipt.entry is.0 one is.3)
 
 pub grant_adds : (history : HistoryOnTrack) (train : ℕ) (grant : Grant) → HasGrant history train grant → IsInForm history.track → AddsEntry history grant.receipt.place (Ask train)
 grant_adds history train grant has form =
@@ -76,20 +76,21 @@ grant_adds history train grant has form =
     let begins = has.begins in
     let entry = grant.receipt.entry in
     let answered = has.answered in
-    let adds = grant_added before.track before.entries train grant (subst IsInForm begins.track form) answered in
+    let adds = grant_added (begin_of before) before.entries train grant (subst IsInForm begins.track form) answered in
     let here : AddsEntry (with_entry before entry) (length before.entries) (Ask train) = record {
       entry = entry;
       stands = last_stands before.entries entry;
-      adds = subst (λ b. (demand_answer before.track b (looked_up before.track (Ask train))).added ≡ Some entry) (sym (take-append_seam before.entries (entry ∷ []))) adds;
+      adds = subst (λ b. (demand_answer (begin_of before) b (looked_up before.track (Ask train))).added ≡ Some entry) (sym (take-append_seam before.entries (entry ∷ []))) adds;
     } in
     subst (λ n. AddsEntry history n (Ask train)) (sym answered.2) (adds_still (with_entry before entry) history (length before.entries) (Ask train) begins here)
 
--- a record has few entries
-pub grant_below : (history : HistoryOnTrack) (train : ℕ) (grant : Grant) → HasGrant history train grant → grant.receipt.place < MOST_ENTRIES
-grant_below history train grant is =
+-- a history has few entries
+pub grant_below : (history : HistoryOnTrack) (train : ℕ) (grant : Grant) → history.most ≤ MOST_ENTRIES → HasGrant history train grant → grant.receipt.place < MOST_ENTRIES
+grant_below history train grant bounded is =
     let before = is.before in
+    let begins = is.begins in
     let answered = is.answered in
-    let below = below_most (length before.entries) answered.0 in
+    let below = below_most before.most (length before.entries) (subst (λ most. most ≤ MOST_ENTRIES) begins.most bounded) answered.0 in
     omega (arith, answered.2)
 
 -- ---- rank by rank

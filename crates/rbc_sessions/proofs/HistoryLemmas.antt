@@ -1,6 +1,6 @@
 -- The lines of entries, printed one behind another.
-use Rattle.std.proofs.Common.{◌≡◌, ℕ, suc, ◌<◌, ◌≤◌, ◌+◌, List, [], ◌++◌, drop, drop-cons, get_or, length, map, add-one, refl, sym, ap, ◌∙◌}
-use Rattle.std.specs.Prelude.{option_map}
+use Rattle.std.proofs.Common.{◌≡◌, ℕ, Some, suc, ◌<◌, ◌≤◌, ◌+◌, List, [], ◌++◌, drop, drop-cons, get_or, length, map, add-one, refl, sym, ap, ◌∙◌}
+use Rattle.std.specs.Prelude.{option_map, slice_get}
 use Rattle.std.proofs.lemmas.List.{at_drop_all}
 use Rattle.std.proofs.lemmas.Option.{slice_get-map, slice_get_read}
 use Rattle.rbc_model.specs.Tracks.{Track}
@@ -8,8 +8,7 @@ use Rattle.rbc_model.specs.Histories.{Entry}
 use Rattle.rbc_model.specs.HistoryText.{entry_request, history_text}
 use Rattle.rbc_model.specs.SessionText.{said_words}
 use Rattle.rbc_model.specs.Words.{line_of}
-use Rattle.rbc_session_laws.specs.Retelling.{IsRetold, IsEntryOfTrack}
-use Rattle.rbc_session_laws.proofs.OfTrackLemmas.{retold_entries_are_of_track}
+use Rattle.rbc_session_laws.specs.Retelling.{IsEntryOfTrack}
 
 module _ {Held : Type 0} (entry_of : Held → Entry) (track : Track) (entries : List Held) (index : ℕ) where
   -- no entry is left
@@ -26,7 +25,7 @@ module _ {Held : Type 0} (entry_of : Held → Entry) (track : Track) (entries : 
         ∙ ap (λ i. line_of (said_words (entry_request track (entry_of entry))) ++ history_text track (map entry_of (drop i entries))) (sym (add-one index))
 
     -- it is of the track
-    pub entry-of_track : IsRetold track (map entry_of entries) → IsEntryOfTrack track (entry_of entry)
-    entry-of_track retold =
-        retold_entries_are_of_track track (map entry_of entries) retold index (entry_of entry)
+    pub entry-of_track : ((place : ℕ) (e : Entry) → slice_get (map entry_of entries) place ≡ Some e → IsEntryOfTrack track e) → IsEntryOfTrack track (entry_of entry)
+    entry-of_track of_track =
+        of_track index (entry_of entry)
         (slice_get-map entry_of entries index ∙ ap (option_map entry_of) (slice_get_read entries (length entries) index entry refl inside same))

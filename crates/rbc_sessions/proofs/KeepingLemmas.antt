@@ -12,11 +12,11 @@ use Rattle.rbc_model.specs.declared.refusals.LineFault.{LineFault}
 use Rattle.rbc_model.specs.Results.{◌>>=◌}
 use Rattle.rbc_model.specs.Tracks.{Track}
 use Rattle.rbc_model.specs.SoundTracks.{IsInForm}
-use Rattle.rbc_model.specs.Histories.{Entry, Receipt}
+use Rattle.rbc_model.specs.Histories.{Beginning, Entry, Receipt}
 use Rattle.rbc_model.specs.Sessions.{Prints}
 use Rattle.rbc_model.specs.SessionReply.{SessionRefusal, BadLine, Memory, refused_reply}
 use Rattle.rbc_model.specs.SessionText.{SessionLine, IsSayable, parse_session, said_line}
-use Rattle.rbc_sweep.specs.Records.{HistoryOnTrack}
+use Rattle.rbc_sweep.specs.Records.{begin_of, HistoryOnTrack}
 use Rattle.rbc_sweep.specs.Seats.{Seated}
 use Rattle.rbc_session_laws.specs.declared.demand.Demand.{Demand}
 use Rattle.rbc_session_laws.specs.Answers.{demand_answer, line_answer}
@@ -38,37 +38,37 @@ line_asks track line said read = ap (λ r. result_map_both (λ x. x) BadLine r >
 pub line_is_bad : (track : Track) (line : List ℕ) (fault : LineFault) → parse_session line ≡ Err fault → Err (BadLine fault) ≡ demand_in track line
 line_is_bad track line fault read = sym (ap (λ r. result_map_both (λ x. x) BadLine r >>= looked_up track) read)
 
-pub demand_adds : (track : Track) (before : List Entry) (said : SessionLine) (demand : Result Demand SessionRefusal) (reply : List ℕ) (entry : Entry) → IsInForm track → IsSayable said
-    → looked_up track said ≡ demand → AnswersDemand track before reply (Some entry) demand → (demand_answer track before (looked_up track said)).added ≡ Some entry
+pub demand_adds : (begin : Beginning) (before : List Entry) (said : SessionLine) (demand : Result Demand SessionRefusal) (reply : List ℕ) (entry : Entry) → IsInForm begin.track → IsSayable said
+    → looked_up begin.track said ≡ demand → AnswersDemand begin before reply (Some entry) demand → (demand_answer begin before (looked_up begin.track said)).added ≡ Some entry
 unfolding line_answer
-demand_adds track before said demand reply entry form sayable is answers =
+demand_adds begin before said demand reply entry form sayable is answers =
     let line = said_line said in
-    let asks = line_asks track line said (said_line_read said sayable) in
-    let right = subst (λ d. AnswersDemand track before reply (Some entry) d) (sym (asks ∙ is)) answers in
-    let heard = λ (lost : reply ≡ refused_reply track Memory). none-some entry (sym (given_up_adds_none track before line reply (Some entry) right lost)) in
-    let same = lines_are_answered track before line reply (Some entry) form right heard in
-    subst (λ d. (demand_answer track before d).added ≡ Some entry) asks (sym same.1)
+    let asks = line_asks begin.track line said (said_line_read said sayable) in
+    let right = subst (λ d. AnswersDemand begin before reply (Some entry) d) (sym (asks ∙ is)) answers in
+    let heard = λ (lost : reply ≡ refused_reply begin.track Memory). none-some entry (sym (given_up_adds_none begin before line reply (Some entry) right lost)) in
+    let same = lines_are_answered begin before line reply (Some entry) form right heard in
+    subst (λ d. (demand_answer begin before d).added ≡ Some entry) asks (sym same.1)
 
 pub last_stands : (entries : List Entry) (entry : Entry) → slice_get (entries ++ entry ∷ []) (length entries) ≡ Some entry
 last_stands [] entry = refl
 last_stands (e ∷ entries) entry = last_stands entries entry
 
 -- what led to the entry that was answered for adds it
-pub since_adds : (Answers : Track → List Entry → Option Entry → Type 0) (begun after : HistoryOnTrack) (receipt : Receipt) (said : SessionLine) (demand : Result Demand SessionRefusal) (reply : List ℕ)
+pub since_adds : (Answers : Beginning → List Entry → Option Entry → Type 0) (begun after : HistoryOnTrack) (receipt : Receipt) (said : SessionLine) (demand : Result Demand SessionRefusal) (reply : List ℕ)
     → (since : IsAnsweredSince Answers begun after (Some receipt)) → IsInForm begun.track → IsSayable said → looked_up begun.track said ≡ demand
-    → ((track : Track) (entries : List Entry) → Answers track entries (Some receipt.entry) → AnswersDemand track entries reply (Some receipt.entry) demand)
+    → ((begin : Beginning) (entries : List Entry) → Answers begin entries (Some receipt.entry) → AnswersDemand begin entries reply (Some receipt.entry) demand)
     → AddsEntry after receipt.place said
 since_adds Answers begun after receipt said demand reply since form sayable is as_demanded =
     let before = since.before in
     let later = since.later in
     let entry = receipt.entry in
-    let adds : (demand_answer before.track before.entries (looked_up before.track said)).added ≡ Some entry =
-    demand_adds before.track before.entries said demand reply entry (subst IsInForm (sym later.track) form) sayable
-    (ap (λ t. looked_up t said) later.track ∙ is) (as_demanded before.track before.entries since.answered) in
+    let adds : (demand_answer (begin_of before) before.entries (looked_up before.track said)).added ≡ Some entry =
+    demand_adds (begin_of before) before.entries said demand reply entry (subst IsInForm (sym later.track) form) sayable
+    (ap (λ t. looked_up t said) later.track ∙ is) (as_demanded (begin_of before) before.entries since.answered) in
     let here : AddsEntry (with_added before (Some entry)) (length before.entries) said = record {
       entry = entry;
       stands = last_stands before.entries entry;
-      adds = subst (λ b. (demand_answer before.track b (looked_up before.track said)).added ≡ Some entry) (sym (take-append_seam before.entries (entry ∷ []))) adds;
+      adds = subst (λ b. (demand_answer (begin_of before) b (looked_up before.track said)).added ≡ Some entry) (sym (take-append_seam before.entries (entry ∷ []))) adds;
     } in
     subst (λ n. AddsEntry after n said) (sym since.next) (subst (λ (h : HistoryOnTrack). AddsEntry h (length before.entries) said) (sym since.told) here)
 

@@ -2,12 +2,11 @@
 use Rattle.std.proofs.Common.{◌≡◌, ◌≢◌, ℕ, Bool, true, false, List, [], ◌∷◌, Option, None, Result, Ok, Err, ◌⊎◌, inl, inr, refl, sym, ap, ◌∙◌, subst, append-nil}
 use Rattle.std.specs.Prelude.{bytes_eq}
 use Rattle.std.proofs.lemmas.Slice.Eq.{bytes_eq-Decides}
-use Rattle.rbc_model.specs.Tracks.{Track}
 use Rattle.rbc_model.specs.SoundTracks.{IsInForm}
-use Rattle.rbc_model.specs.Histories.{Entry}
+use Rattle.rbc_model.specs.Histories.{Beginning, Entry}
 use Rattle.rbc_model.specs.SessionReply.{SessionRefusal, Full, Memory, refused_reply}
 use Rattle.rbc_sweep.specs.Later.{IsLater}
-use Rattle.rbc_sweep.specs.Records.{HistoryOnTrack, history_on}
+use Rattle.rbc_sweep.specs.Records.{begin_of, HistoryOnTrack, history_on}
 use Rattle.rbc_session_laws.specs.declared.demand.Demand.{Demand}
 use Rattle.rbc_session_laws.specs.declared.demand.Demand.TheVariants.{Nothing, Event, Authority, Show}
 use Rattle.rbc_session_laws.specs.Demands.{demand_in}
@@ -22,39 +21,39 @@ use Rattle.rbc_sessions.proofs.SeatSessionLemmas.{turn_track}
 module _ (begun : HistoryOnTrack) (turn : SeatTurn) (form : IsInForm begun.track) where
   -- a right answer to the line after this history is the one that is computed
   computed : (before : HistoryOnTrack) → (before ≡ begun) ⊎ IsLater begun before → before.track ≡ begun.track
-      → AnswersLine before.track before.entries turn.line turn.reply (entry_in turn.receipt) → IsNext before.entries turn.receipt → turn.told ≡ with_added before (entry_in turn.receipt)
+      → AnswersLine (begin_of before) before.entries turn.line turn.reply (entry_in turn.receipt) → IsNext before.entries turn.receipt → turn.told ≡ with_added before (entry_in turn.receipt)
       → turn.reply ≢ refused_reply begun.track Memory → IsLineAnswer begun turn
   computed before since same answers next told kept =
-      let answer = lines_are_answered before.track before.entries turn.line turn.reply (entry_in turn.receipt) (subst IsInForm (sym same) form) answers
+      let answer = lines_are_answered (begin_of before) before.entries turn.line turn.reply (entry_in turn.receipt) (subst IsInForm (sym same) form) answers
       (subst (λ t. turn.reply ≢ refused_reply t Memory) (sym same) kept) in
       record { before = before; since = since; reply = answer.0; added = answer.1; next = next; told = told }
 
   -- nothing was entered
-  idle : (demand : Result Demand SessionRefusal) → demand_in begun.track turn.line ≡ demand → AnswersDemand begun.track begun.entries turn.reply None demand
+  idle : (demand : Result Demand SessionRefusal) → demand_in begun.track turn.line ≡ demand → AnswersDemand (begin_of begun) begun.entries turn.reply None demand
       → turn.receipt ≡ None → turn.told ≡ begun → turn.reply ≢ refused_reply begun.track Memory → IsLineAnswer begun turn
   idle demand e answers none same kept =
       computed begun (inl refl) refl
-      (subst (λ d. AnswersDemand begun.track begun.entries turn.reply (entry_in turn.receipt) d) (sym e)
-      (subst (λ r. AnswersDemand begun.track begun.entries turn.reply (entry_in r) demand) (sym none) answers))
+      (subst (λ d. AnswersDemand (begin_of begun) begun.entries turn.reply (entry_in turn.receipt) d) (sym e)
+      (subst (λ r. AnswersDemand (begin_of begun) begun.entries turn.reply (entry_in r) demand) (sym none) answers))
       (subst (IsNext begun.entries) (sym none) tt)
-      (same ∙ sym (ap (history_on begun.track) (append-nil begun.entries)) ∙ ap (λ r. with_added begun (entry_in r)) (sym none))
+      (same ∙ sym (ap (history_on (begin_of begun)) (append-nil begun.entries)) ∙ ap (λ r. with_added begun (entry_in r)) (sym none))
       kept
 
   -- it was answered after a later history
-  since : (Answers : Track → List Entry → Option Entry → Type 0) (answered : IsAnsweredSince Answers begun turn.told turn.receipt) (demand : Result Demand SessionRefusal)
-      → demand_in begun.track turn.line ≡ demand → AnswersDemand answered.before.track answered.before.entries turn.reply (entry_in turn.receipt) demand
+  since : (Answers : Beginning → List Entry → Option Entry → Type 0) (answered : IsAnsweredSince Answers begun turn.told turn.receipt) (demand : Result Demand SessionRefusal)
+      → demand_in begun.track turn.line ≡ demand → AnswersDemand (begin_of answered.before) answered.before.entries turn.reply (entry_in turn.receipt) demand
       → turn.reply ≢ refused_reply begun.track Memory → IsLineAnswer begun turn
   since Answers answered demand e answers kept =
       let before = answered.before in
       let later = answered.later in
       computed before (inr later) later.track
-      (subst (λ d. AnswersDemand before.track before.entries turn.reply (entry_in turn.receipt) d) (sym (ap (λ t. demand_in t turn.line) later.track ∙ e)) answers)
+      (subst (λ d. AnswersDemand (begin_of before) before.entries turn.reply (entry_in turn.receipt) d) (sym (ap (λ t. demand_in t turn.line) later.track ∙ e)) answers)
       answered.next answered.told kept
 
-  asked : (train : ℕ) (answered : IsAnsweredSince (λ track entries added. AnswersAsked track entries turn.reply added train) begun turn.told turn.receipt)
+  asked : (train : ℕ) (answered : IsAnsweredSince (λ begin entries added. AnswersAsked begin entries turn.reply added train) begun turn.told turn.receipt)
       → demand_in begun.track turn.line ≡ Ok (Authority train) → turn.reply ≢ refused_reply begun.track Memory
-      → AnswersAsked answered.before.track answered.before.entries turn.reply (entry_in turn.receipt) train → IsHeldUp begun.track turn.reply ⊎ IsLineAnswer begun turn
-  asked train answered e kept (inl answers) = inr (since (λ track entries added. AnswersAsked track entries turn.reply added train) answered (Ok (Authority train)) e answers kept)
+      → AnswersAsked (begin_of answered.before) answered.before.entries turn.reply (entry_in turn.receipt) train → IsHeldUp begun.track turn.reply ⊎ IsLineAnswer begun turn
+  asked train answered e kept (inl answers) = inr (since (λ begin entries added. AnswersAsked begin entries turn.reply added train) answered (Ok (Authority train)) e answers kept)
   asked train answered e kept (inr (known, inl (full, (said, none)))) = let later = answered.later in inl (inr (subst (λ t. turn.reply ≡ refused_reply t Full) later.track said))
   asked train answered e kept (inr (known, inr (said, none))) = let later = answered.later in inl (inl (subst (λ t. turn.reply ≡ refused_reply t Memory) later.track said))
 
@@ -62,10 +61,10 @@ module _ (begun : HistoryOnTrack) (turn : SeatTurn) (form : IsInForm begun.track
       → turn.reply ≢ refused_reply begun.track Memory → IsHeldUp begun.track turn.reply ⊎ IsLineAnswer begun turn
   demanded (Ok Nothing) e (said, (none, same)) kept = inr (idle (Ok Nothing) e (said, refl) none same kept)
   demanded (Ok (Event told)) e answered kept =
-      inr (since (λ track entries added. AnswersEvent track entries turn.reply added told) answered (Ok (Event told)) e answered.answered kept)
+      inr (since (λ begin entries added. AnswersEvent begin entries turn.reply added told) answered (Ok (Event told)) e answered.answered kept)
   demanded (Ok (Authority train)) e answered kept = asked train answered e kept answered.answered
   demanded (Ok (Show inquiry)) e answered kept =
-      inr (since (λ track entries added. AnswersInquiry track entries turn.reply added inquiry) answered (Ok (Show inquiry)) e answered.answered kept)
+      inr (since (λ begin entries added. AnswersInquiry begin entries turn.reply added inquiry) answered (Ok (Show inquiry)) e answered.answered kept)
   demanded (Err refusal) e (said, (none, same)) kept = inr (idle (Err refusal) e (said, refl) none same kept)
 
   answered_so : AnswersDemandAtDesk begun turn.told turn.reply turn.receipt (demand_in begun.track turn.line) → IsHeldUp begun.track turn.reply ⊎ IsLineAnswer begun turn

@@ -1,8 +1,9 @@
 -- What is told and asked at a desk: the desk's answer as the reply to its line.
-use Rattle.std.proofs.Common.{◌≡◌, ℕ, ◌+◌, ◌<◌, false, List, length, Option, Some, None, Result, Ok, Err, refl, sym, ap, ◌∙◌, subst, inl, inr, ℤ, arith}
-use Rattle.std.proofs.lemmas.Bool.Decides.{nat_tests}
+use Rattle.std.proofs.Common.{◌≡◌, ℕ, ◌+◌, ◌<◌, ◌≤◌, false, List, length, Option, Some, None, Result, Ok, Err, refl, sym, ap, ◌∙◌, subst, inl, inr, ℤ, arith}
+use Rattle.std.proofs.lemmas.Bool.{leb-false}
 use Rattle.std.specs.Prelude.{nat_le, IfOk}
 use Rattle.std.specs.Result.{result_map_both}
+use Rattle.rbc_model.specs.Scenes.{Scene}
 use Rattle.rbc_model.specs.declared.memory.OrMemory.{OrMemory}
 use Rattle.rbc_model.specs.declared.memory.OrMemory.TheVariants.{Refused, Memory as NoMemory}
 use Rattle.rbc_model.specs.declared.refusals.Obstacle.{Obstacle}
@@ -14,7 +15,7 @@ use Rattle.rbc_model.specs.Answers.{RefusesOrMemory}
 use Rattle.rbc_model.specs.SoundTracks.{IsInForm, IsSound}
 use Rattle.rbc_model.specs.Tracks.{Track}
 use Rattle.rbc_model.specs.Views.{View, view}
-use Rattle.rbc_model.specs.Histories.{Entry, Receipt, replay}
+use Rattle.rbc_model.specs.Histories.{Beginning, Entry, Receipt, replay}
 use Rattle.rbc_model.specs.SessionReply.{BadEvent, Full, Memory, accepted_reply, blocked_reply, refused_reply}
 use Rattle.rbc_grant_laws.specs.Candidates.{IsCandidateOf}
 use Rattle.rbc_grant_laws.proofs.CandidateLemmas.{view-train}
@@ -22,7 +23,7 @@ use Rattle.rbc_sweep.specs.Candidates.{HasChosenProfiles}
 use Rattle.rbc_sweep.specs.ApplyFault.{ApplyFault}
 use Rattle.rbc_model.specs.declared.limits.TheConstants.{MOST_ENTRIES}
 use Rattle.rbc_sweep.specs.Entering.{entry_told}
-use Rattle.rbc_sweep.specs.Records.{HistoryOnTrack, history_on}
+use Rattle.rbc_sweep.specs.Records.{IsRight, begin_on, begin_of, HistoryOnTrack, history_on}
 use Rattle.rbc_sweep.specs.AskFault.{AskFault}
 use Rattle.rbc_sweep.specs.AskFault.TheVariants.{UnknownTrain, Blocked, Full as FullToAsker}
 use Rattle.rbc_sweep.specs.Granted.{Granted as GrantedAtDesk}
@@ -40,8 +41,8 @@ use Rattle.rbc_sessions.specs.Shown.{told_refusal, entry_granted_in, IsToldOf}
 use Rattle.rbc_sessions.proofs.AskingLemmas.{asked_answers, blocked_named, shown_named, granted_answers, told_whole}
 use Rattle.rbc_sessions.proofs.TellingLemmas.{entered_free, nothing_added, told_answers, not_told_answers, not_told_named}
 
-pub below_most : (n : ℕ) → nat_le MOST_ENTRIES n ≡ false → n < MOST_ENTRIES
-below_most n e = grind (arith, nat_tests)
+pub below_most : (most n : ℕ) → most ≤ MOST_ENTRIES → nat_le most n ≡ false → n < MOST_ENTRIES
+below_most most n bounded e = let few = leb-false most n e in omega (arith, bounded, few)
 
 -- ---- what is told
 
@@ -51,7 +52,7 @@ told_on : (begun after : HistoryOnTrack) (told : Told) (answer : Result Receipt 
 told_on begun after told answer track on since = let later = since.later in later.track ∙ on
 
 pub told_at_desk : (told : Told) (receipt : Receipt) (place : ℕ) (old new : Seated) → IsToldThen old.told new.told told (Ok receipt) → place ≡ receipt.place
-    → IsAnsweredSince (λ track entries added. AnswersEvent track entries (accepted_reply (place + 1)) added told) old.told new.told (Some receipt)
+    → IsAnsweredSince (λ begin entries added. AnswersEvent begin entries (accepted_reply (place + 1)) added told) old.told new.told (Some receipt)
 told_at_desk told receipt place old new since at =
     let entered = since.entered in record {
       before = since.before;
@@ -68,7 +69,7 @@ not_told_at_desk told fault track old new on since =
     let before = since.before in record {
       before = before;
       later = since.later;
-      answered = subst (λ t. AnswersEvent before.track before.entries (refused_reply t (refusal_view (told_refusal fault))) None told) (told_on old.told new.told told (Err fault) track on since)
+      answered = subst (λ t. AnswersEvent (begin_of before) before.entries (refused_reply t (refusal_view (told_refusal fault))) None told) (told_on old.told new.told told (Err fault) track on since)
           (not_told_answers before told fault entered.0 (λ e. since.needed (ap Err e)));
       next = tt;
       told = entered.1 ∙ nothing_added before;
@@ -79,13 +80,16 @@ pub not_told_named_at_desk : (told : Told) (fault : OrMemory ApplyFault) (track 
 not_told_named_at_desk told fault track begun after sound of_track on since =
     let is = told_on begun after told (Err fault) track on since in
     let entered = since.entered in
-    not_told_named (history_on track since.before.entries) told fault sound of_track (subst (λ t. RefusesOrMemory fault (entry_told (history_on t since.before.entries) told)) is entered.0)
+    let before = since.before in
+    not_told_named (history_on (begin_on track before.begin before.most) before.entries) told fault sound of_track
+    (subst (λ t. RefusesOrMemory fault (entry_told (history_on (begin_on t before.begin before.most) before.entries) told)) is entered.0)
 
 -- where a receipt was given, its place is one that a history may have
 pub told_below : (begun after : HistoryOnTrack) (told : Told) (receipt : Receipt) → IsToldThen begun after told (Ok receipt) → receipt.place < MOST_ENTRIES
 told_below begun after told receipt since =
     let entered = since.entered in
-    let below = below_most (length since.before.entries) (entered_free since.before told receipt.entry entered.0) in omega (arith, entered.1)
+    let later = since.later in
+    let below = below_most since.before.most (length since.before.entries) later.right.bounded (entered_free since.before told receipt.entry entered.0) in omega (arith, entered.1)
 
 -- ---- what is asked
 
@@ -102,32 +106,32 @@ stopped_at (Err (BlockedAt other place)) version obstacle at seen_at e =
     let same : other ≡ obstacle = cc in let placed : place ≡ at = cc in let version_told : seen_at ≡ version = cc in
     (ap (λ o. Err (BlockedAt o place)) same ∙ ap (λ p. Err (BlockedAt obstacle p)) placed, version_told)
 
-module _ (track : Track) (entries : List Entry) (train : ℕ) where
+module _ (begin : Beginning) (entries : List Entry) (train : ℕ) where
   abbrev there : HistoryOnTrack
-  there = history_on track entries
+  there = history_on begin entries
 
   abbrev shown_there : Result View ViewFault
-  shown_there = view track (replay track entries) train
+  shown_there = view begin.track (replay begin entries) train
 
-  pub asked_unknown : IsAnswered there train (Err (Refused UnknownTrain)) → AnswersAsked track entries (refused_reply track (BadEvent (NoSuchTrain train))) None train
+  pub asked_unknown : IsAnswered there train (Err (Refused UnknownTrain)) → AnswersAsked begin entries (refused_reply begin.track (BadEvent (NoSuchTrain train))) None train
   asked_unknown is =
-      inl (asked_answers there train (refused_reply track (BadEvent (NoSuchTrain train))) None (Err NoTrainShown) (not_seen shown_there (length entries) is) (refl, refl))
+      inl (asked_answers there train (refused_reply begin.track (BadEvent (NoSuchTrain train))) None (Err NoTrainShown) (not_seen shown_there (length entries) is) (refl, refl))
 
   pub asked_blocked : (obstacle : Obstacle) (at : ℤ) (version : ℕ) → IsAnswered there train (Err (Refused (Blocked obstacle at version)))
-      → AnswersAsked track entries (blocked_reply track train version at obstacle) None train
+      → AnswersAsked begin entries (blocked_reply begin.track train version at obstacle) None train
   asked_blocked obstacle at version is =
       let stop = stopped_at shown_there (length entries) obstacle at version is in
       inl
-      (asked_answers there train (blocked_reply track train version at obstacle) None (Err (BlockedAt obstacle at)) stop.0
-      (inl (ap (λ n. blocked_reply track train n at obstacle) stop.1, refl)))
+      (asked_answers there train (blocked_reply begin.track train version at obstacle) None (Err (BlockedAt obstacle at)) stop.0
+      (inl (ap (λ n. blocked_reply begin.track train n at obstacle) stop.1, refl)))
 
-  pub asked_blocked_named : (obstacle : Obstacle) (at : ℤ) (version : ℕ) → IsSound track → IsAnswered there train (Err (Refused (Blocked obstacle at version))) → ObstacleIsOfTrack track obstacle
-  asked_blocked_named obstacle at version sound is = let stop = stopped_at shown_there (length entries) obstacle at version is in blocked_named there train obstacle at sound stop.0
+  pub asked_blocked_named : (obstacle : Obstacle) (at : ℤ) (version : ℕ) → IsRight there → IsSound begin.track → IsAnswered there train (Err (Refused (Blocked obstacle at version))) → ObstacleIsOfTrack begin.track obstacle
+  asked_blocked_named obstacle at version right sound is = let stop = stopped_at shown_there (length entries) obstacle at version is in blocked_named there train obstacle at right sound stop.0
 
-  pub asked_full : IsAnswered there train (Err (Refused FullToAsker)) → AnswersAsked track entries (refused_reply track Full) None train
+  pub asked_full : IsAnswered there train (Err (Refused FullToAsker)) → AnswersAsked begin entries (refused_reply begin.track Full) None train
   asked_full is = inr (is.1, inl (is.0, (refl, refl)))
 
-  pub asked_given_up : IsAnswered there train (Err NoMemory) → AnswersAsked track entries (refused_reply track Memory) None train
+  pub asked_given_up : IsAnswered there train (Err NoMemory) → AnswersAsked begin entries (refused_reply begin.track Memory) None train
   asked_given_up is = inr (is, inr (refl, refl))
 
   module _ (granted : GrantedAtDesk) (is : IsAnswered there train (Ok granted)) where
@@ -135,27 +139,28 @@ module _ (track : Track) (entries : List Entry) (train : ℕ) where
     shown_to = viewed shown_there (length entries) granted.candidate.view is.1
 
     its_train : granted.candidate.view.train ≡ train
-    its_train = view-train track (replay track entries) train granted.candidate.view shown_to
+    its_train = view-train begin.track (replay begin entries) train granted.candidate.view shown_to
 
     module _ (place : ℕ) (told : ToldGrant) (of_candidate : IsToldOf granted.candidate (place + 1) told)
         (best : IsCandidateOf granted.candidate.view granted.candidate.grant) (chosen : HasChosenProfiles granted.candidate.view granted.candidate.grant) where
-      pub asked_granted : place ≡ granted.receipt.place → IsInForm track → AnswersAsked track entries (grant_text track told) (Some granted.receipt.entry) train
+      pub asked_granted : place ≡ granted.receipt.place → IsInForm begin.track → AnswersAsked begin entries (grant_text begin.track told) (Some granted.receipt.entry) train
       asked_granted at form =
-          subst (λ n. AnswersAsked track entries (grant_text track told) (Some granted.receipt.entry) n) its_train
-          (subst (λ entry. AnswersAsked track entries (grant_text track told) (Some entry) granted.candidate.view.train) (sym is.3)
+          subst (λ n. AnswersAsked begin entries (grant_text begin.track told) (Some granted.receipt.entry) n) its_train
+          (subst (λ entry. AnswersAsked begin entries (grant_text begin.track told) (Some entry) granted.candidate.view.train) (sym is.3)
           (inl
           (granted_answers there granted.candidate place told is.0 (at ∙ is.2) of_candidate best chosen form
-          (subst (λ n. view track (replay track entries) n ≡ Ok granted.candidate.view) (sym its_train) shown_to))))
+          (subst (λ n. view begin.track (replay begin entries) n ≡ Ok granted.candidate.view) (sym its_train) shown_to))))
 
-      pub asked_granted_whole : IsSound track → ObstacleIsOfTrack track told.obstacle
-      asked_granted_whole sound = told_whole track granted.candidate (place + 1) told of_candidate best chosen (shown_named there train granted.candidate.view sound shown_to)
+      pub asked_granted_whole : IsRight there → IsSound begin.track → ObstacleIsOfTrack begin.track told.obstacle
+      asked_granted_whole right sound = told_whole begin.track granted.candidate (place + 1) told of_candidate best chosen (shown_named there train granted.candidate.view right sound shown_to)
 
 -- the history that was answered after is on the track of what had been told
 asked_on : (begun after : HistoryOnTrack) (train : ℕ) (answer : Result GrantedAtDesk (OrMemory AskFault)) (track : Track) → begun.track ≡ track → (since : IsAnsweredThen begun after train answer)
-    → IsAnswered (history_on track since.before.entries) train answer
+    → IsAnswered (history_on (begin_on track since.before.begin since.before.most) since.before.entries) train answer
 asked_on begun after train answer track on since =
+    let before = since.before in
     let later = since.later in
-    subst (λ t. IsAnswered (history_on t since.before.entries) train answer) (later.track ∙ on) since.answered
+    subst (λ t. IsAnswered (history_on (begin_on t before.begin before.most) before.entries) train answer) (later.track ∙ on) since.answered
 
 -- the receipt for what a train is granted, if it is
 abbrev pub receipt_in : Result GrantedAtDesk (OrMemory AskFault) → Option Receipt
@@ -165,7 +170,7 @@ receipt_in (Err fault) = None
 -- the answer after a history that goes on from what the seat had been told, as a reply to a train that asks
 pub asked_at_desk : (train : ℕ) (track : Track) (reply : List ℕ) (answer : Result GrantedAtDesk (OrMemory AskFault)) (old new : Seated) → old.told.track ≡ track
     → IsAnsweredThen old.told new.told train answer
-    → ((entries : List Entry) → IsAnswered (history_on track entries) train answer → AnswersAsked track entries reply (entry_granted_in answer) train)
+    → ((scene : Scene) (most : ℕ) (entries : List Entry) → IsAnswered (history_on (begin_on track scene most) entries) train answer → AnswersAsked (begin_on track scene most) entries reply (entry_granted_in answer) train)
     → IsAnsweredSince (λ t entries added. AnswersAsked t entries reply added train) old.told new.told (receipt_in answer)
 asked_at_desk train track reply (Ok granted) old new on since says =
     let before = since.before in
@@ -173,8 +178,8 @@ asked_at_desk train track reply (Ok granted) old new on since says =
     let answered = since.answered in record {
       before = before;
       later = later;
-      answered = subst (λ t. AnswersAsked t before.entries reply (Some granted.receipt.entry) train) (sym (later.track ∙ on))
-          (says before.entries (asked_on old.told new.told train (Ok granted) track on since));
+      answered = subst (λ t. AnswersAsked (begin_on t before.begin before.most) before.entries reply (Some granted.receipt.entry) train) (sym (later.track ∙ on))
+          (says before.begin before.most before.entries (asked_on old.told new.told train (Ok granted) track on since));
       next = answered.2;
       told = since.told;
     }
@@ -183,22 +188,33 @@ asked_at_desk train track reply (Err fault) old new on since says =
     let later = since.later in record {
       before = before;
       later = later;
-      answered = subst (λ t. AnswersAsked t before.entries reply None train) (sym (later.track ∙ on)) (says before.entries (asked_on old.told new.told train (Err fault) track on since));
+      answered = subst (λ t. AnswersAsked (begin_on t before.begin before.most) before.entries reply None train) (sym (later.track ∙ on))
+          (says before.begin before.most before.entries (asked_on old.told new.told train (Err fault) track on since));
       next = tt;
       told = since.told ∙ nothing_added before;
     }
 
 -- what is granted is what the train would be granted alone
-pub granted_alone : (track : Track) (entries : List Entry) (reply : List ℕ) (entry : Entry) (train : ℕ) → AnswersAsked track entries reply (Some entry) train
-    → AnswersAuthority track entries reply (Some entry) train
-granted_alone track entries reply entry train (inl answers) = answers
-granted_alone track entries reply entry train (inr (known, inl (full, (said, none)))) = absurd (let c : ⊥ = cc in c)
-granted_alone track entries reply entry train (inr (known, inr (said, none))) = absurd (let c : ⊥ = cc in c)
+pub granted_alone : (begin : Beginning) (entries : List Entry) (reply : List ℕ) (entry : Entry) (train : ℕ) → AnswersAsked begin entries reply (Some entry) train
+    → AnswersAuthority begin entries reply (Some entry) train
+granted_alone begin entries reply entry train (inl answers) = answers
+granted_alone begin entries reply entry train (inr (known, inl (full, (said, none)))) = absurd (let c : ⊥ = cc in c)
+granted_alone begin entries reply entry train (inr (known, inr (said, none))) = absurd (let c : ⊥ = cc in c)
 
 pub asked_below : (begun after : HistoryOnTrack) (train : ℕ) (answer : Result GrantedAtDesk (OrMemory AskFault)) → IsAnsweredThen begun after train answer → IfOk answer (λ granted. granted.receipt.place < MOST_ENTRIES)
-asked_below begun after train (Ok granted) since = let answered = since.answered in let below = below_most (length since.before.entries) answered.0 in let at = answered.2 in omega arith
+asked_below begun after train (Ok granted) since =
+    let answered = since.answered in
+    let later = since.later in
+    let below = below_most since.before.most (length since.before.entries) later.right.bounded answered.0 in
+    let at = answered.2 in omega arith
 asked_below begun after train (Err fault) since = tt
 
 pub asked_whole : (train : ℕ) (track : Track) (answer : Result GrantedAtDesk (OrMemory AskFault)) (reply : SessionReply) (begun after : HistoryOnTrack) → begun.track ≡ track
-    → IsAnsweredThen begun after train answer → ((entries : List Entry) → IsAnswered (history_on track entries) train answer → ReplyIsWhole track reply) → ReplyIsWhole track reply
-asked_whole train track answer reply begun after on since whole = whole since.before.entries (asked_on begun after train answer track on since)
+    → IsAnsweredThen begun after train answer → ((scene : Scene) (most : ℕ) (entries : List Entry) → IsRight (history_on (begin_on track scene most) entries) → IsAnswered (history_on (begin_on track scene most) entries) train answer → ReplyIsWhole track reply)
+    → ReplyIsWhole track reply
+asked_whole train track answer reply begun after on since whole =
+    let before = since.before in
+    let later = since.later in
+    whole before.begin before.most before.entries
+    (subst (λ t. IsRight (history_on (begin_on t before.begin before.most) before.entries)) (later.track ∙ on) later.right)
+    (asked_on begun after train answer track on since)

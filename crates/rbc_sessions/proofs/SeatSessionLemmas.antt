@@ -1,8 +1,7 @@
 -- A talk at a desk from one seat, turn by turn.
 use Rattle.std.proofs.Common.{◌≡◌, ℕ, List, [], ◌∷◌, Option, Result, Ok, Err, refl, sym, subst}
 use Rattle.std.proofs.Math.Seq.{take-append_seam}
-use Rattle.rbc_model.specs.Tracks.{Track}
-use Rattle.rbc_model.specs.Histories.{Entry, Receipt}
+use Rattle.rbc_model.specs.Histories.{Beginning, Entry, Receipt}
 use Rattle.rbc_model.specs.SessionReply.{SessionRefusal}
 use Rattle.rbc_sweep.specs.Outcomes.{Begins}
 use Rattle.rbc_sweep.specs.Records.{HistoryOnTrack}
@@ -18,9 +17,9 @@ use Rattle.rbc_session_laws.specs.SessionRuns.{entries_of}
 -- ---- what is told from turn to turn
 
 begins_added : (before : HistoryOnTrack) (added : Option Entry) → Begins before (with_added before added)
-begins_added before added = record { track = refl; opening = take-append_seam before.entries (entries_of added) }
+begins_added before added = record { track = refl; begin = refl; most = refl; opening = take-append_seam before.entries (entries_of added) }
 
-begins_since : (Answers : Track → List Entry → Option Entry → Type 0) (begun after : HistoryOnTrack) (receipt : Option Receipt) → IsAnsweredSince Answers begun after receipt → Begins begun after
+begins_since : (Answers : Beginning → List Entry → Option Entry → Type 0) (begun after : HistoryOnTrack) (receipt : Option Receipt) → IsAnsweredSince Answers begun after receipt → Begins begun after
 begins_since Answers begun after receipt since =
     begins_still begun since.before after (begins_later begun since.before since.later) (subst (Begins since.before) (sym since.told) (begins_added since.before (entry_in receipt)))
 

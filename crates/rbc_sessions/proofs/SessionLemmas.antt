@@ -5,26 +5,25 @@ use Rattle.std.proofs.lemmas.List.{length-map}
 use Rattle.rbc_model.specs.declared.limits.TheConstants.{LONGEST_LINE, MOST_LINES}
 use Rattle.rbc_model.specs.declared.sessions.SessionFault.{SessionFault}
 use Rattle.rbc_model.specs.Talks.{Answered, IsTalk, Ends}
-use Rattle.rbc_model.specs.Tracks.{Track}
-use Rattle.rbc_model.specs.Histories.{Entry}
-use Rattle.rbc_sweep.specs.Records.{HistoryOnTrack}
+use Rattle.rbc_model.specs.Histories.{Beginning, Entry}
+use Rattle.rbc_sweep.specs.Records.{begin_of, HistoryOnTrack}
 use Rattle.rbc_session_laws.specs.Turns.{AnswersLine}
 use Rattle.rbc_session_laws.specs.SessionRuns.{Turn, entries_of, entries_added, lines_treated, replies_to, IsSession}
 use Rattle.rbc_sessions.specs.Changes.{with_added, Goes}
 
 -- each turn is right after the entries of those before it
-abbrev pub AreRight : Track → List Entry → List Turn → Type 0
-AreRight track before turns = (place : ℕ) (turn : Turn) → slice_get turns place ≡ Some turn
-    → AnswersLine track (before ++ entries_added (take place turns)) turn.line turn.reply turn.added
+abbrev pub AreRight : Beginning → List Entry → List Turn → Type 0
+AreRight begin before turns = (place : ℕ) (turn : Turn) → slice_get turns place ≡ Some turn
+    → AnswersLine begin (before ++ entries_added (take place turns)) turn.line turn.reply turn.added
 
 -- one more turn before those that are right after it
-one_more : (track : Track) (before : List Entry) (turn : Turn) (turns : List Turn) → AnswersLine track before turn.line turn.reply turn.added
-    → AreRight track (before ++ entries_of turn.added) turns → AreRight track before (turn ∷ turns)
-one_more track before turn turns first later zero other here =
-    subst (λ (t : Turn). AnswersLine track (before ++ []) t.line t.reply t.added) (let same : turn ≡ other = cc in same)
-    (subst (λ entries. AnswersLine track entries turn.line turn.reply turn.added) (sym (append-nil before)) first)
-one_more track before turn turns first later (suc place) other here =
-    subst (λ entries. AnswersLine track entries other.line other.reply other.added)
+one_more : (begin : Beginning) (before : List Entry) (turn : Turn) (turns : List Turn) → AnswersLine begin before turn.line turn.reply turn.added
+    → AreRight begin (before ++ entries_of turn.added) turns → AreRight begin before (turn ∷ turns)
+one_more begin before turn turns first later zero other here =
+    subst (λ (t : Turn). AnswersLine begin (before ++ []) t.line t.reply t.added) (let same : turn ≡ other = cc in same)
+    (subst (λ entries. AnswersLine begin entries turn.line turn.reply turn.added) (sym (append-nil before)) first)
+one_more begin before turn turns first later (suc place) other here =
+    subst (λ entries. AnswersLine begin entries other.line other.reply other.added)
     (append_assoc before (entries_of turn.added) (entries_added (take place turns)))
     (later place other here)
 
@@ -33,8 +32,8 @@ pub record Turned (first last : HistoryOnTrack) (lines : List (List ℕ)) (text 
   pub turns : List Turn
   pub of_lines : lines_treated turns ≡ lines
   pub said : text ≡ replies_to turns
-  pub right : AreRight first.track first.entries turns
-  pub track : last.track ≡ first.track
+  pub right : AreRight (begin_of first) first.entries turns
+  pub begin : begin_of last ≡ begin_of first
   pub entries : last.entries ≡ first.entries ++ entries_added turns
 
 pub turned : (first last : HistoryOnTrack) (lines : List (List ℕ)) (text : List ℕ) → Answered Goes first lines text last → Turned first last lines text
@@ -43,7 +42,7 @@ turned first last [] text (none, same) = record {
   of_lines = refl;
   said = none;
   right = λ place turn here. cc;
-  track = ap (λ (h : HistoryOnTrack). h.track) same;
+  begin = ap begin_of same;
   entries = ap (λ (h : HistoryOnTrack). h.entries) same ∙ sym (append-nil first.entries);
 }
 turned first last (line ∷ lines) text (reply, rest, next, (added, right, leads), whole, later) =
@@ -53,17 +52,17 @@ turned first last (line ∷ lines) text (reply, rest, next, (added, right, leads
       turns = turn ∷ more.turns;
       of_lines = ap (λ l. line ∷ l) more.of_lines;
       said = whole ∙ ap (λ r. reply ++ r) more.said;
-      right = one_more first.track first.entries turn more.turns right more.right;
-      track = more.track;
+      right = one_more (begin_of first) first.entries turn more.turns right more.right;
+      begin = more.begin;
       entries = more.entries ∙ append_assoc first.entries (entries_of added) (entries_added more.turns);
     }
 
-pub session_track : (first last : HistoryOnTrack) (input : List ℕ) (old new : Option (List ℕ)) (result : Result (Unit {0}) SessionFault)
-    → IsTalk LONGEST_LINE Goes first last input old new result → last.track ≡ first.track
-session_track first last input old new result t = let told = turned first last t.treated t.text t.answered in told.track
+pub session_begin : (first last : HistoryOnTrack) (input : List ℕ) (old new : Option (List ℕ)) (result : Result (Unit {0}) SessionFault)
+    → IsTalk LONGEST_LINE Goes first last input old new result → begin_of last ≡ begin_of first
+session_begin first last input old new result t = let told = turned first last t.treated t.text t.answered in told.begin
 
 pub session_turns : (first last : HistoryOnTrack) (input : List ℕ) (old new : Option (List ℕ)) (result : Result (Unit {0}) SessionFault)
-    → IsTalk LONGEST_LINE Goes first last input old new result → IsSession first.track first.entries last.entries input old new result
+    → IsTalk LONGEST_LINE Goes first last input old new result → IsSession (begin_of first) first.entries last.entries input old new result
 session_turns first last input old new result t =
     let told = turned first last t.treated t.text t.answered in
     record {

@@ -11,7 +11,7 @@ use Rattle.rbc_model.specs.Words.{line_of}
 use Rattle.rbc_session_laws.specs.declared.demand.Demand.TheVariants.{Show}
 use Rattle.rbc_session_laws.specs.Turns.{AnswersInquiry}
 use Rattle.rbc_sweep.specs.Later.{IsLater, scene_of}
-use Rattle.rbc_sweep.specs.Records.{HistoryOnTrack, scene_now}
+use Rattle.rbc_sweep.specs.Records.{begin_of, HistoryOnTrack, scene_now}
 use Rattle.rbc_lines.specs.ScenesOnTracks.{SceneOnTrack}
 use Rattle.rbc_sweep.specs.State.{State}
 use Rattle.rbc_sweep.specs.States.{state_of}
@@ -25,22 +25,22 @@ abbrev pub state_line : State → List ℕ
 state_line state = line_of (codes "state" ∷ decimal state.version ∷ decimal state.trains ∷ decimal state.locked ∷ [])
 
 module _ (history : HistoryOnTrack) where
-  pub state_shown : (state : State) → state ≡ state_of history → AnswersInquiry history.track history.entries (state_line state) None AskedState
+  pub state_shown : (state : State) → state ≡ state_of history → AnswersInquiry (begin_of history) history.entries (state_line state) None AskedState
   state_shown state is = (ap state_line is, refl)
 
   pub scene_shown : (scene : SceneOnTrack) (version : ℕ) (reply : List ℕ) → scene ≡ scene_of history → version ≡ length history.entries
-      → (reply ≡ scene_lines scene.track version scene.scene) ⊎ (reply ≡ refused_reply scene.track Memory) → AnswersInquiry history.track history.entries reply None AskedScene
+      → (reply ≡ scene_lines scene.track version scene.scene) ⊎ (reply ≡ refused_reply scene.track Memory) → AnswersInquiry (begin_of history) history.entries reply None AskedScene
   scene_shown scene version reply is at (inl e) =
       inl (e ∙ ap (λ (s : SceneOnTrack). scene_lines s.track version s.scene) is ∙ ap (λ v. scene_lines history.track v (scene_now history)) at, refl)
   scene_shown scene version reply is at (inr e) = inr (e ∙ ap (λ (s : SceneOnTrack). refused_reply s.track Memory) is, refl)
 
-  pub scene_refused : (track : Track) → track ≡ history.track → AnswersInquiry history.track history.entries (refused_reply track Memory) None AskedScene
+  pub scene_refused : (track : Track) → track ≡ history.track → AnswersInquiry (begin_of history) history.entries (refused_reply track Memory) None AskedScene
   scene_refused track is = inr (ap (λ t. refused_reply t Memory) is, refl)
 
 -- what was asked for is shown from a seat
 module _ {L P E : Type 0} (kept : P → ℕ → Type 0) (before after : Sitting L P) (old new : Option (List ℕ)) (writer_failed : Bool) (result : Result (Unit {0}) E) where
   pub shown_treated : (inquiry : Inquiry) (reply : List ℕ) → before.has_failed ≡ false → after.pen ≡ before.pen → after.has_failed ≡ before.has_failed → IsLater before.seat.told after.seat.told
-      → AnswersInquiry after.seat.told.track after.seat.told.entries reply None inquiry → after.seat.receipts ≡ before.seat.receipts → Prints old new writer_failed reply result
+      → AnswersInquiry (begin_of after.seat.told) after.seat.told.entries reply None inquiry → after.seat.receipts ≡ before.seat.receipts → Prints old new writer_failed reply result
       → IsTreated kept (Ok (Show inquiry)) before after old new writer_failed result
   shown_treated inquiry reply whole pen same later answers receipts printed =
       idle_treated kept before after old new writer_failed result (Ok (Show inquiry)) reply whole pen same

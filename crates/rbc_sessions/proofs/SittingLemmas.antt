@@ -155,7 +155,7 @@ module _ {L P : Type 0} (kept : P → ℕ → Type 0) where
         each = All-nil (λ (t : SeatTurn). IsKept (kept next.pen) t.receipt);
       })
 
-  -- the same from a sitting with the same seat and pen
+  -- turns from a sitting are turns from every other with its seat and pen
   turned_from : (before same after : Sitting L P) (lines : List (List ℕ)) (text : List ℕ) → same.seat ≡ before.seat → same.pen ≡ before.pen → Turned same after lines text → Turned before after lines text
   turned_from before same after lines text seat pen turns = record {
     told = turns.told;

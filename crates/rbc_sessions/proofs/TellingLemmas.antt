@@ -19,7 +19,7 @@ use Rattle.rbc_model.specs.SessionReply.{Full, BadEvent, accepted_reply, refused
 use Rattle.rbc_sweep.specs.ApplyFault.{ApplyFault}
 use Rattle.rbc_sweep.specs.ApplyFault.TheVariants.{Full as FullToTold, Refused as RefusedByScene}
 use Rattle.rbc_sweep.specs.Entering.{EntersOrMemory, entry_told, refused_at_once}
-use Rattle.rbc_sweep.specs.Records.{HistoryOnTrack, scene_now, is_full}
+use Rattle.rbc_sweep.specs.Records.{history_on, begin_of, HistoryOnTrack, scene_now, is_full}
 use Rattle.rbc_sweep.specs.Steps.{is_crowded, told_at_once}
 use Rattle.rbc_replies.specs.declared.replies.SessionRefusal.{SessionRefusal}
 use Rattle.rbc_replies.specs.Replies.{refusal_view, RefusalIsOfTrack, EventIsOfTrack}
@@ -31,7 +31,7 @@ use Rattle.rbc_sessions.proofs.NamingLemmas.{RefusalIsNamed, named_told}
 
 -- nothing is added
 pub nothing_added : (history : HistoryOnTrack) → history ≡ with_added history None
-nothing_added history = ap (λ entries. record { track = history.track; entries = entries }) (sym (append-nil history.entries))
+nothing_added history = ap (history_on (begin_of history)) (sym (append-nil history.entries))
 
 -- ---- what is not refused at once
 
@@ -75,9 +75,9 @@ module _ (history : HistoryOnTrack) (told : Told) where
   abbrev Said : Bool → Result Scene Refusal → List ℕ → Option Entry → Type 0
   Said full stepped reply added =
       MatchBool full
-      (IsRefused history.track history.entries reply added Full)
-      (MatchResult stepped (λ after. IsAccepted history.track history.entries reply added told) (λ refusal. IsRefused history.track history.entries reply added (BadEvent refusal))
-      ⊎ IsToldInVain history.track history.entries reply added told)
+      (IsRefused (begin_of history) history.entries reply added Full)
+      (MatchResult stepped (λ after. IsAccepted (begin_of history) history.entries reply added told) (λ refusal. IsRefused (begin_of history) history.entries reply added (BadEvent refusal))
+      ⊎ IsToldInVain (begin_of history) history.entries reply added told)
 
   accepted : (full : Bool) (stepped : Result Scene Refusal) (entry : Entry) → entering full stepped ≡ Ok entry
       → (Heard told ≡ entry) × Said full stepped (accepted_reply (length history.entries + 1)) (Some (Heard told))
@@ -94,14 +94,14 @@ module _ (history : HistoryOnTrack) (told : Told) where
 
   -- what is told is accepted, and the receipt is for it
   pub told_answers : (receipt : Receipt) (place : ℕ) → entry_told history told ≡ Ok receipt.entry → receipt.place ≡ length history.entries → place ≡ receipt.place
-      → AnswersEvent history.track history.entries (accepted_reply (place + 1)) (Some receipt.entry) told
+      → AnswersEvent (begin_of history) history.entries (accepted_reply (place + 1)) (Some receipt.entry) told
   told_answers receipt place entered next at =
       let is = accepted (is_full history) (step history.track (scene_now history) (Tell told)) receipt.entry entered in
-      subst (λ entry. AnswersEvent history.track history.entries (accepted_reply (place + 1)) (Some entry) told) is.0
-      (subst (λ n. AnswersEvent history.track history.entries (accepted_reply (n + 1)) (Some (Heard told)) told) (sym (at ∙ next)) is.1)
+      subst (λ entry. AnswersEvent (begin_of history) history.entries (accepted_reply (place + 1)) (Some entry) told) is.0
+      (subst (λ n. AnswersEvent (begin_of history) history.entries (accepted_reply (n + 1)) (Some (Heard told)) told) (sym (at ∙ next)) is.1)
 
   pub told_comes : (receipt : Receipt) (after : HistoryOnTrack) (place : ℕ) → EntersOrMemory {E = ApplyFault} (Ok receipt) history after (entry_told history told) → place ≡ receipt.place
-      → Comes (λ track entries reply added. AnswersEvent track entries reply added told) history (accepted_reply (place + 1)) after
+      → Comes (λ begin entries reply added. AnswersEvent begin entries reply added told) history (accepted_reply (place + 1)) after
   told_comes receipt after place entered at = (Some receipt.entry, told_answers receipt place entered.0 entered.1 at, entered.2)
 
   abbrev not_told : OrMemory ApplyFault → List ℕ
@@ -118,17 +118,17 @@ module _ (history : HistoryOnTrack) (told : Told) where
 
   -- the definition's refusal, or memory, which is refused only where nothing refuses at once what is told
   pub not_told_answers : (fault : OrMemory ApplyFault) → RefusesOrMemory fault (entry_told history told) → (fault ≡ NoMemory → refused_at_once history told ≡ None)
-      → AnswersEvent history.track history.entries (not_told fault) None told
+      → AnswersEvent (begin_of history) history.entries (not_told fault) None told
   not_told_answers (Refused fault) answered free = refused_so (is_full history) (step history.track (scene_now history) (Tell told)) fault answered
   not_told_answers NoMemory answered free =
       let none = none_refused (is_full history) (told_at_once history.track (scene_now history) told) (free refl) in
       given_up (is_full history) (step history.track (scene_now history) (Tell told)) none.0 (told_in_vain history.track (scene_now history) told none.1)
 
   pub not_told_comes : (fault : OrMemory ApplyFault) (said : SessionRefusal) (after : HistoryOnTrack) → RefusesOrMemory fault (entry_told history told) → (fault ≡ NoMemory → refused_at_once history told ≡ None)
-      → said ≡ told_refusal fault → after ≡ history → Comes (λ track entries reply added. AnswersEvent track entries reply added told) history (refused_reply history.track (refusal_view said)) after
+      → said ≡ told_refusal fault → after ≡ history → Comes (λ begin entries reply added. AnswersEvent begin entries reply added told) history (refused_reply history.track (refusal_view said)) after
   not_told_comes fault said after answered free is same = (
     None,
-    subst (λ refusal. AnswersEvent history.track history.entries (refused_reply history.track (refusal_view refusal)) None told) (sym is) (not_told_answers fault answered free),
+    subst (λ refusal. AnswersEvent (begin_of history) history.entries (refused_reply history.track (refusal_view refusal)) None told) (sym is) (not_told_answers fault answered free),
     same ∙ nothing_added history,
   )
 

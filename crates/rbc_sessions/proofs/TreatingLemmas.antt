@@ -2,6 +2,7 @@
 use Rattle.std.proofs.Common.{◌≡◌, ℕ, ◌+◌, ◌<◌, Bool, true, false, cond, List, [], ◌∷◌, ◌++◌, length, Option, Some, None, Result, Ok, Err, refl, sym, ap, ◌∙◌, subst}
 use Rattle.std.specs.Prelude.{is_err, IfOk, OnErr}
 use Rattle.std.proofs.lemmas.Bool.{lt-ltb}
+use Rattle.rbc_model.specs.Scenes.{Scene}
 use Rattle.rbc_model.specs.declared.limits.TheConstants.{LONGEST_LINE}
 use Rattle.rbc_model.specs.declared.memory.OrMemory.{OrMemory}
 use Rattle.rbc_model.specs.declared.refusals.LineFault.{LineFault}
@@ -23,7 +24,7 @@ use Rattle.rbc_sweep.specs.ApplyFault.{ApplyFault}
 use Rattle.rbc_sweep.specs.AskFault.{AskFault}
 use Rattle.rbc_sweep.specs.Asking.{IsAnswered, IsAnsweredThen}
 use Rattle.rbc_sweep.specs.Granted.{Granted as GrantedAtDesk}
-use Rattle.rbc_sweep.specs.Records.{history_on}
+use Rattle.rbc_sweep.specs.Records.{begin_on, history_on}
 use Rattle.rbc_sweep.specs.Seats.{Seated}
 use Rattle.rbc_sweep.specs.Telling.{IsToldThen}
 use Rattle.rbc_sessions.specs.Keeping.{AddsEntry}
@@ -81,7 +82,7 @@ module _ {L P E : Type 0} (kept : P → ℕ → Type 0) (before after : Sitting 
 
   pub granted_treated : (train : ℕ) (track : Track) (reply : List ℕ) (granted : GrantedAtDesk) (answer : Result GrantedAtDesk (OrMemory AskFault)) (seat : Seated) → answer ≡ Ok granted → before.has_failed ≡ false
       → after.seat ≡ seat → before.seat.told.track ≡ track → IsAnsweredThen before.seat.told seat.told train answer
-      → ((entries : List Entry) → IsAnswered (history_on track entries) train answer → AnswersAsked track entries reply (entry_granted_in answer) train)
+      → ((scene : Scene) (most : ℕ) (entries : List Entry) → IsAnswered (history_on (begin_on track scene most) entries) train answer → AnswersAsked (begin_on track scene most) entries reply (entry_granted_in answer) train)
       → IfOk answer (λ granted. seat.receipts ≡ before.seat.receipts ++ granted.receipt ∷ []) → StaysKept kept before.pen after.pen → (after.has_failed ≡ false → kept after.pen granted.receipt.place)
       → (after.has_failed ≡ false → Prints old new writer_failed reply result) → (after.has_failed ≡ true → (new ≡ old) × (is_err result ≡ true))
       → IsTreated kept (Ok (Authority train)) before after old new writer_failed result
@@ -93,7 +94,7 @@ module _ {L P E : Type 0} (kept : P → ℕ → Type 0) (before after : Sitting 
 
   pub denied_treated : (train : ℕ) (track : Track) (reply : List ℕ) (fault : OrMemory AskFault) (answer : Result GrantedAtDesk (OrMemory AskFault)) → answer ≡ Err fault → before.has_failed ≡ false
       → after.pen ≡ before.pen → after.has_failed ≡ before.has_failed → before.seat.told.track ≡ track → IsAnsweredThen before.seat.told after.seat.told train answer
-      → ((entries : List Entry) → IsAnswered (history_on track entries) train answer → AnswersAsked track entries reply (entry_granted_in answer) train)
+      → ((scene : Scene) (most : ℕ) (entries : List Entry) → IsAnswered (history_on (begin_on track scene most) entries) train answer → AnswersAsked (begin_on track scene most) entries reply (entry_granted_in answer) train)
       → OnErr answer (after.seat.receipts ≡ before.seat.receipts) → Prints old new writer_failed reply result → IsTreated kept (Ok (Authority train)) before after old new writer_failed result
   denied_treated train track reply fault answer is whole pen same on since says receipts printed =
       idle_treated (Ok (Authority train)) reply whole pen same
@@ -153,7 +154,7 @@ told_adds told receipt place old new said track opened since at on is form sayab
 
 -- what was granted is the entry that the train's request adds
 pub granted_adds : (train : ℕ) (reply : List ℕ) (granted : GrantedAtDesk) (answer : Result GrantedAtDesk (OrMemory AskFault)) (old new : Seated) (said : SessionLine) (track opened : Track) → answer ≡ Ok granted
-    → IsAnsweredThen old.told new.told train answer → ((entries : List Entry) → IsAnswered (history_on track entries) train answer → AnswersAsked track entries reply (entry_granted_in answer) train)
+    → IsAnsweredThen old.told new.told train answer → ((scene : Scene) (most : ℕ) (entries : List Entry) → IsAnswered (history_on (begin_on track scene most) entries) train answer → AnswersAsked (begin_on track scene most) entries reply (entry_granted_in answer) train)
     → old.told.track ≡ opened → track ≡ opened → IsInForm track → IsSayable said → looked_up opened said ≡ Ok (Authority train) → AddsEntry new.told granted.receipt.place said
 granted_adds train reply granted answer old new said track opened is since says on of_desk form sayable asks =
     let answered = asked_at_desk train track reply answer old new (on ∙ sym of_desk) since says in

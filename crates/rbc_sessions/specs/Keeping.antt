@@ -5,7 +5,7 @@ use Rattle.rbc_model.specs.SessionText.{SessionLine}
 use Rattle.rbc_sweep.specs.Asking.{IsAnswered, after_answer}
 use Rattle.rbc_sweep.specs.Granted.{Granted as Grant}
 use Rattle.rbc_sweep.specs.Outcomes.{Begins}
-use Rattle.rbc_sweep.specs.Records.{HistoryOnTrack}
+use Rattle.rbc_sweep.specs.Records.{begin_of, HistoryOnTrack}
 use Rattle.rbc_sweep.specs.declared.outcome.Answer.{Answer}
 use Rattle.rbc_sweep.specs.declared.outcome.Answer.TheVariants.{Granted}
 use Rattle.rbc_sweep.specs.declared.outcome.Outcome.{Outcome}
@@ -16,7 +16,7 @@ use Rattle.rbc_session_laws.specs.Demands.{looked_up}
 pub record AddsEntry (history : HistoryOnTrack) (place : ℕ) (request : SessionLine) : Type 0 where
   pub entry : Entry
   pub stands : slice_get history.entries place ≡ Some entry
-  pub adds : (demand_answer history.track (take place history.entries) (looked_up history.track request)).added ≡ Some entry
+  pub adds : (demand_answer (begin_of history) (take place history.entries) (looked_up history.track request)).added ≡ Some entry
 
 -- this begins with a history after which the train was granted this, and with the entry for it
 pub record HasGrant (history : HistoryOnTrack) (train : ℕ) (grant : Grant) : Type 0 where
@@ -24,7 +24,7 @@ pub record HasGrant (history : HistoryOnTrack) (train : ℕ) (grant : Grant) : T
   pub begins : Begins (after_answer before (Ok grant)) history
   pub answered : IsAnswered before train (Ok grant)
 
--- the same of what the train was answered, if it was granted something
+-- if the train was answered that it was granted something: this begins with a history after which it was granted this, and with the entry for it
 abbrev pub HasAnswer : HistoryOnTrack → ℕ → Answer → Type 0
 HasAnswer history train (Granted grant) = HasGrant history train grant
 HasAnswer history train _ = Unit {0}

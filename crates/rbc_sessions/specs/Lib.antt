@@ -13,6 +13,7 @@ pub use Rattle.rbc_sweep.specs.CloseFault
 pub use Rattle.rbc_sweep.specs.Closing
 pub use Rattle.rbc_sweep.specs.Granted
 pub use Rattle.rbc_sweep.specs.Later
+pub use Rattle.rbc_sweep.specs.Looking
 pub use Rattle.rbc_sweep.specs.Outcomes
 pub use Rattle.rbc_sweep.specs.Records
 pub use Rattle.rbc_sweep.specs.Seats

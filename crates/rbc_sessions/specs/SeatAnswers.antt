@@ -3,7 +3,7 @@ use Rattle.std.specs.Prelude.{◌≡◌, ℕ, List, [], ◌∷◌, ◌⊎◌}
 use Rattle.rbc_model.specs.Tracks.{Track}
 use Rattle.rbc_model.specs.SessionReply.{Full, Memory, refused_reply}
 use Rattle.rbc_sweep.specs.Later.{IsLater}
-use Rattle.rbc_sweep.specs.Records.{HistoryOnTrack}
+use Rattle.rbc_sweep.specs.Records.{begin_of, HistoryOnTrack}
 use Rattle.rbc_session_laws.specs.Answers.{line_answer}
 use Rattle.rbc_sessions.specs.Changes.{with_added}
 use Rattle.rbc_sessions.specs.SeatSessions.{SeatTurn}
@@ -14,8 +14,8 @@ use Rattle.rbc_sessions.specs.SeatTurns.{entry_in, IsNext}
 pub record IsLineAnswer (begun : HistoryOnTrack) (turn : SeatTurn) : Type 0 where
   pub before : HistoryOnTrack
   pub since : (before ≡ begun) ⊎ IsLater begun before
-  pub reply : turn.reply ≡ (line_answer before.track before.entries turn.line).reply
-  pub added : entry_in turn.receipt ≡ (line_answer before.track before.entries turn.line).added
+  pub reply : turn.reply ≡ (line_answer (begin_of before) before.entries turn.line).reply
+  pub added : entry_in turn.receipt ≡ (line_answer (begin_of before) before.entries turn.line).added
   pub next : IsNext before.entries turn.receipt
   pub told : turn.told ≡ with_added before (entry_in turn.receipt)
 

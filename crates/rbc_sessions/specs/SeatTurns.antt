@@ -1,11 +1,10 @@
 -- A session at a desk: what a line is answered from a seat, which receipt the seat gains, and what it is told.
 use Rattle.std.specs.Prelude.{◌≡◌, ℕ, true, List, [], length, Option, option_map, is_some, Some, None, Result, Ok, Err, ◌⊎◌}
-use Rattle.rbc_model.specs.Tracks.{Track}
-use Rattle.rbc_model.specs.Histories.{Entry, Receipt, is_full, replay}
+use Rattle.rbc_model.specs.Histories.{Beginning, Entry, Receipt, is_full, replay}
 use Rattle.rbc_model.specs.Scenes.{train_numbered}
 use Rattle.rbc_model.specs.SessionReply.{SessionRefusal, Full, refused_reply}
 use Rattle.rbc_sweep.specs.Later.{IsLater}
-use Rattle.rbc_sweep.specs.Records.{HistoryOnTrack}
+use Rattle.rbc_sweep.specs.Records.{begin_of, HistoryOnTrack}
 use Rattle.rbc_session_laws.specs.declared.demand.Demand.{Demand}
 use Rattle.rbc_session_laws.specs.declared.demand.Demand.TheVariants.{Nothing, Event, Authority, Show}
 use Rattle.rbc_sessions.specs.Changes.{with_added}
@@ -23,22 +22,22 @@ IsNext entries (Some receipt) = receipt.place ≡ length entries
 
 -- This is answered after a legal history that goes on from what had been told. The receipt is for the entry that the answer adds there, or there is
 -- none. What is told then is that history, with this entry.
-pub record IsAnsweredSince (Answers : Track → List Entry → Option Entry → Type 0) (begun after : HistoryOnTrack) (receipt : Option Receipt) : Type 0 where
+pub record IsAnsweredSince (Answers : Beginning → List Entry → Option Entry → Type 0) (begun after : HistoryOnTrack) (receipt : Option Receipt) : Type 0 where
   pub before : HistoryOnTrack
   pub later : IsLater begun before
-  pub answered : Answers before.track before.entries (entry_in receipt)
+  pub answered : Answers (begin_of before) before.entries (entry_in receipt)
   pub next : IsNext before.entries receipt
   pub told : after ≡ with_added before (entry_in receipt)
 
 -- A train that is there is put off, whatever it would be shown: the history was full by the time of the grant, or memory was refused.
-abbrev pub IsPutOff : Track → List Entry → List ℕ → Option Entry → ℕ → Type 0
-IsPutOff track entries reply added train =
-    (is_some (train_numbered (replay track entries) train) ≡ true)
-    × (((is_full entries ≡ true) × IsRefused track entries reply added Full) ⊎ IsGivenUp track entries reply added)
+abbrev pub IsPutOff : Beginning → List Entry → List ℕ → Option Entry → ℕ → Type 0
+IsPutOff begin entries reply added train =
+    (is_some (train_numbered (replay begin entries) train) ≡ true)
+    × (((is_full begin entries ≡ true) × IsRefused begin entries reply added Full) ⊎ IsGivenUp begin entries reply added)
 
 -- What a train that asks at a desk is answered after these entries: what it would be answered alone, or it is put off.
-abbrev pub AnswersAsked : Track → List Entry → List ℕ → Option Entry → ℕ → Type 0
-AnswersAsked track entries reply added train = AnswersAuthority track entries reply added train ⊎ IsPutOff track entries reply added train
+abbrev pub AnswersAsked : Beginning → List Entry → List ℕ → Option Entry → ℕ → Type 0
+AnswersAsked begin entries reply added train = AnswersAuthority begin entries reply added train ⊎ IsPutOff begin entries reply added train
 
 -- From a seat that had been told this history, and is told that one from then on, a line is answered by this reply, and the seat gains this receipt,
 -- or none.
@@ -50,9 +49,9 @@ module _ (begun after : HistoryOnTrack) (reply : List ℕ) (receipt : Option Rec
   -- what is asked for
   abbrev pub AnswersDemandAtDesk : Result Demand SessionRefusal → Type 0
   AnswersDemandAtDesk (Ok Nothing) = (reply ≡ []) × IsIdle
-  AnswersDemandAtDesk (Ok (Event told)) = IsAnsweredSince (λ track entries added. AnswersEvent track entries reply added told) begun after receipt
-  AnswersDemandAtDesk (Ok (Authority train)) = IsAnsweredSince (λ track entries added. AnswersAsked track entries reply added train) begun after receipt
-  AnswersDemandAtDesk (Ok (Show inquiry)) = IsAnsweredSince (λ track entries added. AnswersInquiry track entries reply added inquiry) begun after receipt
+  AnswersDemandAtDesk (Ok (Event told)) = IsAnsweredSince (λ begin entries added. AnswersEvent begin entries reply added told) begun after receipt
+  AnswersDemandAtDesk (Ok (Authority train)) = IsAnsweredSince (λ begin entries added. AnswersAsked begin entries reply added train) begun after receipt
+  AnswersDemandAtDesk (Ok (Show inquiry)) = IsAnsweredSince (λ begin entries added. AnswersInquiry begin entries reply added inquiry) begun after receipt
   AnswersDemandAtDesk (Err refusal) = (reply ≡ refused_reply begun.track refusal) × IsIdle
 
   -- what the line asks for

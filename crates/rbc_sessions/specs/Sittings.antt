@@ -58,7 +58,7 @@ pub record AreToldKept (kept : ℕ → Type 0) (has_failed : Bool) (turns : List
 abbrev pub AreKeptOf : (ℕ → Type 0) → Outcome → Type 0
 AreKeptOf kept outcome = All (λ (receipt : Receipt). kept receipt.place) (receipts_of outcome.answer)
 
--- the same of the outcome with this number in a list, if there is one
+-- what led to the entry that the outcome with this number in a list tells of, if there is such an outcome and it tells of one, is kept
 abbrev pub IsKeptAt : (ℕ → Type 0) → List Outcome → ℕ → Type 0
 IsKeptAt kept outcomes number = (d : Outcome) → number < length outcomes → AreKeptOf kept (slice_index_or outcomes number d)
 

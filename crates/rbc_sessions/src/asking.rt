@@ -37,7 +37,7 @@ pub(crate) fn ask<W: Sink>(
 ) -> Result<(), WriteFailed>
     requires { W.failed writer.old ≡ false }
     ensures { (reply : List ℕ)
-        × Comes (λ track entries said added. AnswersAuthority track entries said added train)
+        × Comes (λ begin entries said added. AnswersAuthority begin entries said added train)
         history.old reply history.new
         × Prints (W.written writer.old) (W.written writer.new) (W.failed writer.new) reply result }
 {
@@ -58,12 +58,13 @@ pub fn stopped(
 ) -> SessionReply<'static>
     requires fault { RefusesOrMemory fault (view history.now.track (scene_now history.now) train) }
     requires unknown { train_numbered (scene_now history.now) train ≡ None → fault ≡ Refused UnknownTrain }
-    ensures comes { Comes (λ track entries said added. AnswersAuthority track entries said added train)
+    ensures comes { Comes (λ begin entries said added. AnswersAuthority begin entries said added train)
         history.now (reply_text history.now.track result) history.now }
     ensures whole { ReplyIsWhole history.now.track result }
 {
     // The track is sound, so what stands in the way is of the track.
     history.track().known();
+    history.right();
     match fault {
         OrMemory::Refused(ViewFault::UnknownTrain) => {
             SessionReply::Refused(SessionRefusal::BadEvent(Refusal::UnknownTrain(train)))
@@ -79,7 +80,7 @@ pub fn stopped(
 ///
 /// # Errors
 ///
-/// `WriteFailed`, as above.
+/// `WriteFailed`, where the writer fails. What is granted is granted all the same.
 fn grant<W: Sink>(
     rt: &(impl Threads + Sync),
     alloc: Global,
@@ -90,7 +91,7 @@ fn grant<W: Sink>(
     requires going { W.failed writer.old ≡ false }
     requires shown { view history.old.track (scene_now history.old) shown.train ≡ Ok shown }
     ensures { (reply : List ℕ)
-        × Comes (λ track entries said added. AnswersAuthority track entries said added shown.train)
+        × Comes (λ begin entries said added. AnswersAuthority begin entries said added shown.train)
         history.old reply history.new
         × Prints (W.written writer.old) (W.written writer.new) (W.failed writer.new) reply result }
 {
@@ -105,13 +106,14 @@ fn grant<W: Sink>(
 /// The reply to a train that is shown the candidate's view. Where it is granted the authority, the history gains an entry.
 pub fn commit<'a>(alloc: Global, history: &mut Record, candidate: &'a Candidate) -> SessionReply<'a>
     requires { view history.old.track (scene_now history.old) candidate.now.view.train ≡ Ok candidate.now.view }
-    ensures comes { Comes (λ track entries said added. AnswersAuthority track entries said added
+    ensures comes { Comes (λ begin entries said added. AnswersAuthority begin entries said added
         candidate.now.view.train) history.old (reply_text history.old.track result) history.new }
     ensures whole { ReplyIsWhole history.old.track result }
 {
     // The track is sound, so what stands beyond the end is of the track.
     history.track().known();
     history.known();
+    history.right();
     match history.grant(alloc, candidate) {
         Ok(receipt) => SessionReply::Granted(told_of(candidate, receipt.place() + 1)),
         Err(OrMemory::Refused(CommitFault::Full)) => SessionReply::Refused(SessionRefusal::Full),

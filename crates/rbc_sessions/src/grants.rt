@@ -8,7 +8,7 @@ ghost use Rattle.rbc_sessions.specs.Keeping.{HasGrant, HasOutcome};
 ghost use Rattle.rbc_sessions.specs.declared.keeping.KeepFault.TheVariants.{Journal as KeeperFailed};
 ghost use Rattle.rbc_sessions.specs.Sittings.{AreKeptOf, HasRank, IsKeptAt, StaysKept, rank_place};
 
-use crate::{Counter, KeepFault, Keeper};
+use crate::{KeepFault, Keeper, SessionContext};
 use rbc_model::limits::LAST_TRAIN;
 use rbc_model::{Memory, TrainId};
 use rbc_replies::words::Request;
@@ -57,7 +57,7 @@ fn ranked(alloc: Global, outcomes: &[Outcome]) -> Result<Vec<Rank>, AllocError>
     Ok(sorted(ranks))
 }
 
-impl<'a, L: DeskName, K: Keeper<L>, G: Gate, R: Wait> Counter<'a, L, K, G, R> {
+impl<'a, L: DeskName, K: Keeper<L>, G: Gate, R: Wait> SessionContext<'a, L, K, G, R> {
     /// The request of a train, ready to be kept.
     ///
     /// # Errors
@@ -117,7 +117,7 @@ impl<'a, L: DeskName, K: Keeper<L>, G: Gate, R: Wait> Counter<'a, L, K, G, R> {
     ///
     /// # Errors
     ///
-    /// As above.
+    /// `Journal`: it could not be kept. `Memory`: there is none for it.
     fn keep_outcome(
         &self,
         alloc: Global,
@@ -136,11 +136,11 @@ impl<'a, L: DeskName, K: Keeper<L>, G: Gate, R: Wait> Counter<'a, L, K, G, R> {
         }
     }
 
-    /// The same of the outcome with this number.
+    /// Keeps the request of a train that led to what the outcome with this number tells that it was granted, if it was.
     ///
     /// # Errors
     ///
-    /// As above.
+    /// `Journal`: it could not be kept. `Memory`: there is none for it.
     fn keep_numbered(
         &self,
         alloc: Global,
@@ -160,11 +160,11 @@ impl<'a, L: DeskName, K: Keeper<L>, G: Gate, R: Wait> Counter<'a, L, K, G, R> {
         }
     }
 
-    /// The same of all outcomes, in the order of these ranks.
+    /// Keeps the requests of all trains that were granted something, in the order of these ranks of their outcomes.
     ///
     /// # Errors
     ///
-    /// As above.
+    /// `Journal`: a request could not be kept. `Memory`: there is none for one.
     fn keep_ranked(
         &self,
         alloc: Global,
@@ -189,7 +189,7 @@ impl<'a, L: DeskName, K: Keeper<L>, G: Gate, R: Wait> Counter<'a, L, K, G, R> {
     ///
     /// # Errors
     ///
-    /// As above.
+    /// `Journal`: a request could not be kept. `Memory`: there is none for one, or for the ranks.
     pub fn keep_grants(
         &self,
         alloc: Global,

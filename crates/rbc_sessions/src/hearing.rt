@@ -4,9 +4,9 @@ ghost use Rattle.std.specs.Prelude.{◌≡◌, ◌||◌, [], ℕ, List, true, fa
 ghost use Rattle.rbc_model.specs.Sessions.{Prints};
 ghost use Rattle.rbc_sessions.specs.Hearings.{CatchesUp, CatchesUpAndTreats, IsGoing, Rests};
 
-use crate::nowhere::Nowhere;
+use crate::null_sink::NullSink;
 use crate::resting::Resting;
-use crate::{Counter, Keeper, Sitting, demand_in};
+use crate::{Keeper, SessionContext, Sitting, demand_in};
 use rbc_model::LineFault;
 use rbc_model::limits::LONGEST_LINE;
 use rbc_replies::{SessionRefusal, SessionReply, print};
@@ -42,7 +42,7 @@ impl<L: DeskName, P: Drop> Hearing<L, P> {
     /// Lets a line rest, if it is told and nothing has to be kept of it, and tells whether it does.
     fn rest<'a, K: Keeper<L, Pen = P>, G: Gate, R: Wait>(
         &mut self,
-        counter: &Counter<'a, L, K, G, R>,
+        context: &SessionContext<'a, L, K, G, R>,
         line: &[u8],
     ) -> bool
         requires { IsGoing L.opened.track K.kept self.old }
@@ -50,10 +50,10 @@ impl<L: DeskName, P: Drop> Hearing<L, P> {
     {
         // What the seat was told is on the desk's track.
         self.sitting.seat.known();
-        if !counter.keeper.keeps_nothing() {
+        if !context.keeper.keeps_nothing() {
             return false;
         }
-        match demand_in(counter.track, line) {
+        match demand_in(context.track, line) {
             Ok(Demand::Event(told)) => self.resting.push(told),
             _ => false,
         }
@@ -67,7 +67,7 @@ impl<L: DeskName, P: Drop> Hearing<L, P> {
     fn catch_up<'a, K: Keeper<L, Pen = P>, G: Gate, R: Wait, W: Sink>(
         &mut self,
         alloc: Global,
-        counter: &Counter<'a, L, K, G, R>,
+        context: &SessionContext<'a, L, K, G, R>,
         more: bool,
         writer: &mut W,
     ) -> Result<(), WriteFailed>
@@ -80,21 +80,21 @@ impl<L: DeskName, P: Drop> Hearing<L, P> {
             return Ok(());
         }
         let Hearing { sitting, resting } = self;
-        resting.enter(alloc, counter, &mut sitting.seat, more, writer)
+        resting.enter(alloc, context, &mut sitting.seat, more, writer)
     }
 
     /// Publishes what was told or granted before the connection is read again, or ends.
     fn publish<'a, K: Keeper<L, Pen = P>, G: Gate, R: Wait>(
         &mut self,
         alloc: Global,
-        counter: &Counter<'a, L, K, G, R>,
+        context: &SessionContext<'a, L, K, G, R>,
         more: bool,
         said: &Result<(), WriteFailed>,
     )
         ensures { self.new ≡ self.old }
     {
         if !more || said.is_err() {
-            counter.publish(alloc, &mut self.sitting.seat);
+            context.publish(alloc, &mut self.sitting.seat);
         }
     }
 
@@ -108,7 +108,7 @@ impl<L: DeskName, P: Drop> Hearing<L, P> {
         &mut self,
         rt: &T,
         alloc: Global,
-        counter: &Counter<'a, L, K, G, R>,
+        context: &SessionContext<'a, L, K, G, R>,
         line: &[u8],
         writer: &mut W,
     ) -> Result<(), WriteFailed>
@@ -118,10 +118,10 @@ impl<L: DeskName, P: Drop> Hearing<L, P> {
         ensures treated { (reply : List ℕ) × CatchesUpAndTreats K.kept self.old line.now reply self.new
             × Prints (W.written writer.old) (W.written writer.new) (self.new.sitting.has_failed || W.failed writer.new) reply result }
     {
-        match self.catch_up(alloc, counter, true, writer) {
-            Ok(()) => counter.treat_line(rt, alloc, &mut self.sitting, line, writer),
+        match self.catch_up(alloc, context, true, writer) {
+            Ok(()) => context.treat_line(rt, alloc, &mut self.sitting, line, writer),
             Err(failed) => {
-                let _ = counter.treat_line(rt, alloc, &mut self.sitting, line, &mut Nowhere);
+                let _ = context.treat_line(rt, alloc, &mut self.sitting, line, &mut NullSink);
                 Err(failed)
             }
         }
@@ -129,7 +129,7 @@ impl<L: DeskName, P: Drop> Hearing<L, P> {
 }
 
 impl<'a, L: DeskName, P: Drop, K: Keeper<L, Pen = P>, G: Gate, R: Wait> Answers<
-    Counter<'a, L, K, G, R>,
+    SessionContext<'a, L, K, G, R>,
 > for Hearing<L, P> {
     type State = Hearing<L, P>;
 
@@ -164,32 +164,32 @@ impl<'a, L: DeskName, P: Drop, K: Keeper<L, Pen = P>, G: Gate, R: Wait> Answers<
         &mut self,
         rt: &T,
         alloc: Global,
-        counter: &Counter<'a, L, K, G, R>,
+        context: &SessionContext<'a, L, K, G, R>,
         line: &[u8],
         more: bool,
         writer: &mut W,
     ) -> Result<(), WriteFailed> {
-        if self.rest(counter, line) {
+        if self.rest(context, line) {
             if more && self.resting.len() < MOST_RESTING {
                 return Ok(());
             }
-            let said = self.catch_up(alloc, counter, more, writer);
-            self.publish(alloc, counter, more, &said);
+            let said = self.catch_up(alloc, context, more, writer);
+            self.publish(alloc, context, more, &said);
             return said;
         }
-        let said = self.treat(rt, alloc, counter, line, writer);
-        self.publish(alloc, counter, more, &said);
+        let said = self.treat(rt, alloc, context, line, writer);
+        self.publish(alloc, context, more, &said);
         said
     }
 
     fn refuse<W: Sink>(
         &mut self,
-        counter: &Counter<'a, L, K, G, R>,
+        context: &SessionContext<'a, L, K, G, R>,
         writer: &mut W,
     ) -> Result<(), WriteFailed> {
         // What the seat was told is on the desk's track.
         self.sitting.seat.known();
         let overlong = SessionReply::Refused(SessionRefusal::BadLine(LineFault::Overlong));
-        print(counter.track, &overlong, writer)
+        print(context.track, &overlong, writer)
     }
 }

@@ -1,6 +1,8 @@
 //! A history as the session that leads to it again.
 
-ghost use Rattle.std.specs.Prelude.{◌≡◌, [], false, map, OnOk};
+ghost use Rattle.std.specs.Prelude.{◌≡◌, ℕ, [], false, map, slice_get, Some, OnOk};
+ghost use Rattle.rbc_model.specs.Histories.{Entry as EntryTold};
+ghost use Rattle.rbc_sweep.specs.Records.{begin_of};
 ghost use Rattle.rbc_model.specs.HistoryText.{entry_request, history_text};
 ghost use Rattle.rbc_model.specs.SessionText.{said_words};
 ghost use Rattle.rbc_model.specs.Sessions.{Prints};
@@ -20,10 +22,10 @@ use rbc_sweep::{Entry, Record, Track};
 /// `WriteFailed`, where the writer fails. Then a part of the lines stands, from their start.
 pub fn print_history<W: Sink>(history: &Record, writer: &mut W) -> Result<(), WriteFailed>
     requires going { W.failed writer.old ≡ false }
-    requires retold { IsRetold history.now.track history.now.entries }
+    requires retold { IsRetold (begin_of history.now) history.now.entries }
     ensures text { Prints (W.written writer.old) (W.written writer.new) (W.failed writer.new)
         (history_text history.now.track history.now.entries) result }
-    ensures again { IsItsSession history.now.track history.now.entries }
+    ensures again { IsItsSession (begin_of history.now) history.now.entries }
     ensures handed_on { OnOk result (W.held_back writer.new ≡ []) }
 {
     print_entries(history.track(), history.entries(), writer)?;
@@ -37,7 +39,8 @@ fn print_entries<W: Sink>(
     writer: &mut W,
 ) -> Result<(), WriteFailed>
     requires going { W.failed writer.old ≡ false }
-    requires retold { IsRetold track.now (map entry_of entries.now) }
+    requires of_track { (place : ℕ) (entry : EntryTold) → slice_get (map entry_of entries.now) place ≡ Some entry
+        → IsEntryOfTrack track.now entry }
     ensures { Prints (W.written writer.old) (W.written writer.new) (W.failed writer.new)
         (history_text track.now (map entry_of entries.now)) result }
 {

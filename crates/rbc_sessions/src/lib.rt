@@ -4,13 +4,13 @@
 
 mod asking;
 mod centre;
-mod counter;
+mod context;
 mod demand;
 mod grants;
 mod hearing;
 mod histories;
 mod keeping;
-mod nowhere;
+mod null_sink;
 mod resting;
 mod sessions;
 mod showing;
@@ -19,17 +19,17 @@ mod telling;
 
 pub use asking::{commit, stopped, told_of};
 pub use centre::Centre;
-pub use counter::Counter;
+pub use context::SessionContext;
 pub use demand::{demand_in, looked_up};
 pub use histories::print_history;
 pub use keeping::{KeepFault, Keeper, NoJournal, NotKept};
-pub use nowhere::Nowhere;
+pub use null_sink::NullSink;
 pub use rbc_replies as replies;
 pub use rbc_replies::words;
 pub use rbc_streams::SessionFault;
 pub use rbc_sweep::{
-    Answer, Blank, Candidate, CloseFault, Desk, DeskName, Granted, OpenGate, Outcome, Receipt,
-    Record, Seat, Sight, Track, View, candidate, sweep,
+    Answer, Blank, Candidate, CloseFault, Desk, DeskName, EntryLimit, Granted, Onlooker, OpenGate,
+    Outcome, Receipt, Record, Seat, Sight, Track, View, candidate, sweep,
 };
 pub use sessions::{SessionEnd, run, session};
 pub use showing::show;

@@ -7,7 +7,7 @@ ghost use Rattle.rbc_model.specs.Sessions.{Prints};
 ghost use Rattle.rbc_replies.specs.Replies.{reply_text, ReplyIsWhole};
 ghost use Rattle.rbc_sessions.specs.SeatChanges.{SeatHears};
 
-use crate::{Counter, Keeper};
+use crate::{Keeper, SessionContext};
 use rbc_model::Told;
 use rbc_replies::{SessionReply, print};
 use rbc_streams::{Sink, WriteFailed};
@@ -96,7 +96,7 @@ impl Resting {
     pub(crate) fn enter<'a, L: DeskName, K: Keeper<L>, G: Gate, R: Wait, W: Sink>(
         &mut self,
         alloc: Global,
-        counter: &Counter<'a, L, K, G, R>,
+        context: &SessionContext<'a, L, K, G, R>,
         seat: &mut Seat<L>,
         more: bool,
         writer: &mut W,
@@ -108,8 +108,8 @@ impl Resting {
             × Prints (W.written writer.old) (W.written writer.new) (W.failed writer.new) text result }
     {
         let Resting { told, replies } = self;
-        counter.hear_all(alloc, seat, told.as_slice(), more, replies);
-        let printed = print_all(counter.track, replies.as_slice(), writer);
+        context.hear_all(alloc, seat, told.as_slice(), more, replies);
+        let printed = print_all(context.track, replies.as_slice(), writer);
         told.clear();
         replies.clear();
         printed

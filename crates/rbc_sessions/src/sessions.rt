@@ -2,6 +2,7 @@
 
 ghost use Rattle.std.specs.Prelude.{◌≡◌, ◌≢◌, ◌↔◌, ◌||◌, ℕ, List, [], true, false, IsTrue, OnOk, Err};
 ghost use Rattle.std.specs.Io.KnownBytes.{Consumes, IsAtEnd};
+ghost use Rattle.rbc_sweep.specs.Records.{begin_of};
 ghost use Rattle.rbc_model.specs.declared.limits.TheConstants.{LONGEST_LINE};
 ghost use Rattle.rbc_streams.specs.LineReading.{at_start};
 ghost use Rattle.rbc_sweep.specs.Outcomes.{AreFirst};
@@ -14,7 +15,7 @@ ghost use Rattle.rbc_sessions.specs.Answered.{AnswersAll};
 
 use crate::centre::Centre;
 use crate::hearing::Hearing;
-use crate::{Counter, Keeper, SessionFault, Sitting};
+use crate::{Keeper, SessionContext, SessionFault, Sitting};
 use rbc_streams::{LineReader, Sink, Source, answer_lines, converse};
 use rbc_sweep::{DeskName, Gate, Record};
 use std::alloc::Global;
@@ -52,11 +53,12 @@ pub fn run<R: Source, W: Sink>(
     ensures end { OnOk result (IsAtEnd (R.left reader.new)) }
     ensures ended { OnOk result (R.ended reader.new ≡ true) }
 
-    // The record is of the same track, and each line of what was read was answered after the entries of those before
+    // The record is of the same track and begins with the same scene, and each line of what was read was answered after the entries of those before
     // it.
     ensures track { history.new.track ≡ history.old.track }
+    ensures begin { begin_of history.new ≡ begin_of history.old }
     ensures session { (input : List ℕ) × Consumes (R.left reader.old) (R.left reader.new) input
-        × IsSession history.old.track history.old.entries history.new.entries input
+        × IsSession (begin_of history.old) history.old.entries history.new.entries input
         (W.written writer.old) (W.written writer.new) result }
 
     // At the end of the input, where memory was never refused, what was written and the history are one function of the
@@ -65,7 +67,8 @@ pub fn run<R: Source, W: Sink>(
         (W.written writer.old) (W.written writer.new)) }
 
     // The history is a session: the lines of its entries lead to them again, if those of the history before did.
-    ensures retold { IsRetold history.old.track history.old.entries → IsRetold history.new.track history.new.entries }
+    ensures retold { IsRetold (begin_of history.old) history.old.entries
+        → IsRetold (begin_of history.new) history.new.entries }
 
     // What was written was handed on, unless the writer failed.
     ensures handed_on { W.failed writer.new ≡ false → W.held_back writer.old ≡ [] → W.held_back writer.new ≡ [] }
@@ -88,13 +91,15 @@ pub struct SessionEnd<L: DeskName, P> {
 /// receipt for each line that is accepted, and none for any other; the reply to such a line is written once the request that
 /// it says is kept. Each line is answered as after a history that goes on from all that the seat had been told, and the seat
 /// is told that history: other seats may enter what they are told and asked meanwhile. Before each read of the reader all
-/// replies so far are handed on. Trains that ask pass the counter's gate, outside the desk's lock. There is room for the
+/// replies so far are handed on. Trains that ask pass the context's gate, outside the desk's lock. There is room for the
 /// lines: a reader of lines that was not begun.
 ///
 /// # Errors
 ///
-/// Those of [`run`], but for `Memory`; `Write` too where a request could not be kept: then the sitting has failed, and the
-/// last line has no reply. The seat keeps the receipts for all lines that were treated.
+/// For each line in order: `Read` where the reader fails; `Write` where the writer does, or where a request could not be kept:
+/// then the sitting has failed, and the last line has no reply; `Overlong` behind the reply to a line that is too long; `Lines`
+/// where a further byte comes after the last line that a session treats. The seat keeps the receipts for all lines that were
+/// treated.
 pub fn session<
     'a,
     I: Source,
@@ -110,7 +115,7 @@ pub fn session<
     lines: LineReader,
     reader: &mut I,
     writer: &mut W,
-    counter: &Counter<'a, L, K, G, R>,
+    context: &SessionContext<'a, L, K, G, R>,
     sitting: Sitting<L, K::Pen>,
 ) -> SessionEnd<L, K::Pen>
     requires lines { lines ≡ at_start LONGEST_LINE }
@@ -154,10 +159,10 @@ pub fn session<
         → W.held_back writer.old ≡ [] → W.held_back writer.new ≡ [] }
 {
     // The desk's track is in form, and what the seat was told is on it.
-    counter.track.known();
+    context.track.known();
     sitting.seat.known();
     let mut hearing = Hearing::new(alloc, sitting);
-    let ended = answer_lines(rt, alloc, lines, reader, writer, &mut hearing, counter);
+    let ended = answer_lines(rt, alloc, lines, reader, writer, &mut hearing, context);
     let Hearing { sitting, .. } = hearing;
     SessionEnd { sitting, ended }
 }

@@ -1,6 +1,7 @@
 //! What is asked to be shown.
 
 ghost use Rattle.std.specs.Prelude.{◌≡◌, ℕ, List, None, false};
+ghost use Rattle.rbc_sweep.specs.Records.{begin_of};
 ghost use Rattle.rbc_model.specs.Sessions.{Prints};
 ghost use Rattle.rbc_session_laws.specs.Turns.{AnswersInquiry};
 
@@ -22,7 +23,7 @@ pub fn show<W: Sink>(
     writer: &mut W,
 ) -> Result<(), WriteFailed>
     requires { W.failed writer.old ≡ false }
-    ensures { (reply : List ℕ) × AnswersInquiry history.now.track history.now.entries reply None inquiry
+    ensures { (reply : List ℕ) × AnswersInquiry (begin_of history.now) history.now.entries reply None inquiry
         × Prints (W.written writer.old) (W.written writer.new) (W.failed writer.new) reply result }
 {
     let scene = history.scene();

@@ -15,12 +15,13 @@ use std::alloc::Global;
 /// The reply to what is told. Where it is accepted, the record gains an entry; where it is refused, nothing changes.
 pub fn tell(alloc: Global, history: &mut Record, told: &Told) -> SessionReply<'static>
     requires { IsToldOfTrack history.old.track told.now }
-    ensures comes { Comes (λ track entries reply added. AnswersEvent track entries reply added told.now)
+    ensures comes { Comes (λ begin entries reply added. AnswersEvent begin entries reply added told.now)
         history.old (reply_text history.old.track result) history.new }
     ensures whole { ReplyIsWhole history.old.track result }
 {
-    // Every record is of a sound track.
+    // Every record is of a sound track, and its entries can be counted.
     history.track().known();
+    history.right();
     match history.apply(alloc, told) {
         Ok(receipt) => SessionReply::Accepted(receipt.place() + 1),
         Err(fault) => SessionReply::Refused(refusal_of(fault)),
@@ -31,11 +32,11 @@ pub fn tell(alloc: Global, history: &mut Record, told: &Told) -> SessionReply<'s
 /// changes.
 pub fn in_vain(history: &Record, told: &Told) -> SessionReply<'static>
     requires { IsToldOfTrack history.now.track told.now }
-    ensures comes { Comes (λ track entries reply added. AnswersEvent track entries reply added told.now)
+    ensures comes { Comes (λ begin entries reply added. AnswersEvent begin entries reply added told.now)
         history.now (reply_text history.now.track result) history.now }
     ensures whole { ReplyIsWhole history.now.track result }
 {
-    // As above.
+    // Every record is of a sound track.
     history.track().known();
     match history.refusal(told) {
         Some(fault) => SessionReply::Refused(refusal_of(OrMemory::Refused(fault))),

@@ -6,28 +6,27 @@ use Rattle.std.proofs.KnownBytes.{Appends-trans}
 use Rattle.std.proofs.lemmas.List.Elements.{recursion_from_All}
 use Rattle.std.proofs.lemmas.Bool.{both_ways}
 use Rattle.rbc_model.specs.declared.limits.TheConstants.{LONGEST_LINE}
-use Rattle.rbc_model.specs.Histories.{Entry}
+use Rattle.rbc_model.specs.Histories.{Beginning, Entry}
 use Rattle.rbc_model.specs.Sessions.{lines_of}
 use Rattle.rbc_model.specs.Talks.{Answered, IsTalk}
 use Rattle.rbc_model.specs.TrackLines.{track_lines}
-use Rattle.rbc_model.specs.Tracks.{Track}
 use Rattle.rbc_session_laws.specs.Answers.{line_answer, turns_of, entries_after}
 use Rattle.rbc_session_laws.specs.SessionRuns.{entries_of, entries_added}
 use Rattle.rbc_kept.specs.Adds.{Follows}
-use Rattle.rbc_kept.specs.Records.{HistoryOnTrack}
+use Rattle.rbc_kept.specs.Records.{begin_of, HistoryOnTrack}
 use Rattle.rbc_show.specs.declared.last.Following.{Following}
 use Rattle.rbc_show.specs.Showing.{scene_text, shown_text, Shows, IsFollowed, FollowsLine}
 use Rattle.rbc_show.proofs.EndLemmas.{of_input}
 
 -- the record has the entry that the line adds, if it adds one
 followed_to : (before after : HistoryOnTrack) (line : List ℕ) (is_added : Bool) → Follows is_added before line after
-    → (after.track ≡ before.track) × (after.entries ≡ before.entries ++ entries_of (line_answer before.track before.entries line).added)
+    → (begin_of after ≡ begin_of before) × (after.entries ≡ before.entries ++ entries_of (line_answer (begin_of before) before.entries line).added)
 followed_to before after line true (entry, adds, is) = (
-  ap (λ (h : HistoryOnTrack). h.track) is,
+  ap begin_of is,
   ap (λ (h : HistoryOnTrack). h.entries) is ∙ ap (λ added. before.entries ++ entries_of added) (sym adds),
 )
 followed_to before after line false (none, is) = (
-  ap (λ (h : HistoryOnTrack). h.track) is,
+  ap begin_of is,
   ap (λ (h : HistoryOnTrack). h.entries) is ∙ sym (append-nil before.entries) ∙ ap (λ added. before.entries ++ entries_of added) (sym none),
 )
 
@@ -43,22 +42,22 @@ too_long now line whole long = (whole, inr (whole, λ short. absurd (omega (arit
 -- ---- lines
 
 -- behind a line the entries are those before it, with what it adds
-added_on : (track : Track) (before : List Entry) (line : List ℕ) (lines : List (List ℕ))
-    → (before ++ entries_of (line_answer track before line).added) ++ entries_added (turns_of track (before ++ entries_of (line_answer track before line).added) lines)
-    ≡ before ++ entries_added (turns_of track before (line ∷ lines))
+added_on : (begin : Beginning) (before : List Entry) (line : List ℕ) (lines : List (List ℕ))
+    → (before ++ entries_of (line_answer begin before line).added) ++ entries_added (turns_of begin (before ++ entries_of (line_answer begin before line).added) lines)
+    ≡ before ++ entries_added (turns_of begin before (line ∷ lines))
 unfolding turns_of
-added_on track before line lines =
-    append_assoc before (entries_of (line_answer track before line).added) (entries_added (turns_of track (before ++ entries_of (line_answer track before line).added) lines))
+added_on begin before line lines =
+    append_assoc before (entries_of (line_answer begin before line).added) (entries_added (turns_of begin (before ++ entries_of (line_answer begin before line).added) lines))
 
-none_on : (track : Track) (before : List Entry) → before ≡ before ++ entries_added (turns_of track before [])
+none_on : (begin : Beginning) (before : List Entry) → before ≡ before ++ entries_added (turns_of begin before [])
 unfolding turns_of
-none_on track before = sym (append-nil before)
+none_on begin before = sym (append-nil before)
 
 -- nothing was written, and the record has the entries that the lines add
 record AreFollowed (first last : Following) (lines : List (List ℕ)) (text : List ℕ) : Type 0 where
   silent : text ≡ []
-  track : last.history.track ≡ first.history.track
-  entries : last.history.entries ≡ first.history.entries ++ entries_added (turns_of first.history.track first.history.entries lines)
+  begin : begin_of last.history ≡ begin_of first.history
+  entries : last.history.entries ≡ first.history.entries ++ entries_added (turns_of (begin_of first.history) first.history.entries lines)
 
 never_lost : (first last : Following) (lines : List (List ℕ)) (text : List ℕ) → Answered FollowsLine first lines text last → last.lost ≡ false → first.lost ≡ false
 never_lost first last [] text (none, same) whole = ap (λ (s : Following). s.lost) (sym same) ∙ whole
@@ -69,23 +68,23 @@ followed_behind : (first next last : Following) (line : List ℕ) (lines : List 
     → AreFollowed first last (line ∷ lines) text
 followed_behind first next last line lines reply rest text followed cut later =
     let to = followed_to first.history next.history line followed.followed.0 followed.followed.1 in
-    let track = first.history.track in
+    let begin = begin_of first.history in
     let before = first.history.entries in
-    let same_entries : next.history.entries ++ entries_added (turns_of next.history.track next.history.entries lines)
-    ≡ (before ++ entries_of (line_answer track before line).added) ++ entries_added (turns_of track (before ++ entries_of (line_answer track before line).added) lines) =
+    let same_entries : next.history.entries ++ entries_added (turns_of (begin_of next.history) next.history.entries lines)
+    ≡ (before ++ entries_of (line_answer begin before line).added) ++ entries_added (turns_of begin (before ++ entries_of (line_answer begin before line).added) lines) =
     λ j. to.1 j ++ entries_added (turns_of (to.0 j) (to.1 j) lines) in
     record {
       silent = cut ∙ ap₂ (λ (a b : List ℕ). a ++ b) followed.silent later.silent;
-      track = later.track ∙ to.0;
-      entries = later.entries ∙ same_entries ∙ added_on track before line lines;
+      begin = later.begin ∙ to.0;
+      entries = later.entries ∙ same_entries ∙ added_on begin before line lines;
     }
 
 lines_followed : (first last : Following) (lines : List (List ℕ)) (text : List ℕ) → AllByRecursion (λ line. length line ≤ LONGEST_LINE) lines → Answered FollowsLine first lines text last
     → last.lost ≡ false → AreFollowed first last lines text
 lines_followed first last [] text short (none, same) whole = record {
   silent = none;
-  track = ap (λ (s : Following). s.history.track) same;
-  entries = ap (λ (s : Following). s.history.entries) same ∙ none_on first.history.track first.history.entries;
+  begin = ap (λ (s : Following). begin_of s.history) same;
+  entries = ap (λ (s : Following). s.history.entries) same ∙ none_on (begin_of first.history) first.history.entries;
 }
 lines_followed first last (line ∷ lines) text short (reply, rest, next, (going, inl gone), cut, later) whole =
     absurd (both_ways next.lost (never_lost next last lines rest later whole) gone)
@@ -96,20 +95,21 @@ lines_followed first last (line ∷ lines) text short (reply, rest, next, (going
 module _ (left_before left_after old headed between new : Option (List ℕ)) (first last : Following) (whole : last.lost ≡ false)
     (read : List ℕ) (end : IsAtEnd left_after) (taken : Consumes left_before left_after read) (opens : Appends old headed (track_lines first.history.track))
     (talk : IsTalk LONGEST_LINE FollowsLine first last read headed between (Ok tt))
-    (closes : Appends between new (scene_text last.history.track last.history.entries)) where
-  of_read : Appends old new (shown_text first.history.track first.history.entries read)
+    (closes : Appends between new (scene_text (begin_of last.history) last.history.entries)) where
+  of_read : Appends old new (shown_text (begin_of first.history) first.history.entries read)
   of_read =
       let track = first.history.track in
+      let begin = begin_of first.history in
       let before = first.history.entries in
-      let closing : List ℕ = scene_text last.history.track last.history.entries in
+      let closing : List ℕ = scene_text (begin_of last.history) last.history.entries in
       let all : List ℕ = (track_lines track ++ talk.text) ++ closing in
       let wrote : Appends old new all = Appends-trans old between new (track_lines track ++ talk.text) closing (Appends-trans old headed between (track_lines track) talk.text opens talk.ends.0) closes in
       let lines : talk.treated ≡ lines_of read = sym (talk.lines ∙ ap (λ r. talk.treated ++ r) talk.ends.2 ∙ append-nil talk.treated) in
       let followed = lines_followed first last talk.treated talk.text (recursion_from_All (λ line. length line ≤ LONGEST_LINE) talk.treated talk.ends.1) talk.answered whole in
-      let after : last.history.entries ≡ entries_after track before read = followed.entries ∙ ap (λ ls. before ++ entries_added (turns_of track before ls)) lines in
-      let ending : closing ≡ scene_text track (entries_after track before read) = λ j. scene_text (followed.track j) (after j) in
+      let after : last.history.entries ≡ entries_after begin before read = followed.entries ∙ ap (λ ls. before ++ entries_added (turns_of begin before ls)) lines in
+      let ending : closing ≡ scene_text begin (entries_after begin before read) = λ j. scene_text (followed.begin j) (after j) in
       subst (Appends old new) (ap₂ (λ (a b : List ℕ). a ++ b) (ap (λ t. track_lines track ++ t) followed.silent ∙ append-nil (track_lines track)) ending) wrote
 
-  pub is_shown : Shows (shown_text first.history.track first.history.entries) left_before old new
+  pub is_shown : Shows (shown_text (begin_of first.history) first.history.entries) left_before old new
   is_shown = λ input left.
-      of_input (λ i. Appends old new (shown_text first.history.track first.history.entries i)) left_before left_after read input taken end of_read left
+      of_input (λ i. Appends old new (shown_text (begin_of first.history) first.history.entries i)) left_before left_after read input taken end of_read left

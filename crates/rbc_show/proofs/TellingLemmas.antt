@@ -7,8 +7,9 @@ use Rattle.std.proofs.KnownBytes.{Appends-kept, Appends-trans}
 use Rattle.std.proofs.Math.Nat.{min-eq_left}
 use Rattle.std.proofs.lemmas.List.Elements.{recursion_from_All}
 use Rattle.std.proofs.lemmas.Bool.{both_ways}
+use Rattle.rbc_kept.specs.Records.{begin_of}
 use Rattle.rbc_model.specs.declared.limits.TheConstants.{LONGEST_LINE}
-use Rattle.rbc_model.specs.Histories.{Entry, replay}
+use Rattle.rbc_model.specs.Histories.{Beginning, Entry, replay}
 use Rattle.rbc_model.specs.SessionReply.{SessionRefusal, Memory, refused_reply}
 use Rattle.rbc_model.specs.Sessions.{lines_of}
 use Rattle.rbc_model.specs.SoundTracks.{IsInForm}
@@ -38,11 +39,11 @@ too_long before after line text whole kept long = (whole, inr (kept, λ short. a
 
 -- a line that was told, unless memory was refused for its scene
 pub line_told : (before after : Telling) (line text reply : List ℕ) (added : Option Entry) → before.lost ≡ false → after.lost ≡ before.lost
-    → AnswersLine before.history.track before.history.entries line reply added → after.history.track ≡ before.history.track
+    → AnswersLine (begin_of before.history) before.history.entries line reply added → begin_of after.history ≡ begin_of before.history
     → after.history.entries ≡ before.history.entries ++ entries_of added → after.number ≡ next_number before.number
-    → text ≡ told_text before.number before.history.track before.history.entries line reply added → TellsLine before line text after
-line_told before after line text reply added whole kept answers track entries number told =
-    (whole, inr (kept ∙ whole, λ short. record { reply = reply; added = added; answers = answers; track = track; entries = entries; number = number; told = told }))
+    → text ≡ told_text before.number (begin_of before.history) before.history.entries line reply added → TellsLine before line text after
+line_told before after line text reply added whole kept answers begin entries number told =
+    (whole, inr (kept ∙ whole, λ short. record { reply = reply; added = added; answers = answers; begin = begin; entries = entries; number = number; told = told }))
 
 -- ---- whole lines
 
@@ -75,9 +76,9 @@ both_whole : (before text : List ℕ) → IsWhole before → IsWhole text → Is
 both_whole before text (inl none) whole = subst (λ b. IsWhole (b ++ text)) (sym none) whole
 both_whole before text (inr ends) whole = whole_behind before text ends whole
 
-change_whole : (track : Track) (before : List Entry) (added : Option Entry) → IsWhole (change_text track before added)
-change_whole track before None = inl refl
-change_whole track before (Some entry) = inr (scene_ends track (length (before ++ entry ∷ [])) (replay track (before ++ entry ∷ [])))
+change_whole : (begin : Beginning) (before : List Entry) (added : Option Entry) → IsWhole (change_text begin before added)
+change_whole begin before None = inl refl
+change_whole begin before (Some entry) = inr (scene_ends begin.track (length (before ++ entry ∷ [])) (replay begin (before ++ entry ∷ [])))
 
 request_ends : (number : ℕ) (line : List ℕ) → EndsLine (request_text number line)
 request_ends number line = line_ends (codes "request" ∷ decimal number ∷ without_return line ∷ [])
@@ -87,33 +88,33 @@ split text more whole none = all_of_both (lines_of text) (lines_of more) (subst 
 
 -- ---- one line
 
-module _ (track : Track) (before : List Entry) (request reply change : List ℕ) (added : Option Entry) (asks : EndsLine request) (whole : IsWhole reply) where
-  within : AllByRecursion IsNotMemory (lines_of (request ++ (reply ++ change))) → reply ≢ refused_reply track Memory
-  within none = not_memory track reply (split reply change whole (split request (reply ++ change) (inr asks) none).1).0
+module _ (begin : Beginning) (before : List Entry) (request reply change : List ℕ) (added : Option Entry) (asks : EndsLine request) (whole : IsWhole reply) where
+  within : AllByRecursion IsNotMemory (lines_of (request ++ (reply ++ change))) → reply ≢ refused_reply begin.track Memory
+  within none = not_memory begin.track reply (split reply change whole (split request (reply ++ change) (inr asks) none).1).0
 
   -- where no line that is written says that memory was refused, the reply does not
-  kept : (demand : Result Demand SessionRefusal) → AnswersDemand track before reply added demand
-      → AllByRecursion IsNotMemory (lines_of (cond (has_reply demand) (request ++ (reply ++ change)) [])) → reply ≢ refused_reply track Memory
-  kept (Ok Nothing) answers none = subst (λ r. r ≢ refused_reply track Memory) (sym answers.0) (not_memory track [] tt)
+  kept : (demand : Result Demand SessionRefusal) → AnswersDemand begin before reply added demand
+      → AllByRecursion IsNotMemory (lines_of (cond (has_reply demand) (request ++ (reply ++ change)) [])) → reply ≢ refused_reply begin.track Memory
+  kept (Ok Nothing) answers none = subst (λ r. r ≢ refused_reply begin.track Memory) (sym answers.0) (not_memory begin.track [] tt)
   kept (Ok (Event told)) answers none = within none
   kept (Ok (Authority train)) answers none = within none
   kept (Ok (Show inquiry)) answers none = within none
   kept (Err refusal) answers none = within none
 
-told_whole : (number : ℕ) (track : Track) (before : List Entry) (line reply : List ℕ) (added : Option Entry) → IsWhole reply → IsWhole (told_text number track before line reply added)
-told_whole number track before line reply added whole = by_reply (has_reply (demand_in track line))
+told_whole : (number : ℕ) (begin : Beginning) (before : List Entry) (line reply : List ℕ) (added : Option Entry) → IsWhole reply → IsWhole (told_text number begin before line reply added)
+told_whole number begin before line reply added whole = by_reply (has_reply (demand_in begin.track line))
   where
-    by_reply : (has : Bool) → IsWhole (cond has (request_text number line ++ (reply ++ change_text track before added)) [])
-    by_reply true = whole_behind (request_text number line) (reply ++ change_text track before added) (request_ends number line)
-        (both_whole reply (change_text track before added) whole (change_whole track before added))
+    by_reply : (has : Bool) → IsWhole (cond has (request_text number line ++ (reply ++ change_text begin before added)) [])
+    by_reply true = whole_behind (request_text number line) (reply ++ change_text begin before added) (request_ends number line)
+        (both_whole reply (change_text begin before added) whole (change_whole begin before added))
     by_reply false = inl refl
 
 -- what a line was answered is the answer to it
-answer_is : (number : ℕ) (track : Track) (before : List Entry) (line reply : List ℕ) (added : Option Entry) → IsInForm track → AnswersLine track before line reply added
-    → AllByRecursion IsNotMemory (lines_of (told_text number track before line reply added)) → (reply ≡ (line_answer track before line).reply) × (added ≡ (line_answer track before line).added)
-answer_is number track before line reply added form answers none =
-    lines_are_answered track before line reply added form answers
-    (kept track before (request_text number line) reply (change_text track before added) added (request_ends number line) (reply_whole track before line reply added answers) (demand_in track line) answers none)
+answer_is : (number : ℕ) (begin : Beginning) (before : List Entry) (line reply : List ℕ) (added : Option Entry) → IsInForm begin.track → AnswersLine begin before line reply added
+    → AllByRecursion IsNotMemory (lines_of (told_text number begin before line reply added)) → (reply ≡ (line_answer begin before line).reply) × (added ≡ (line_answer begin before line).added)
+answer_is number begin before line reply added form answers none =
+    lines_are_answered begin before line reply added form answers
+    (kept begin before (request_text number line) reply (change_text begin before added) added (request_ends number line) (reply_whole begin before line reply added answers) (demand_in begin.track line) answers none)
 
 -- ---- lines
 
@@ -124,36 +125,36 @@ never_lost first last (line ∷ lines) text (reply, rest, next, answers, cut, la
 -- one line more
 module _ (first next : Telling) (line : List ℕ) (lines : List (List ℕ)) (told rest text : List ℕ) (is : IsTold first line told next) (cut : text ≡ told ++ rest)
     (form : IsInForm first.history.track) (few : first.number + suc (length lines) ≤ 0xffff_ffff) (none : AllByRecursion IsNotMemory (lines_of text)) where
-  abbrev track : Track
-  track = first.history.track
+  abbrev begin : Beginning
+  begin = begin_of first.history
 
   abbrev before : List Entry
   before = first.history.entries
 
   both : AllByRecursion IsNotMemory (lines_of told) × AllByRecursion IsNotMemory (lines_of rest)
-  both = split told rest (subst IsWhole (sym is.told) (told_whole first.number track before line is.reply is.added (reply_whole track before line is.reply is.added is.answers)))
+  both = split told rest (subst IsWhole (sym is.told) (told_whole first.number begin before line is.reply is.added (reply_whole begin before line is.reply is.added is.answers)))
       (subst (λ t. AllByRecursion IsNotMemory (lines_of t)) cut none)
 
-  answered : (is.reply ≡ (line_answer track before line).reply) × (is.added ≡ (line_answer track before line).added)
-  answered = answer_is first.number track before line is.reply is.added form is.answers (subst (λ t. AllByRecursion IsNotMemory (lines_of t)) is.told both.0)
+  answered : (is.reply ≡ (line_answer begin before line).reply) × (is.added ≡ (line_answer begin before line).added)
+  answered = answer_is first.number begin before line is.reply is.added form is.answers (subst (λ t. AllByRecursion IsNotMemory (lines_of t)) is.told both.0)
 
   number : next.number ≡ first.number + 1
   number = is.number ∙ min-eq_left (let bound : first.number + 1 ≤ 0xffff_ffff = omega (arith, few) in bound)
 
-  entries : next.history.entries ≡ before ++ entries_of (line_answer track before line).added
+  entries : next.history.entries ≡ before ++ entries_of (line_answer begin before line).added
   entries = is.entries ∙ ap (λ added. before ++ entries_of added) answered.1
 
-  more : rest ≡ lines_text next.number next.history.track next.history.entries lines → text ≡ lines_text first.number track before (line ∷ lines)
+  more : rest ≡ lines_text next.number (begin_of next.history) next.history.entries lines → text ≡ lines_text first.number begin before (line ∷ lines)
   more later =
       cut
       ∙ ap₂ (λ (a b : List ℕ). a ++ b)
-      (is.told ∙ ap₂ (λ reply added. told_text first.number track before line reply added) answered.0 answered.1)
-      (later ∙ (let same : lines_text next.number next.history.track next.history.entries lines
-      ≡ lines_text (first.number + 1) track (before ++ entries_of (line_answer track before line).added) lines = λ j. lines_text (number j) (is.track j) (entries j) lines in same))
+      (is.told ∙ ap₂ (λ reply added. told_text first.number begin before line reply added) answered.0 answered.1)
+      (later ∙ (let same : lines_text next.number (begin_of next.history) next.history.entries lines
+      ≡ lines_text (first.number + 1) begin (before ++ entries_of (line_answer begin before line).added) lines = λ j. lines_text (number j) (is.begin j) (entries j) lines in same))
 
 lines_told : (first last : Telling) (lines : List (List ℕ)) (text : List ℕ) → AllByRecursion (λ line. length line ≤ LONGEST_LINE) lines → Answered TellsLine first lines text last → last.lost ≡ false
     → IsInForm first.history.track → first.number + length lines ≤ 0xffff_ffff → AllByRecursion IsNotMemory (lines_of text)
-    → text ≡ lines_text first.number first.history.track first.history.entries lines
+    → text ≡ lines_text first.number (begin_of first.history) first.history.entries lines
 lines_told first last [] text short (nothing, same) whole form few none = nothing
 lines_told first last (line ∷ lines) text short (told, rest, next, (going, inl gone), cut, later) whole form few none =
     absurd (both_ways next.lost (never_lost next last lines rest later whole) gone)
@@ -161,21 +162,21 @@ lines_told first last (line ∷ lines) text short (told, rest, next, (going, inr
     let is = here.1 short.0 in
     more first next line lines told rest text is cut form few none
     (lines_told next last lines rest short.1 later whole
-    (subst IsInForm (sym is.track) form)
+    (subst (λ (b : Beginning). IsInForm b.track) (sym is.begin) form)
     (let bound : next.number + length lines ≤ 0xffff_ffff = subst (λ n. n + length lines ≤ 0xffff_ffff) (sym (number first next line lines told rest text is cut form few none)) (omega (arith, few)) in bound)
     (both first next line lines told rest text is cut form few none).1)
 
 -- ---- the track, the scene and the lines
 module _ (left_before left_after old headed between new : Option (List ℕ)) (first last : Telling) (whole : last.lost ≡ false) (form : IsInForm first.history.track) (one : first.number ≡ 1)
     (read : List ℕ) (end : IsAtEnd left_after) (taken : Consumes left_before left_after read)
-    (opens : Appends old headed (track_lines first.history.track ++ scene_text first.history.track first.history.entries))
+    (opens : Appends old headed (track_lines first.history.track ++ scene_text (begin_of first.history) first.history.entries))
     (talk : IsTalk LONGEST_LINE TellsLine first last read headed between (Ok tt)) (handed : Keeps between new) where
   abbrev head : List ℕ
-  head = track_lines first.history.track ++ scene_text first.history.track first.history.entries
+  head = track_lines first.history.track ++ scene_text (begin_of first.history) first.history.entries
 
   head_ends : EndsLine head
-  head_ends = ends_behind (track_lines first.history.track) (scene_text first.history.track first.history.entries)
-      (scene_ends first.history.track (length first.history.entries) (replay first.history.track first.history.entries))
+  head_ends = ends_behind (track_lines first.history.track) (scene_text (begin_of first.history) first.history.entries)
+      (scene_ends first.history.track (length first.history.entries) (replay (begin_of first.history) first.history.entries))
 
   abbrev all : List ℕ
   all = head ++ talk.text
@@ -183,18 +184,19 @@ module _ (left_before left_after old headed between new : Option (List ℕ)) (fi
   wrote : Appends old new all
   wrote = Appends-kept old between new all (Appends-trans old headed between head talk.text opens talk.ends.0) handed
 
-  of_read : SaysNoMemory all → all ≡ each_text first.history.track first.history.entries read
+  of_read : SaysNoMemory all → all ≡ each_text (begin_of first.history) first.history.entries read
   of_read says =
       let track = first.history.track in
+      let begin = begin_of first.history in
       let before = first.history.entries in
       let none = split head talk.text (inr head_ends) (recursion_from_All IsNotMemory (lines_of all) says) in
       let lines : talk.treated ≡ lines_of read = sym (talk.lines ∙ ap (λ r. talk.treated ++ r) talk.ends.2 ∙ append-nil talk.treated) in
       let few : first.number + length talk.treated ≤ 0xffff_ffff = subst (λ n. n + length talk.treated ≤ 0xffff_ffff) (sym one) (omega (arith, talk.few)) in
       let told = lines_told first last talk.treated talk.text (recursion_from_All (λ line. length line ≤ LONGEST_LINE) talk.treated talk.ends.1) talk.answered whole form few none.1 in
-      ap (λ t. head ++ t) (told ∙ ap₂ (λ n ls. lines_text n track before ls) one lines)
-      ∙ append_assoc (track_lines track) (scene_text track before) (lines_text 1 track before (lines_of read))
+      ap (λ t. head ++ t) (told ∙ ap₂ (λ n ls. lines_text n begin before ls) one lines)
+      ∙ append_assoc (track_lines track) (scene_text begin before) (lines_text 1 begin before (lines_of read))
 
-  pub is_shown : ShowsEach (each_text first.history.track first.history.entries) left_before old new
+  pub is_shown : ShowsEach (each_text (begin_of first.history) first.history.entries) left_before old new
   is_shown = λ input left.
-      of_input (λ i. (text : List ℕ) × Appends old new text × (SaysNoMemory text → text ≡ each_text first.history.track first.history.entries i))
+      of_input (λ i. (text : List ℕ) × Appends old new text × (SaysNoMemory text → text ≡ each_text (begin_of first.history) first.history.entries i))
       left_before left_after read input taken end (all, wrote, of_read) left

@@ -4,15 +4,14 @@ use Rattle.std.specs.Prelude.{is_err}
 use Rattle.std.specs.Result.{IsErr}
 use Rattle.std.specs.Io.KnownBytes.{Appends}
 use Rattle.std.proofs.KnownBytes.{Appends-trans}
-use Rattle.rbc_model.specs.Histories.{Entry}
+use Rattle.rbc_model.specs.Histories.{Beginning, Entry}
 use Rattle.rbc_model.specs.SessionReply.{SessionRefusal}
 use Rattle.rbc_model.specs.Sessions.{WritesPart, WritesText}
-use Rattle.rbc_model.specs.Tracks.{Track}
 use Rattle.rbc_session_laws.specs.declared.demand.Demand.{Demand}
 use Rattle.rbc_session_laws.specs.declared.demand.Demand.TheVariants.{Nothing, Event, Authority, Show}
 use Rattle.rbc_session_laws.specs.SessionRuns.{entries_of}
 use Rattle.rbc_session_laws.specs.Turns.{AnswersDemand}
-use Rattle.rbc_kept.specs.Records.{HistoryOnTrack}
+use Rattle.rbc_kept.specs.Records.{begin_of, HistoryOnTrack}
 use Rattle.rbc_show.specs.Showing.{change_text, has_reply, scene_text}
 
 -- ---- parts of texts
@@ -47,15 +46,15 @@ whole_text a b x (Err fault) going wrote = absurd (let c : ⊥ = cc in c)
 -- ---- what a line adds
 
 -- the scene is written where the history has grown, and else nothing is
-pub grown : (before after : HistoryOnTrack) (added : Option Entry) → after.track ≡ before.track → after.entries ≡ before.entries ++ entries_of added
-    → length before.entries < length after.entries → change_text before.track before.entries added ≡ scene_text after.track after.entries
-grown before after None track entries more =
+pub grown : (before after : HistoryOnTrack) (added : Option Entry) → begin_of after ≡ begin_of before → after.entries ≡ before.entries ++ entries_of added
+    → length before.entries < length after.entries → change_text (begin_of before) before.entries added ≡ scene_text (begin_of after) after.entries
+grown before after None begin entries more =
     let same : length after.entries ≡ length before.entries = ap length (entries ∙ append-nil before.entries) in
     absurd (omega (arith, same, more))
-grown before after (Some entry) track entries more = λ j. scene_text (sym track j) (sym entries j)
+grown before after (Some entry) begin entries more = λ j. scene_text (sym begin j) (sym entries j)
 
 pub unchanged : (before after : HistoryOnTrack) (added : Option Entry) → after.entries ≡ before.entries ++ entries_of added
-    → length after.entries ≤ length before.entries → change_text before.track before.entries added ≡ []
+    → length after.entries ≤ length before.entries → change_text (begin_of before) before.entries added ≡ []
 unchanged before after None entries least = refl
 unchanged before after (Some entry) entries least =
     let more : length after.entries ≡ length before.entries + 1 = ap length entries ∙ length-append before.entries (entry ∷ []) in
@@ -63,12 +62,12 @@ unchanged before after (Some entry) entries least =
 
 -- ---- a line without a reply
 
-pub silent : (track : Track) (before : List Entry) (demand : Result Demand SessionRefusal) → has_reply demand ≡ false → AnswersDemand track before [] None demand
-silent track before (Ok Nothing) none = (refl, refl)
-silent track before (Ok (Event told)) none = absurd (let c : ⊥ = cc in c)
-silent track before (Ok (Authority train)) none = absurd (let c : ⊥ = cc in c)
-silent track before (Ok (Show inquiry)) none = absurd (let c : ⊥ = cc in c)
-silent track before (Err refusal) none = absurd (let c : ⊥ = cc in c)
+pub silent : (begin : Beginning) (before : List Entry) (demand : Result Demand SessionRefusal) → has_reply demand ≡ false → AnswersDemand begin before [] None demand
+silent begin before (Ok Nothing) none = (refl, refl)
+silent begin before (Ok (Event told)) none = absurd (let c : ⊥ = cc in c)
+silent begin before (Ok (Authority train)) none = absurd (let c : ⊥ = cc in c)
+silent begin before (Ok (Show inquiry)) none = absurd (let c : ⊥ = cc in c)
+silent begin before (Err refusal) none = absurd (let c : ⊥ = cc in c)
 
 pub not_told : (b : Bool) (text : List ℕ) → b ≡ false → cond b text [] ≡ []
 not_told true text none = absurd (let c : ⊥ = cc in c)

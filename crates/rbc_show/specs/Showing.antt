@@ -1,13 +1,13 @@
 -- The program `rbc show`: what it writes, as one function of the track and of the text read.
 use Rattle.std.specs.Prelude.{◌≡◌, ◌≤◌, ◌⊎◌, ℕ, ◌+◌, Bool, true, false, if◌then◌else◌, min, List, [], ◌∷◌, ◌++◌, length, Option, Some, None, Result, Ok, codes, decimal}
 use Rattle.std.specs.Io.KnownBytes.{Appends}
+use Rattle.rbc_kept.specs.Records.{begin_of}
 use Rattle.rbc_model.specs.declared.limits.TheConstants.{LONGEST_LINE}
-use Rattle.rbc_model.specs.Histories.{Entry, replay}
+use Rattle.rbc_model.specs.Histories.{Beginning, Entry, replay}
 use Rattle.rbc_model.specs.SceneLines.{scene_lines}
 use Rattle.rbc_model.specs.SessionReply.{SessionRefusal}
 use Rattle.rbc_model.specs.Sessions.{lines_of}
 use Rattle.rbc_model.specs.TrackLines.{track_lines}
-use Rattle.rbc_model.specs.Tracks.{Track}
 use Rattle.rbc_model.specs.Words.{line_of, without_return}
 use Rattle.rbc_session_laws.specs.declared.demand.Demand.{Demand}
 use Rattle.rbc_session_laws.specs.declared.demand.Demand.TheVariants.{Nothing}
@@ -23,12 +23,12 @@ use Rattle.rbc_show.specs.declared.last.Following.{Following}
 -- ---- the last scene
 
 -- the scene that these entries lead to, as lines
-abbrev pub scene_text : Track → List Entry → List ℕ
-scene_text track entries = scene_lines track (length entries) (replay track entries)
+abbrev pub scene_text : Beginning → List Entry → List ℕ
+scene_text begin entries = scene_lines begin.track (length entries) (replay begin entries)
 
 -- The track, and the scene that an input leads to.
-abbrev pub shown_text : Track → List Entry → List ℕ → List ℕ
-shown_text track before input = track_lines track ++ scene_text track (entries_after track before input)
+abbrev pub shown_text : Beginning → List Entry → List ℕ → List ℕ
+shown_text begin before input = track_lines begin.track ++ scene_text begin (entries_after begin before input)
 
 -- ---- each line
 
@@ -37,9 +37,9 @@ abbrev pub request_text : ℕ → List ℕ → List ℕ
 request_text number line = line_of (codes "request" ∷ decimal number ∷ without_return line ∷ [])
 
 -- the scene behind an entry, if a line adds one to those before it
-abbrev pub change_text : Track → List Entry → Option Entry → List ℕ
-change_text track before None = []
-change_text track before (Some entry) = scene_text track (before ++ entry ∷ [])
+abbrev pub change_text : Beginning → List Entry → Option Entry → List ℕ
+change_text begin before None = []
+change_text begin before (Some entry) = scene_text begin (before ++ entry ∷ [])
 
 -- whether a line has a reply
 abbrev pub has_reply : Result Demand SessionRefusal → Bool
@@ -47,20 +47,20 @@ has_reply (Ok Nothing) = false
 has_reply _ = true
 
 -- the line of this number, its reply, and the scene that it leads to, if it adds an entry
-abbrev pub told_text : ℕ → Track → List Entry → List ℕ → List ℕ → Option Entry → List ℕ
-told_text number track before line reply added =
-    if has_reply (demand_in track line) then request_text number line ++ (reply ++ change_text track before added) else []
+abbrev pub told_text : ℕ → Beginning → List Entry → List ℕ → List ℕ → Option Entry → List ℕ
+told_text number begin before line reply added =
+    if has_reply (demand_in begin.track line) then request_text number line ++ (reply ++ change_text begin before added) else []
 
 -- lines in order, each behind the entries of those before it
-abbrev pub lines_text : ℕ → Track → List Entry → List (List ℕ) → List ℕ
-lines_text number track before [] = []
-lines_text number track before (line ∷ lines) =
-    told_text number track before line (line_answer track before line).reply (line_answer track before line).added
-    ++ lines_text (number + 1) track (before ++ entries_of (line_answer track before line).added) lines
+abbrev pub lines_text : ℕ → Beginning → List Entry → List (List ℕ) → List ℕ
+lines_text number begin before [] = []
+lines_text number begin before (line ∷ lines) =
+    told_text number begin before line (line_answer begin before line).reply (line_answer begin before line).added
+    ++ lines_text (number + 1) begin (before ++ entries_of (line_answer begin before line).added) lines
 
 -- The track, the scene before the first line of an input, and its lines.
-abbrev pub each_text : Track → List Entry → List ℕ → List ℕ
-each_text track before input = track_lines track ++ (scene_text track before ++ lines_text 1 track before (lines_of input))
+abbrev pub each_text : Beginning → List Entry → List ℕ → List ℕ
+each_text begin before input = track_lines begin.track ++ (scene_text begin before ++ lines_text 1 begin before (lines_of input))
 
 -- ---- all of an input
 
@@ -93,11 +93,11 @@ next_number number = min (number + 1) 0xffff_ffff
 pub record IsTold (before : Telling) (line text : List ℕ) (after : Telling) : Type 0 where
   pub reply : List ℕ
   pub added : Option Entry
-  pub answers : AnswersLine before.history.track before.history.entries line reply added
-  pub track : after.history.track ≡ before.history.track
+  pub answers : AnswersLine (begin_of before.history) before.history.entries line reply added
+  pub begin : begin_of after.history ≡ begin_of before.history
   pub entries : after.history.entries ≡ before.history.entries ++ entries_of added
   pub number : after.number ≡ next_number before.number
-  pub told : text ≡ told_text before.number before.history.track before.history.entries line reply added
+  pub told : text ≡ told_text before.number (begin_of before.history) before.history.entries line reply added
 
 -- So it is unless memory was refused for a scene, or the line is too long.
 abbrev pub TellsLine : Telling → List ℕ → List ℕ → Telling → Type 0

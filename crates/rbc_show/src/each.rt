@@ -2,6 +2,7 @@
 
 ghost use Rattle.std.specs.Prelude.{◌≡◌, ◌↔◌, ℕ, List, ◌++◌, Ok, [], true, false, IsTrue, OnOk, Err, Option};
 ghost use Rattle.std.specs.Io.KnownBytes.{Appends, Consumes, IsAtEnd};
+ghost use Rattle.rbc_kept.specs.Records.{begin_of};
 ghost use Rattle.rbc_model.specs.declared.limits.TheConstants.{LONGEST_LINE};
 ghost use Rattle.rbc_model.specs.declared.sessions.SessionFault.TheVariants.{Read, Write};
 ghost use Rattle.rbc_model.specs.Histories.{Entry};
@@ -19,7 +20,7 @@ use rbc_kept::server::words::{Word, print_line, without_return};
 use rbc_lines::{LinesFault, print_track};
 use rbc_model::limits::LONGEST_LINE;
 use rbc_session_laws::Demand;
-use rbc_sessions::{Centre, Nowhere, Record, demand_in};
+use rbc_sessions::{Centre, NullSink, Record, demand_in};
 use rbc_streams::{Answers, SessionFault, Sink, Source, WriteFailed, converse};
 use rbc_track::Track;
 use std::alloc::Global;
@@ -79,10 +80,10 @@ fn answer_line<W: Sink>(
 ) -> Result<(), LinesFault>
     requires { W.failed writer.old ≡ false }
     ensures answered { (reply : List ℕ) × (added : Option Entry)
-        × AnswersLine history.old.track history.old.entries line.now reply added
-        × (history.new.track ≡ history.old.track) × (history.new.entries ≡ history.old.entries ++ entries_of added)
+        × AnswersLine (begin_of history.old) history.old.entries line.now reply added
+        × (begin_of history.new ≡ begin_of history.old) × (history.new.entries ≡ history.old.entries ++ entries_of added)
         × WritesText (W.written writer.old) (W.written writer.new)
-        (reply ++ change_text history.old.track history.old.entries added) result }
+        (reply ++ change_text (begin_of history.old) history.old.entries added) result }
     ensures memory { result ≡ Err NoMemory → W.failed writer.new ≡ false }
     ensures write { result ≡ Err NoWrite → W.failed writer.new ≡ true }
     ensures going { OnOk result (W.failed writer.new ≡ false) }
@@ -99,7 +100,7 @@ fn answer_line<W: Sink>(
 ///
 /// # Errors
 ///
-/// As above.
+/// `Memory` where it was refused for the scene, `Write` where the writer failed. The line is answered all the same.
 fn tell_line<W: Sink>(
     rt: &(impl Threads + Sync),
     alloc: Global,
@@ -110,10 +111,10 @@ fn tell_line<W: Sink>(
 ) -> Result<(), LinesFault>
     requires { W.failed writer.old ≡ false }
     ensures told { (reply : List ℕ) × (added : Option Entry)
-        × AnswersLine history.old.track history.old.entries line.now reply added
-        × (history.new.track ≡ history.old.track) × (history.new.entries ≡ history.old.entries ++ entries_of added)
+        × AnswersLine (begin_of history.old) history.old.entries line.now reply added
+        × (begin_of history.new ≡ begin_of history.old) × (history.new.entries ≡ history.old.entries ++ entries_of added)
         × WritesText (W.written writer.old) (W.written writer.new)
-        (told_text number history.old.track history.old.entries line.now reply added) result }
+        (told_text number (begin_of history.old) history.old.entries line.now reply added) result }
     ensures memory { result ≡ Err NoMemory → W.failed writer.new ≡ false }
     ensures write { result ≡ Err NoWrite → W.failed writer.new ≡ true }
     ensures going { OnOk result (W.failed writer.new ≡ false) }
@@ -122,7 +123,7 @@ fn tell_line<W: Sink>(
         return Ok(());
     }
     if print_request(number, line, writer).is_err() {
-        let _ = history.answer(rt, alloc, &Centre, line, false, &mut Nowhere);
+        let _ = history.answer(rt, alloc, &Centre, line, false, &mut NullSink);
         return Err(LinesFault::Write);
     }
     answer_line(rt, alloc, history, line, writer)
@@ -186,7 +187,7 @@ impl Answers<()> for Telling {
 ///
 /// # Errors
 ///
-/// `Memory` where it was refused for a scene, and else those of [`converse`].
+/// `Memory` where it was refused for a scene, and else whatever [`converse`] answers.
 fn tell_lines<R: Source, W: Sink>(
     rt: &(impl Threads + Sync),
     alloc: Global,
@@ -217,7 +218,7 @@ fn tell_lines<R: Source, W: Sink>(
 fn begin<W: Sink>(alloc: Global, history: &Record, writer: &mut W) -> Result<(), SessionFault>
     requires { W.failed writer.old ≡ false }
     ensures text { OnOk result (Appends (W.written writer.old) (W.written writer.new)
-        (track_lines history.now.track ++ scene_text history.now.track history.now.entries)) }
+        (track_lines history.now.track ++ scene_text (begin_of history.now) history.now.entries)) }
     ensures going { OnOk result (W.failed writer.new ≡ false) }
     ensures write { result ≡ Err Write → IsTrue (W.failed writer.new) }
     ensures read { result ≡ Err Read → ⊥ }
@@ -257,7 +258,7 @@ pub fn show_each<R: Source, W: Sink>(
     ensures going { OnOk result (W.failed writer.new ≡ false) }
 
     // What was written is the track, the scene before, and what was read, line by line, where memory was never refused.
-    ensures shown { OnOk result (ShowsEach (each_text history.track history.entries) (R.left reader.old)
+    ensures shown { OnOk result (ShowsEach (each_text (begin_of history) history.entries) (R.left reader.old)
         (W.written writer.old) (W.written writer.new)) }
 {
     // The record's track is in form.

@@ -2,6 +2,7 @@
 
 ghost use Rattle.std.specs.Prelude.{◌≡◌, ◌≤◌, ◌↔◌, ℕ, List, Ok, [], true, false, IsTrue, OnOk, Err};
 ghost use Rattle.std.specs.Io.KnownBytes.{Appends, Consumes, IsAtEnd};
+ghost use Rattle.rbc_kept.specs.Records.{begin_of};
 ghost use Rattle.rbc_model.specs.declared.limits.TheConstants.{LONGEST_LINE};
 ghost use Rattle.rbc_model.specs.declared.sessions.SessionFault.TheVariants.{Read, Write};
 ghost use Rattle.rbc_model.specs.Talks.{IsTalk};
@@ -89,7 +90,7 @@ impl Answers<()> for Following {
 ///
 /// # Errors
 ///
-/// `Memory` where it was refused, and else those of [`converse`].
+/// `Memory` where it was refused, and else whatever [`converse`] answers.
 fn follow_lines<R: Source, W: Sink>(
     rt: &(impl Threads + Sync),
     alloc: Global,
@@ -120,7 +121,7 @@ fn follow_lines<R: Source, W: Sink>(
 fn finish<W: Sink>(alloc: Global, history: &Record, writer: &mut W) -> Result<(), SessionFault>
     requires { W.failed writer.old ≡ false }
     ensures text { OnOk result (Appends (W.written writer.old) (W.written writer.new)
-        (scene_text history.now.track history.now.entries)) }
+        (scene_text (begin_of history.now) history.now.entries)) }
     ensures handed_on { OnOk result (W.held_back writer.new ≡ []) }
     ensures going { OnOk result (W.failed writer.new ≡ false) }
     ensures write { result ≡ Err Write → IsTrue (W.failed writer.new) }
@@ -160,7 +161,7 @@ pub fn show<R: Source, W: Sink>(
     ensures going { OnOk result (W.failed writer.new ≡ false) }
 
     // What was written is the track, and the scene that what was read leads to.
-    ensures shown { OnOk result (Shows (shown_text history.track history.entries) (R.left reader.old)
+    ensures shown { OnOk result (Shows (shown_text (begin_of history) history.entries) (R.left reader.old)
         (W.written writer.old) (W.written writer.new)) }
 {
     let mut following = Following {

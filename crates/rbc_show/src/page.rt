@@ -2,6 +2,7 @@
 
 ghost use Rattle.std.specs.Prelude.{◌≡◌, ◌↔◌, ◌⊎◌, ℕ, List, Ok, [], true, false, IsTrue, IfErr, OnOk, Err};
 ghost use Rattle.std.specs.Io.KnownBytes.{Appends, IsAtEnd};
+ghost use Rattle.rbc_kept.specs.Records.{begin_of};
 ghost use Rattle.rbc_model.specs.declared.sessions.SessionFault.TheVariants.{Read, Write};
 ghost use Rattle.rbc_show.specs.Showing.{each_text, shown_text};
 ghost use Rattle.rbc_show.specs.ShownPages.{ShowsPage, ShowsEachPage};
@@ -38,7 +39,7 @@ fn close<W: Sink>(writer: W, shown: Result<(), SessionFault>) -> (W, Result<(), 
 ///
 /// # Errors
 ///
-/// Those of [`show`]. The page is not written to its end then.
+/// Whatever [`show`] answers. The page is not written to its end then.
 pub fn show_page<R: Source, W: Sink>(
     rt: &(impl Threads + Sync),
     alloc: Global,
@@ -59,7 +60,7 @@ pub fn show_page<R: Source, W: Sink>(
     ensures handed_on { OnOk result.1 (W.held_back result.0 ≡ []) }
 
     // What was written is the page of the track, and of the scene that what was read leads to.
-    ensures shown { OnOk result.1 (ShowsPage (shown_text history.track history.entries) (R.left reader.old)
+    ensures shown { OnOk result.1 (ShowsPage (shown_text (begin_of history) history.entries) (R.left reader.old)
         (W.written writer) (W.written result.0)) }
 {
     let mut writer = writer;
@@ -75,7 +76,7 @@ pub fn show_page<R: Source, W: Sink>(
 ///
 /// # Errors
 ///
-/// Those of [`show_each`]. The page is not written to its end then.
+/// Whatever [`show_each`] answers. The page is not written to its end then.
 pub fn show_each_page<R: Source, W: Sink>(
     rt: &(impl Threads + Sync),
     alloc: Global,
@@ -97,7 +98,7 @@ pub fn show_each_page<R: Source, W: Sink>(
 
     // What was written is the page of the track, the scene before, and what was read, line by line, where memory was never
     // refused.
-    ensures shown { OnOk result.1 (ShowsEachPage (each_text history.track history.entries) (R.left reader.old)
+    ensures shown { OnOk result.1 (ShowsEachPage (each_text (begin_of history) history.entries) (R.left reader.old)
         (W.written writer) (W.written result.0)) }
 {
     let mut writer = writer;

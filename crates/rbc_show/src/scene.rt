@@ -1,6 +1,7 @@
 //! The scene that a record leads to.
 
 ghost use Rattle.std.specs.Prelude.{◌≡◌, true, false, OnOk, Err};
+ghost use Rattle.rbc_kept.specs.Records.{begin_of};
 ghost use Rattle.rbc_model.specs.Sessions.{WritesText};
 ghost use Rattle.rbc_lines.specs.declared.scene.LinesFault.TheVariants.{Memory as NoMemory, Write as NoWrite};
 ghost use Rattle.rbc_show.specs.Showing.{scene_text};
@@ -22,7 +23,7 @@ pub(crate) fn print_now<W: Sink>(
 ) -> Result<(), LinesFault>
     requires { W.failed writer.old ≡ false }
     ensures text { WritesText (W.written writer.old) (W.written writer.new)
-        (scene_text history.now.track history.now.entries) result }
+        (scene_text (begin_of history.now) history.now.entries) result }
     ensures memory { result ≡ Err NoMemory → W.failed writer.new ≡ false }
     ensures write { result ≡ Err NoWrite → W.failed writer.new ≡ true }
     ensures going { OnOk result (W.failed writer.new ≡ false) }

@@ -3,8 +3,7 @@ use Rattle.std.proofs.Common.{◌≡◌, ℕ, ◌≤◌, ◌<◌, List, [], ◌�
 use Rattle.std.specs.Prelude.{Bool, true, false, nat_lt, MatchBool}
 use Rattle.std.proofs.lemmas.Bool.Decides.{nat_tests}
 use mathlib.Core.List.{IsPrefix}
-use Rattle.rbc_model.specs.Histories.{IsLegal}
-use Rattle.rbc_record.specs.Records.{HistoryOnTrack}
+use Rattle.rbc_record.specs.Records.{HistoryOnTrack, IsRight}
 use Rattle.rbc_snap.specs.Later.{IsLater}
 use Rattle.rbc_snap.specs.Sights.{last_of, latest, GoOnFrom, AreMoments}
 use Rattle.rbc_logbook_laws.proofs.BeginningLemmas.{prefix_shorter}
@@ -14,21 +13,21 @@ pub last_added : (d : HistoryOnTrack) (xs : List HistoryOnTrack) (h : HistoryOnT
 last_added d [] h = refl
 last_added d (x ∷ xs) h = last_added x xs h
 
-go_on_last : (d : HistoryOnTrack) (xs : List HistoryOnTrack) → IsLegal d.track d.entries → GoOnFrom d xs → IsLater d (last_of d xs)
-go_on_last d [] legal h = later_itself d legal
-go_on_last d (x ∷ xs) legal h = later_still d x (last_of x xs) h.0 (let l = h.0 in go_on_last x xs l.legal h.1)
+go_on_last : (d : HistoryOnTrack) (xs : List HistoryOnTrack) → IsRight d → GoOnFrom d xs → IsLater d (last_of d xs)
+go_on_last d [] right h = later_itself d right
+go_on_last d (x ∷ xs) right h = later_still d x (last_of x xs) h.0 (let l = h.0 in go_on_last x xs l.right h.1)
 
 go_on_more : (d : HistoryOnTrack) (xs : List HistoryOnTrack) (h : HistoryOnTrack) → GoOnFrom d xs → IsLater (last_of d xs) h → GoOnFrom d (xs ++ h ∷ [])
 go_on_more d [] h go next = (next, tt)
 go_on_more d (x ∷ xs) h go next = (go.0, go_on_more x xs h go.1 next)
 
-go_on_seen : (d : HistoryOnTrack) (xs ys : List HistoryOnTrack) → IsLegal d.track d.entries → GoOnFrom d (xs ++ ys) → IsLater (last_of d xs) (last_of d (xs ++ ys))
-go_on_seen d [] ys legal go = go_on_last d ys legal go
-go_on_seen d (x ∷ xs) ys legal go = go_on_seen x xs ys (let l = go.0 in l.legal) go.1
+go_on_seen : (d : HistoryOnTrack) (xs ys : List HistoryOnTrack) → IsRight d → GoOnFrom d (xs ++ ys) → IsLater (last_of d xs) (last_of d (xs ++ ys))
+go_on_seen d [] ys right go = go_on_last d ys right go
+go_on_seen d (x ∷ xs) ys right go = go_on_seen x xs ys (let l = go.0 in l.right) go.1
 
-pub moments_legal : (xs : List HistoryOnTrack) → AreMoments xs → IsLegal (latest xs).track (latest xs).entries
-moments_legal [] m = absurd m
-moments_legal (x ∷ xs) m = let l = go_on_last x xs m.0 m.1 in l.legal
+pub moments_right : (xs : List HistoryOnTrack) → AreMoments xs → IsRight (latest xs)
+moments_right [] m = absurd m
+moments_right (x ∷ xs) m = let l = go_on_last x xs m.0 m.1 in l.right
 
 pub moments_more : (xs : List HistoryOnTrack) (h : HistoryOnTrack) → AreMoments xs → IsLater (latest xs) h → AreMoments (xs ++ h ∷ [])
 moments_more [] h m next = absurd m
@@ -48,7 +47,7 @@ later_of_two xs ys zs m n p q few = by_length (grind arith)
     by_length (inl le) = later_of_prefix xs ys m n (prefix_shorter xs ys zs p q le)
     by_length (inr le) =
         let back = later_of_prefix ys xs n m (prefix_shorter ys xs zs q p le) in
-        subst (λ h. IsLater h (latest ys)) (later_as_long (latest ys) (latest xs) back few) (later_itself (latest ys) (moments_legal ys n))
+        subst (λ h. IsLater h (latest ys)) (later_as_long (latest ys) (latest xs) back few) (later_itself (latest ys) (moments_right ys n))
 
 by_bool : (b : Bool) (X Y : Type 0) → (b ≡ true → X) → (b ≡ false → Y) → MatchBool b X Y
 by_bool true X Y f g = f refl

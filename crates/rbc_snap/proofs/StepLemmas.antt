@@ -52,6 +52,6 @@ merges seat v other w x views h at apart there =
 pub still_shown : {A E : Type 0} (answer : Result A E) (old new issue sight : SeenOf) → MatchResult answer (λ _. new ≡ issue) (λ _. new ≡ old) → issue ≡ sight
     → old.book ≡ sight.book → IsLater old.history sight.history → (new.book ≡ sight.book) × IsLater new.history sight.history
 still_shown (Ok x) old new issue sight h same book later =
-    let now = h ∙ same in (ap (λ (s : SeenOf). s.book) now, subst (λ (s : SeenOf). IsLater s.history sight.history) (sym now) (later_itself sight.history later.legal))
+    let now = h ∙ same in (ap (λ (s : SeenOf). s.book) now, subst (λ (s : SeenOf). IsLater s.history sight.history) (sym now) (later_itself sight.history later.right))
 still_shown (Err x) old new issue sight h same book later =
     (ap (λ (s : SeenOf). s.book) h ∙ book, subst (λ (s : SeenOf). IsLater s.history sight.history) (sym h) later)

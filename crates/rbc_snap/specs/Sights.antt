@@ -1,8 +1,7 @@
 -- What is seen of a history that grows.
 use Rattle.std.specs.Prelude.{List, [], ◌∷◌}
 use Rattle.logbook.specs.Pages.{Book}
-use Rattle.rbc_model.specs.Histories.{IsLegal}
-use Rattle.rbc_record.specs.Records.{HistoryOnTrack}
+use Rattle.rbc_record.specs.Records.{HistoryOnTrack, IsRight}
 use Rattle.rbc_snap.specs.Later.{IsLater, nothing_entered}
 
 -- the last of these moments
@@ -18,10 +17,10 @@ abbrev pub GoOnFrom : HistoryOnTrack → List HistoryOnTrack → Type 0
 GoOnFrom first [] = Unit {0}
 GoOnFrom first (next ∷ more) = IsLater first next × GoOnFrom next more
 
--- these are moments of one legal history, each later than the one before
+-- these are moments of one right history, each later than the one before
 abbrev pub AreMoments : List HistoryOnTrack → Type 0
 AreMoments [] = ⊥
-AreMoments (first ∷ more) = IsLegal first.track first.entries × GoOnFrom first more
+AreMoments (first ∷ more) = IsRight first × GoOnFrom first more
 
 -- which history it is, and what was seen of it
 pub record SeenOf : Type 0 where

@@ -3,7 +3,7 @@
 ghost use Rattle.std.specs.Prelude.{◌≡◌, ◌≤◌, length, Ok, IfErr, IfOk};
 ghost use Rattle.std.specs.Arc.{arc_value};
 ghost use Rattle.left_right.specs.Sides.{view as known_to};
-ghost use Rattle.rbc_model.specs.Histories.{IsLegal};
+ghost use Rattle.rbc_record.specs.Records.{IsRight};
 ghost use Rattle.rbc_snap.specs.Ends.{watching};
 ghost use Rattle.rbc_snap.specs.Knowing.{knower, knower_of};
 ghost use Rattle.rbc_snap.specs.Later.{IsLater, scene_of};
@@ -283,9 +283,9 @@ impl<J: HistoryName> Eye<J> {
         self.told.again()
     }
 
-    /// What its seat was told is a legal history. This does nothing.
+    /// What its seat was told is a right history. This does nothing.
     pub fn known(&self)
-        ensures { IsLegal self.now.told.track self.now.told.entries }
+        ensures { IsRight self.now.told }
     {
         self.told.known();
     }

@@ -21,8 +21,8 @@ pub use press::Press;
 pub use published::{Issue, Published};
 pub use rbc_model::{Memory, OrMemory, ViewFault};
 pub use rbc_record::{
-    ApplyFault, Candidate, CommitFault, Entry, Grant, Receipt, Record, Scene, Train, View,
-    candidate,
+    ApplyFault, Candidate, CommitFault, Entry, EntryLimit, Grant, Receipt, Record, Scene, Train,
+    View, candidate,
 };
 pub use rule::{Known, Names, OneHistory, Sees};
 pub use sight::Sight;

@@ -161,7 +161,7 @@ impl<J: HistoryName> Press<J> {
         ensures eyes { IfOk result (λ made. made.1.items ≡ replicate readers (watching log.now (length log.now.entries))) }
     {
         let (head, sight) = journal.begin(rt, log);
-        log.known();
+        log.right();
         let mut eyes = Vec::with_capacity(alloc, readers)?;
         let (first, second) = copies(alloc, &sight, log)?;
         let (mut writer, is_shown) = turn(rt, Writer::new(alloc, first, second, readers)?);
@@ -197,10 +197,12 @@ impl<J: HistoryName> Press<J> {
     /// Goes on to the record, and tells its history from now on. Readers see what they saw, until its scene is shown.
     pub fn follow<R: Wait>(&mut self, rt: &R, log: &Record)
         requires track { log.now.track ≡ self.old.told.track }
+        requires begin { log.now.begin ≡ self.old.told.begin }
+        requires most { log.now.most ≡ self.old.told.most }
         requires opening { take (length self.old.told.entries) log.now.entries ≡ self.old.told.entries }
         ensures { self.new ≡ pressed log.now self.old.published }
     {
-        log.known();
+        log.right();
         advance(rt, &self.head, &mut self.sight, log);
     }
 

@@ -1,7 +1,7 @@
 //! What was seen of a history.
 
 ghost use Rattle.std.specs.Prelude.{◌≡◌, ◌<◌, ◌∷◌, [], length, MatchBool};
-ghost use Rattle.rbc_model.specs.Histories.{IsLegal};
+ghost use Rattle.rbc_record.specs.Records.{IsRight};
 ghost use Rattle.rbc_logbook_laws.specs.Counts.{head_of};
 ghost use Rattle.rbc_snap.specs.Later.{IsLater};
 ghost use Rattle.rbc_snap.specs.Sights.{seen_of};
@@ -35,7 +35,7 @@ impl Sight {
         requires { seen.log ≡ log.now ∷ [] }
         ensures { result ≡ seen_of seen.book log.now }
     {
-        log.known();
+        log.right();
         Sight {
             count: 1,
             version: log.version(),
@@ -43,7 +43,7 @@ impl Sight {
         }
     }
 
-    /// The same once more.
+    /// A copy of this moment.
     pub fn again(&self) -> Sight
         ensures { result ≡ self.now }
     {
@@ -54,9 +54,9 @@ impl Sight {
         }
     }
 
-    /// Its history is legal. This does nothing.
+    /// Its history is a right one. This does nothing.
     pub fn known(&self)
-        ensures { IsLegal self.now.history.track self.now.history.entries }
+        ensures { IsRight self.now.history }
     {
         let _ = &self.version;
     }

@@ -38,7 +38,7 @@ receipts_gained Memory old new ok err = err ∙ sym (append-nil old)
 -- ---- what is told
 
 pub begins_itself : (h : HistoryOnTrack) → Begins h h
-begins_itself h = record { track = refl; opening = take_all (length h.entries) h.entries (omega arith) }
+begins_itself h = record { track = refl; begin = refl; most = refl; opening = take_all (length h.entries) h.entries (omega arith) }
 
 begins_length : (a b : HistoryOnTrack) → Begins a b → length a.entries ≤ length b.entries
 begins_length a b h =
@@ -47,16 +47,18 @@ begins_length a b h =
 pub begins_still : (a b c : HistoryOnTrack) → Begins a b → Begins b c → Begins a c
 begins_still a b c ab bc = record {
   track = bc.track ∙ ab.track;
+  begin = bc.begin ∙ ab.begin;
+  most = bc.most ∙ ab.most;
   opening = sym (take-take (length a.entries) (length b.entries) c.entries (begins_length a b ab)) ∙ ap (take (length a.entries)) bc.opening ∙ ab.opening;
 }
 
 pub begins_later : (a b : HistoryOnTrack) → IsLater a b → Begins a b
-begins_later a b h = record { track = h.track; opening = h.opening }
+begins_later a b h = record { track = h.track; begin = h.begin; most = h.most; opening = h.opening }
 
 later_after : (a b c : HistoryOnTrack) → Begins a b → IsLater b c → IsLater a c
 later_after a b c ab bc =
     let all = begins_still a b c ab (begins_later b c bc) in
-    record { track = all.track; legal = bc.legal; opening = all.opening }
+    record { track = all.track; begin = all.begin; most = all.most; right = bc.right; opening = all.opening }
 
 pub told_asked : (had has : Seated) (train : ℕ) (answer : Answer) (desk : Asked) → asked answer ≡ desk → IsAnsweredThen had.told has.told train desk
     → IsTold had has (record { train = train; answer = answer })

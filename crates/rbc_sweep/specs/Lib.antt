@@ -10,6 +10,7 @@ pub use Rattle.rbc_desk.specs.Entering
 pub use Rattle.rbc_desk.specs.Entries
 pub use Rattle.rbc_desk.specs.Forms
 pub use Rattle.rbc_desk.specs.Later
+pub use Rattle.rbc_desk.specs.Looking
 pub use Rattle.rbc_desk.specs.Records
 pub use Rattle.rbc_desk.specs.SameViews
 pub use Rattle.rbc_desk.specs.Seats

@@ -39,9 +39,11 @@ receipts_of Memory = []
 abbrev pub granted : List Outcome → List Receipt
 granted outcomes = flat_map (λ outcome. receipts_of outcome.answer) outcomes
 
--- the history begins with all that was told: it is on the same track, and its first entries are those
+-- the history goes on from all that was told: it is on the same track, begins with the same scene, may have as many entries, and its first entries are those
 pub record Begins (told history : HistoryOnTrack) : Type 0 where
   pub track : history.track ≡ told.track
+  pub begin : history.begin ≡ told.begin
+  pub most : history.most ≡ told.most
   pub opening : take (length told.entries) history.entries ≡ told.entries
 
 -- the receipts that a seat had are the first of those that it has, and so is what it was told

@@ -101,7 +101,7 @@ impl<'a, L: DeskName + Send + Sync, R: Threads + Wait + Sync, G: Gate + Sync> Po
         );
     }
 
-    /// The same for workers that are owned.
+    /// Lets each of these workers, which are owned, serve, in a thread of its own where one can be started.
     fn serve_all(&self, queue: &Queue, mut workers: Vec<Worker<L>>) -> Vec<Worker<L>>
         requires { All (λ w. IsPassOf queue.now w.pass × (tally_of w.pass ≡ tally 1 [] []) × (w.done.items ≡ []))
             workers.items }

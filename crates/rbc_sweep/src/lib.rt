@@ -12,9 +12,9 @@ mod worker;
 
 pub use outcome::{Answer, Outcome};
 pub use rbc_desk::{
-    ApplyFault, AskFault, Blank, Candidate, CloseFault, CommitFault, Desk, DeskName, Entry, Gate,
-    Granted, Hold, OpenGate, Receipt, Record, Scene, Seat, Sight, State, Track, Train, View,
-    candidate,
+    ApplyFault, AskFault, Blank, Candidate, CloseFault, CommitFault, Desk, DeskName, Entry,
+    EntryLimit, Gate, Granted, Hold, Onlooker, OpenGate, Receipt, Record, Scene, Seat, Sight,
+    State, Track, Train, View, candidate,
 };
 pub use rbc_model::Memory;
 pub use sweeping::sweep;

@@ -16,7 +16,7 @@ pub enum Answer {
     Blocked(Obstacle, i64, u64),
     /// It had left.
     Gone,
-    /// The record has 100,000 entries.
+    /// The record has as many entries as it may have.
     Full,
     /// The allocator refused memory.
     Memory,

@@ -1,6 +1,6 @@
-mod RowReadLemmas
-mod SceneReadLemmas
-mod TrainReadLemmas
-mod NextRowLemmas
-mod ReadBackLemmas
-mod TellableLemmas
+pub mod RowReadLemmas
+pub mod SceneReadLemmas
+pub mod TrainReadLemmas
+pub mod NextRowLemmas
+pub mod ReadBackLemmas
+pub mod TellableLemmas

@@ -42,10 +42,10 @@ module _ (track : Track) (sound : IsSound track) (names : HasNames track) where
 
   -- ---- legs
 
-  section_is_named : (section : ℕ) → section < length track.sections → is_name (section_word track section) ≡ true
+  pub section_is_named : (section : ℕ) → section < length track.sections → is_name (section_word track section) ≡ true
   section_is_named section inside = named_in (λ (s : Section). s.name) track.sections section (recursion_from_All (λ (s : Section). is_name s.name ≡ true) track.sections names.sections) inside
 
-  route_is_named : (route : ℕ) → route < length track.routes → is_name (route_word track route) ≡ true
+  pub route_is_named : (route : ℕ) → route < length track.routes → is_name (route_word track route) ≡ true
   route_is_named route inside = named_in (λ (r : Route). r.name) track.routes route (recursion_from_All (λ (r : Route). is_name r.name ≡ true) track.routes names.routes) inside
 
   pub leg_word-is_word : (leg : Leg) → IsOfTrack leg → IsWord (leg_word track leg)
@@ -59,17 +59,17 @@ module _ (track : Track) (sound : IsSound track) (names : HasNames track) where
       let found : Option ℕ → Result Leg LineFault = λ o. ok_or o (Name i) >>= (λ section. Ok (record { section = section; direction = leg.direction })) in
       ap found (named_again (λ (s : Section). s.name) track.sections leg.section sound.section_names (section_is_named leg.section inside))
 
-  leg_back : (i : ℕ) (leg : Leg) → IsOfTrack leg → track_leg_at track i (leg_word track leg) ≡ Ok leg
+  pub leg_back : (i : ℕ) (leg : Leg) → IsOfTrack leg → track_leg_at track i (leg_word track leg) ≡ Ok leg
   leg_back i leg inside =
       ap (λ read. read >>= known_leg track i) (leg_at-read i (named_leg track leg) (section_is_named leg.section inside)) ∙ known_back i leg inside
 
-  leg_or_none_back : (i : ℕ) (leg : Option Leg) → IfSome leg IsOfTrack → track_leg_or_none_at track i (leg_or_none (option_map (named_leg track) leg)) ≡ Ok leg
+  pub leg_or_none_back : (i : ℕ) (leg : Option Leg) → IfSome leg IsOfTrack → track_leg_or_none_at track i (leg_or_none (option_map (named_leg track) leg)) ≡ Ok leg
   leg_or_none_back i None inside = refl
   leg_or_none_back i (Some leg) inside =
       let more : Result Leg LineFault → Result (Option Leg) LineFault = λ read. read >>= (λ l. Ok (Some l)) in
       ap (λ read. read >>= known_leg_or_none track i) (leg_or_none-read i (Some (named_leg track leg)) (section_is_named leg.section inside)) ∙ ap more (known_back i leg inside)
 
-  leg_or_none-word : (leg : Option Leg) → IfSome leg IsOfTrack → IsWord (leg_or_none (option_map (named_leg track) leg))
+  pub leg_or_none-word : (leg : Option Leg) → IfSome leg IsOfTrack → IsWord (leg_or_none (option_map (named_leg track) leg))
   leg_or_none-word None inside = leg_or_none-is_word None tt
   leg_or_none-word (Some leg) inside = leg_or_none-is_word (Some (named_leg track leg)) (section_is_named leg.section inside)
 

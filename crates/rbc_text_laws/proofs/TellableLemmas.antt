@@ -4,7 +4,7 @@ use Rattle.std.specs.Prelude.{◌==◌, fold, slice_get, is_some, nat_lt, option
 use Rattle.std.specs.List.{AllByRecursion}
 use Rattle.std.specs.Option.{option_map_or}
 use Rattle.std.specs.Result.{result_unwrap_or}
-use Rattle.std.proofs.lemmas.List.Elements.{All-from_recursion, recursion_from_All}
+use Rattle.std.proofs.lemmas.List.Elements.{All-nil, All-from_recursion, recursion_from_All}
 use Rattle.std.proofs.lemmas.Option.{slice_get_within}
 use Rattle.rbc_model.specs.declared.refusals.Refusal.{Refusal}
 use Rattle.rbc_model.specs.declared.refusals.Refusal.TheVariants.{Clash, LinkTaken, UnknownTrain}
@@ -20,11 +20,11 @@ use Rattle.rbc_model.specs.Trains.{Train}
 use Rattle.rbc_model.specs.Scenes.{Scene, empty_scene, train_numbered}
 use Rattle.rbc_model.specs.Placing.{Placed, through, train_with, train_after, renumbered, old_origin}
 use Rattle.rbc_model.specs.Events.{after_grant, cut_at, step, with_authority, with_train, without_train}
-use Rattle.rbc_model.specs.Histories.{Entry, Heard, Granted, event_of, replay, scene_after}
+use Rattle.rbc_model.specs.Histories.{Beginning, Entry, Heard, Granted, event_of, replay, scene_after}
 use Rattle.rbc_model.specs.SceneLines.{distance_word, end_word, train_line, IsTellable}
 use Rattle.rbc_model.specs.SessionReply.{obstacle_words}
 use Rattle.rbc_model.specs.Views.{greatest_end, reach, shown_up_to, stop}
-use Rattle.rbc_text_laws.specs.ToldScenes.{next_shown, IsReportIfTold, NextIsWhatIsShown, ScenesOfHistoriesAreReadBack}
+use Rattle.rbc_text_laws.specs.ToldScenes.{EmptyScenesAreTellable, next_shown, IsReportIfTold, NextIsWhatIsShown, ScenesOfHistoriesAreReadBack}
 use Rattle.rbc_scene_laws.proofs.BasicLemmas.{each_filter}
 use Rattle.rbc_scene_laws.proofs.FreeingLemmas.{is_freed, row-set_none}
 use Rattle.rbc_scene_laws.proofs.GivingBackLemmas.{given_back}
@@ -73,21 +73,21 @@ cut_report track train to =
 
 -- ---- locks
 
-module _ (track : Track) where
+module _ (begin : Beginning) where
   abbrev RoutesAreOfTrack : Locks → Type 0
-  RoutesAreOfTrack locks = (section : ℕ) (lock : Lock) → row locks section ≡ Some lock → lock.route < length track.routes
+  RoutesAreOfTrack locks = (section : ℕ) (lock : Lock) → row locks section ≡ Some lock → lock.route < length begin.track.routes
 
-  rows_of_route : (number : ℕ) → number < length track.routes → (needs : List Need) (locks : Locks) → RoutesAreOfTrack locks → RoutesAreOfTrack (fold (with_row number) locks needs)
+  rows_of_route : (number : ℕ) → number < length begin.track.routes → (needs : List Need) (locks : Locks) → RoutesAreOfTrack locks → RoutesAreOfTrack (fold (with_row number) locks needs)
   rows_of_route number inside [] locks of = of
   rows_of_route number inside (need ∷ needs) locks of =
       rows_of_route number inside needs (with_row number locks need)
       (λ section lock there.
       elim (row-set_cases locks need.0.section section (Some (the_lock number need)) lock there) [
-        | inl e ↦ subst (λ (l : Lock). l.route < length track.routes) (let same : the_lock number need ≡ lock = cc e.1 in same) inside
+        | inl e ↦ subst (λ (l : Lock). l.route < length begin.track.routes) (let same : the_lock number need ≡ lock = cc e.1 in same) inside
         | inr e ↦ of section lock e.1
       ])
 
-  rows_locked : (number : ℕ) (locks after : Locks) (o : Option Route) → slice_get track.routes number ≡ o → RoutesAreOfTrack locks
+  rows_locked : (number : ℕ) (locks after : Locks) (o : Option Route) → slice_get begin.track.routes number ≡ o → RoutesAreOfTrack locks
       → option_map_or (λ (route : Route). unless (option_map Clash (clash locks route)) (unless (option_map LinkTaken (taken_link locks route)) (Ok (fold (with_row number) locks (needed_rows route))))) o (Ok locks) ≡ Ok after
       → RoutesAreOfTrack after
   rows_locked number locks after None e of h = subst RoutesAreOfTrack (the_ok {E = Refusal} locks after h) of
@@ -95,7 +95,7 @@ module _ (track : Track) where
       let one = unless_none Clash (clash locks route) (unless (option_map LinkTaken (taken_link locks route)) (Ok (fold (with_row number) locks (needed_rows route)))) after h in
       let two = unless_none LinkTaken (taken_link locks route) (Ok (fold (with_row number) locks (needed_rows route))) after one.1 in
       subst RoutesAreOfTrack (the_ok {E = Refusal} (fold (with_row number) locks (needed_rows route)) after two.1)
-      (rows_of_route number (slice_get_within track.routes number route e) (needed_rows route) locks of)
+      (rows_of_route number (slice_get_within begin.track.routes number route e) (needed_rows route) locks of)
 
   -- ---- events
 
@@ -113,56 +113,62 @@ module _ (track : Track) where
   replaced : (scene after : Scene) (train : Train) → with_train scene train ≡ after → CanBeTold scene → IsReport train.report → CanBeTold after
   replaced scene after train is can report = subst CanBeTold is (record { routes = can.routes; reports = each_with_train HasReport scene train can.reports report })
 
-  after_told : (scene after : Scene) (told : Told) → IsReportIfTold (Heard told) → step track scene (Tell told) ≡ Ok after → CanBeTold scene → CanBeTold after
+  after_told : (scene after : Scene) (told : Told) → IsReportIfTold (Heard told) → step begin.track scene (Tell told) ≡ Ok after → CanBeTold scene → CanBeTold after
   after_told scene after (ToldReport report) is h can =
       let known = train_numbered scene report.train in
-      let r = is_reported track scene after report h in
-      replaced scene after (train_after track scene.locks known report r.placed) r.is can (subst IsReport (sym (last_report track report r.placed known scene.locks)) is)
+      let r = is_reported begin.track scene after report h in
+      replaced scene after (train_after begin.track scene.locks known report r.placed) r.is can (subst IsReport (sym (last_report begin.track report r.placed known scene.locks)) is)
   after_told scene after (ToldLock route) is h can =
-      let m = mapped scene after (locked track scene.locks route) h in
-      subst CanBeTold m.2 (record { routes = rows_locked route scene.locks m.0 (slice_get track.routes route) refl can.routes m.1; reports = can.reports })
+      let m = mapped scene after (locked begin.track scene.locks route) h in
+      subst CanBeTold m.2 (record { routes = rows_locked route scene.locks m.0 (slice_get begin.track.routes route) refl can.routes m.1; reports = can.reports })
   after_told scene after (ToldFree section) is h can =
-      let f = is_freed track scene section after h in
+      let f = is_freed begin.track scene section after h in
       subst CanBeTold f.is (record { routes = λ s lock there. can.routes s lock (row-set_none scene.locks section s lock there); reports = can.reports })
   after_told scene after (ToldLeave train) is h can =
       subst CanBeTold (only_ok (is_some (train_numbered scene train)) (without_train scene train) after (UnknownTrain train) h)
       (record { routes = can.routes; reports = each_filter HasReport (λ (t : Train). not (t.report.train == train)) scene.trains can.reports })
   after_told scene after (ToldGiveBack train distance) is h can =
-      let g = given_back track scene after train distance (train_numbered scene train) refl h in
-      replaced scene after (cut_at track g.train (g.train.origin + distance)) g.is can (subst IsReport (sym (cut_report track g.train (g.train.origin + distance))) (train_there scene train g.train g.there can))
+      let g = given_back begin.track scene after train distance (train_numbered scene train) refl h in
+      replaced scene after (cut_at begin.track g.train (g.train.origin + distance)) g.is can (subst IsReport (sym (cut_report begin.track g.train (g.train.origin + distance))) (train_there scene train g.train g.there can))
 
-  after_granted : (scene after : Scene) (train distance : ℕ) → after_grant track scene train distance ≡ Ok after → CanBeTold scene → CanBeTold after
+  after_granted : (scene after : Scene) (train distance : ℕ) → after_grant begin.track scene train distance ≡ Ok after → CanBeTold scene → CanBeTold after
   after_granted scene after train distance h can =
-      let g = granted_to track scene after train distance (train_numbered scene train) refl h in
+      let g = granted_to begin.track scene after train distance (train_numbered scene train) refl h in
       replaced scene after _ g.is can (train_there scene train g.train g.there can)
 
   -- ---- histories
 
-  after_entry : (scene : Scene) (entry : Entry) → IsReportIfTold entry → CanBeTold scene → CanBeTold (scene_after track scene entry)
-  after_entry scene (Heard told) is can = by_step (step track scene (event_of (Heard told))) refl
+  after_entry : (scene : Scene) (entry : Entry) → IsReportIfTold entry → CanBeTold scene → CanBeTold (scene_after begin.track scene entry)
+  after_entry scene (Heard told) is can = by_step (step begin.track scene (event_of (Heard told))) refl
     where
-      by_step : (r : Result Scene Refusal) → step track scene (event_of (Heard told)) ≡ r → CanBeTold (result_unwrap_or r scene)
+      by_step : (r : Result Scene Refusal) → step begin.track scene (event_of (Heard told)) ≡ r → CanBeTold (result_unwrap_or r scene)
       by_step (Ok after) e = after_told scene after told is e can
       by_step (Err refusal) e = can
-  after_entry scene (Granted grant) is can = by_step (step track scene (event_of (Granted grant))) refl
+  after_entry scene (Granted grant) is can = by_step (step begin.track scene (event_of (Granted grant))) refl
     where
-      by_step : (r : Result Scene Refusal) → step track scene (event_of (Granted grant)) ≡ r → CanBeTold (result_unwrap_or r scene)
+      by_step : (r : Result Scene Refusal) → step begin.track scene (event_of (Granted grant)) ≡ r → CanBeTold (result_unwrap_or r scene)
       by_step (Ok after) e = after_granted scene after grant.train grant.authority.end e can
       by_step (Err refusal) e = can
 
-  after_entries : (entries : List Entry) (scene : Scene) → AllByRecursion IsReportIfTold entries → CanBeTold scene → CanBeTold (fold (scene_after track) scene entries)
+  after_entries : (entries : List Entry) (scene : Scene) → AllByRecursion IsReportIfTold entries → CanBeTold scene → CanBeTold (fold (scene_after begin.track) scene entries)
   after_entries [] scene are can = can
-  after_entries (entry ∷ entries) scene are can = after_entries entries (scene_after track scene entry) are.1 (after_entry scene entry are.0 can)
+  after_entries (entry ∷ entries) scene are can = after_entries entries (scene_after begin.track scene entry) are.1 (after_entry scene entry are.0 can)
 
-  tellable_replay : (entries : List Entry) → AllByRecursion IsReportIfTold entries → IsTellable track (replay track entries)
-  tellable_replay entries are =
-      let can = after_entries entries (empty_scene track) are (record { routes = λ section lock there. absurd (no_row track.sections section lock there); reports = tt }) in
-      record { routes = can.routes; reports = All-from_recursion HasReport (replay track entries).trains can.reports }
+  tellable_replay : (entries : List Entry) → IsTellable begin.track begin.scene → AllByRecursion IsReportIfTold entries → IsTellable begin.track (replay begin entries)
+  tellable_replay entries told are =
+      let can = after_entries entries begin.scene are (record { routes = told.routes; reports = recursion_from_All HasReport begin.scene.trains told.reports }) in
+      record { routes = can.routes; reports = All-from_recursion HasReport (replay begin entries).trains can.reports }
 
 pub scenes_of_histories_are_read_back : ScenesOfHistoriesAreReadBack
-scenes_of_histories_are_read_back track version entries form sound names are small =
-    scene_lines_are_read_back track version (replay track entries) form sound names (good_replay track entries sound)
-    (tellable_replay track entries (recursion_from_All IsReportIfTold entries are)) small
+scenes_of_histories_are_read_back begin version entries form sound names good told are small =
+    scene_lines_are_read_back begin.track version (replay begin entries) form sound names (good_replay begin entries sound good)
+    (tellable_replay begin entries told (recursion_from_All IsReportIfTold entries are)) small
+
+pub empty_scenes_are_tellable : EmptyScenesAreTellable
+empty_scenes_are_tellable track = record {
+  routes = λ section lock there. absurd (no_row track.sections section lock there);
+  reports = All-nil (λ (train : Train). IsReport train.report);
+}
 
 -- ---- what would be granted next
 

@@ -76,13 +76,13 @@ said_report : (r : Report) (x : Result Report LineFault) → line_in SaidReport 
 said_report r (Ok y) e = cc
 said_report r (Err fault) e = absurd (let never : ⊥ = cc in never)
 
-report_back : (r : Report) → IsReport r → report_in (report_words r) ≡ Ok r
+pub report_back : (r : Report) → IsReport r → report_in (report_words r) ≡ Ok r
 report_back r is =
     let found = request_words-joined (codes "report") (report_words r) (said_are_words (SaidReport r) is) refl (lit≤ tt) in
     said_report r (report_in (report_words r))
     (sym (ap (λ words. words >>= (λ found. option_map_or words_line found (Ok Blank))) found) ∙ said_line_read (SaidReport r) is)
 
-said_are_row : (r : Report) → IsReport r → AllByRecursion IsWord (codes "train" ∷ report_words r)
+pub said_are_row : (r : Report) → IsReport r → AllByRecursion IsWord (codes "train" ∷ report_words r)
 said_are_row r is = (record { some = lit< tt; short = lit≤ tt; visible = refl }, (said_are_words (SaidReport r) is).1)
 
 -- ---- what is told of the last train

@@ -8,12 +8,12 @@ use Rattle.rbc_model.specs.Reports.{IsReport}
 use Rattle.rbc_model.specs.SoundTracks.{IsInForm, IsSound}
 use Rattle.rbc_model.specs.Tracks.{Track}
 use Rattle.rbc_model.specs.TrackLines.{HasNames}
-use Rattle.rbc_model.specs.Scenes.{Scene}
+use Rattle.rbc_model.specs.Scenes.{Scene, empty_scene}
 use Rattle.rbc_model.specs.Trains.{Train}
 use Rattle.rbc_model.specs.Rows.{Row}
 use Rattle.rbc_model.specs.SessionReply.{obstacle_words}
 use Rattle.rbc_model.specs.Views.{View, view_of}
-use Rattle.rbc_model.specs.Histories.{Entry, Heard, replay}
+use Rattle.rbc_model.specs.Histories.{Beginning, Entry, Heard, replay}
 use Rattle.rbc_model.specs.SceneLines.{distance_word, next_line, read_scene_lines, scene_lines, train_line, IsTellable}
 use Rattle.rbc_scene_laws.specs.Good.{IsGoodScene}
 
@@ -28,10 +28,14 @@ abbrev pub IsReportIfTold : Entry → Type 0
 IsReportIfTold (Heard (ToldReport report)) = IsReport report
 IsReportIfTold _ = Unit {0}
 
--- so it is with the scene of any history of such entries
+-- so it is with the scene of any history of such entries, where it begins with a good scene that lines can tell
 abbrev pub ScenesOfHistoriesAreReadBack : Type 0
-ScenesOfHistoriesAreReadBack = (track : Track) (version : ℕ) (entries : List Entry) → IsInForm track → IsSound track → HasNames track → All IsReportIfTold entries
-    → version < 10 ^ 10 → read_scene_lines track (scene_lines track version (replay track entries)) ≡ Some (version, replay track entries)
+ScenesOfHistoriesAreReadBack = (begin : Beginning) (version : ℕ) (entries : List Entry) → IsInForm begin.track → IsSound begin.track → HasNames begin.track → IsGoodScene begin.track begin.scene → IsTellable begin.track begin.scene
+    → All IsReportIfTold entries → version < 10 ^ 10 → read_scene_lines begin.track (scene_lines begin.track version (replay begin entries)) ≡ Some (version, replay begin entries)
+
+-- lines can tell the empty scene
+abbrev pub EmptyScenesAreTellable : Type 0
+EmptyScenesAreTellable = (track : Track) → IsTellable track (empty_scene track)
 
 -- The `next` line of a train, by what it is shown if it asks: of a view the end and the obstacle, which `granted` tells, and the reach; or what stands
 -- in its way, and where, which `blocked` tells.

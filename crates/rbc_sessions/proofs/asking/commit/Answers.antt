@@ -17,7 +17,7 @@ pub returns-in-Ok-clause-whole : goal.returns-in-Ok-clause-whole
 returns-in-Ok-clause-whole c =
     let sound = subst IsSound (c.deref.ensures ∙ c.track.ensures) c.known.ensures.sound in
     told_whole c.args.history.now.track c.args.candidate.now (c.place.result + 1) c.told_of.result c.told_of.ensures.told c.told_of.ensures.best c.told_of.ensures.chosen
-    (shown_named c.args.history.now c.args.candidate.now.view.train c.args.candidate.now.view sound c.requires)
+    (shown_named c.args.history.now c.args.candidate.now.view.train c.args.candidate.now.view c.right.ensures sound c.requires)
 
 pub returns-in-Err-Refused-Full-clause-comes : goal.returns-in-Err-Refused-Full-clause-comes
 returns-in-Err-Refused-Full-clause-comes c =

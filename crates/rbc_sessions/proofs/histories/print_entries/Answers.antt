@@ -7,7 +7,7 @@ use Rattle.rbc_sessions.proofs.histories.print_entries.Goals as goal
 pub print_entry-requires-clause-of_track : goal.print_entry-requires-clause-of_track
 print_entry-requires-clause-of_track g c =
     let item = c.entry-item in
-    entry-of_track entry_of c.args.track.now c.args.entries.now c.loop-entry.entry-index item.result c.loop-entry-test.true item.is c.requires.retold
+    entry-of_track entry_of c.args.track.now c.args.entries.now c.loop-entry.entry-index item.result c.loop-entry-test.true item.is c.requires.of_track
 
 pub returns-in_err-print_entry : goal.returns-in_err-print_entry
 returns-in_err-print_entry g c =

@@ -36,4 +36,4 @@ pub returns-clause-answers : goal.returns-clause-answers
 returns-clause-answers g c = λ input session.
     let later = c.known-2.ensures in
     turns_are_answers c.args.sitting.seat.told _ session.turns
-    (subst IsInForm (c.args.counter.now.of_desk ∙ sym later.track) c.known.ensures.form) session.each
+    (subst IsInForm (c.args.context.now.of_desk ∙ sym later.track) c.known.ensures.form) session.each

@@ -1,8 +1,17 @@
-use Rattle.std.proofs.Common.{subst, ◌∙◌}
+use Rattle.std.proofs.Common.{length, subst, ◌∙◌, arith}
 use Rattle.rbc_model.specs.SoundTracks.{IsSound}
 use Rattle.rbc_sweep.specs.Entering.{refused_at_once}
-use Rattle.rbc_sessions.proofs.TellingLemmas.{told_comes, memory_needed, not_told_comes, not_told_named}
+use Rattle.rbc_sessions.proofs.SeatLemmas.{below_most}
+use Rattle.rbc_sessions.proofs.TellingLemmas.{entered_free, told_comes, memory_needed, not_told_comes, not_told_named}
 use Rattle.rbc_sessions.proofs.telling.tell.Goals as goal
+
+pub overflow_add-result : goal.overflow_add-result
+overflow_add-result c =
+    let now = c.args.history.now in
+    let entered = c.in-Ok.ensures.entered in
+    let right = c.right.ensures in
+    let below = below_most now.most (length now.entries) right.bounded (entered_free now c.args.told.now c.in-Ok.receipt.entry entered.0) in
+    omega (arith, c.place.ensures, entered.1, below)
 
 pub returns-in-Ok-clause-comes : goal.returns-in-Ok-clause-comes
 returns-in-Ok-clause-comes c =

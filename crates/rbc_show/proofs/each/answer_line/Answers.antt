@@ -2,7 +2,7 @@ use Rattle.std.proofs.Common.{◌++◌, ap, arith, sym, subst, append-nil}
 use Rattle.std.specs.Io.KnownBytes.{Appends}
 use Rattle.std.proofs.KnownBytes.{Appends-trans}
 use Rattle.rbc_model.specs.Sessions.{WritesPart}
-use Rattle.rbc_kept.specs.Records.{HistoryOnTrack}
+use Rattle.rbc_kept.specs.Records.{begin_of, HistoryOnTrack}
 use Rattle.rbc_show.specs.Showing.{change_text, scene_text}
 use Rattle.rbc_show.proofs.WritingLemmas.{grown, part_behind, part_more, stopped, unchanged}
 use Rattle.rbc_show.proofs.each.answer_line.Goals as goal
@@ -16,9 +16,9 @@ returns-in_err-answer-clause-answered g c =
       r.0,
       r.1.0,
       r.1.1,
-      ap (λ (h : HistoryOnTrack). h.track) r.1.2,
+      ap begin_of r.1.2,
       ap (λ (h : HistoryOnTrack). h.entries) r.1.2,
-      stopped old said (r.0 ++ change_text before.track before.entries r.1.0) c.from_residual.result (part_more old said r.0 (change_text before.track before.entries r.1.0) r.2.text) c.from_residual.ensures.0,
+      stopped old said (r.0 ++ change_text (begin_of before) before.entries r.1.0) c.from_residual.result (part_more old said r.0 (change_text (begin_of before) before.entries r.1.0) r.2.text) c.from_residual.ensures.0,
     )
 
 pub returns-in_err-print_now-clause-answered : goal.returns-in_err-print_now-clause-answered
@@ -29,16 +29,16 @@ returns-in_err-print_now-clause-answered g c =
     let shown = g.W.Sink.written c.print_now.new.writer in
     let before = c.args.history.now in
     let after = c.answer.new.self in
-    let track = ap (λ (h : HistoryOnTrack). h.track) r.1.2 in
+    let begin = ap begin_of r.1.2 in
     let entries = ap (λ (h : HistoryOnTrack). h.entries) r.1.2 in
-    let scene = grown before after r.1.0 track entries (omega (arith, c.if-version-before.true, c.version-before.ensures.count, c.version.ensures.count)) in (
+    let scene = grown before after r.1.0 begin entries (omega (arith, c.if-version-before.true, c.version-before.ensures.count, c.version.ensures.count)) in (
       r.0,
       r.1.0,
       r.1.1,
-      track,
+      begin,
       entries,
-      stopped old shown (r.0 ++ change_text before.track before.entries r.1.0) c.from_residual-in_err-print_now.result
-          (subst (λ t. WritesPart old shown (r.0 ++ t)) (sym scene) (part_behind old said shown r.0 (scene_text after.track after.entries) r.2.text c.in_err-print_now.ensures.text))
+      stopped old shown (r.0 ++ change_text (begin_of before) before.entries r.1.0) c.from_residual-in_err-print_now.result
+          (subst (λ t. WritesPart old shown (r.0 ++ t)) (sym scene) (part_behind old said shown r.0 (scene_text (begin_of after) after.entries) r.2.text c.in_err-print_now.ensures.text))
           c.from_residual-in_err-print_now.ensures.0,
     )
 
@@ -50,15 +50,15 @@ returns-in_ok-print_now-clause-answered g c =
     let shown = g.W.Sink.written c.print_now.new.writer in
     let before = c.args.history.now in
     let after = c.answer.new.self in
-    let track = ap (λ (h : HistoryOnTrack). h.track) r.1.2 in
+    let begin = ap begin_of r.1.2 in
     let entries = ap (λ (h : HistoryOnTrack). h.entries) r.1.2 in
-    let scene = grown before after r.1.0 track entries (omega (arith, c.if-version-before.true, c.version-before.ensures.count, c.version.ensures.count)) in (
+    let scene = grown before after r.1.0 begin entries (omega (arith, c.if-version-before.true, c.version-before.ensures.count, c.version.ensures.count)) in (
       r.0,
       r.1.0,
       r.1.1,
-      track,
+      begin,
       entries,
-      subst (λ t. Appends old shown (r.0 ++ t)) (sym scene) (Appends-trans old said shown r.0 (scene_text after.track after.entries) r.2.text c.in_ok-print_now.ensures.text),
+      subst (λ t. Appends old shown (r.0 ++ t)) (sym scene) (Appends-trans old said shown r.0 (scene_text (begin_of after) after.entries) r.2.text c.in_ok-print_now.ensures.text),
     )
 
 pub returns-else-version-before-clause-answered : goal.returns-else-version-before-clause-answered
@@ -73,7 +73,7 @@ returns-else-version-before-clause-answered g c =
       r.0,
       r.1.0,
       r.1.1,
-      ap (λ (h : HistoryOnTrack). h.track) r.1.2,
+      ap begin_of r.1.2,
       entries,
       subst (λ t. Appends old said (r.0 ++ t)) (sym none) (subst (λ t. Appends old said t) (sym (append-nil r.0)) r.2.text),
     )

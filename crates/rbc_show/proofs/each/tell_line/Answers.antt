@@ -3,7 +3,7 @@ use Rattle.std.specs.Io.KnownBytes.{Appends}
 use Rattle.std.proofs.KnownBytes.{Appends-nil}
 use Rattle.rbc_model.specs.Sessions.{WritesPart, WritesText}
 use Rattle.rbc_session_laws.specs.Demands.{demand_in}
-use Rattle.rbc_kept.specs.Records.{HistoryOnTrack}
+use Rattle.rbc_kept.specs.Records.{begin_of, HistoryOnTrack}
 use Rattle.rbc_show.specs.Showing.{change_text, has_reply, request_text}
 use Rattle.rbc_show.proofs.WritingLemmas.{failed_part, is_told, not_told, part_more, silent, text_behind, whole_text}
 use Rattle.rbc_show.proofs.each.tell_line.Goals as goal
@@ -17,10 +17,10 @@ returns-then-not-has_reply-clause-told g c =
     ap (λ t. has_reply (demand_in t line)) (sym (c.deref.ensures ∙ c.track.ensures)) ∙ sym c.has_reply.ensures ∙ c.if-not-has_reply.true in (
       [],
       None,
-      silent before.track before.entries (demand_in before.track line) none,
+      silent (begin_of before) before.entries (demand_in before.track line) none,
       refl,
       sym (append-nil before.entries),
-      subst (λ t. Appends old old t) (sym (not_told (has_reply (demand_in before.track line)) (request_text c.args.number line ++ ([] ++ change_text before.track before.entries None)) none)) (Appends-nil old),
+      subst (λ t. Appends old old t) (sym (not_told (has_reply (demand_in before.track line)) (request_text c.args.number line ++ ([] ++ change_text (begin_of before) before.entries None)) none)) (Appends-nil old),
     )
 
 pub returns-then-is_err-clause-told : goal.returns-then-is_err-clause-told
@@ -32,11 +32,11 @@ returns-then-is_err-clause-told g c =
     let some : has_reply (demand_in before.track line) ≡ true =
     ap (λ t. has_reply (demand_in t line)) (sym (c.deref.ensures ∙ c.track.ensures)) ∙ sym c.has_reply.ensures ∙ c.if-not-has_reply.false in
     let r = c.answer.ensures.reply in
-    let rest = r.0 ++ change_text before.track before.entries r.1.0 in (
+    let rest = r.0 ++ change_text (begin_of before) before.entries r.1.0 in (
       r.0,
       r.1.0,
       r.1.1,
-      ap (λ (h : HistoryOnTrack). h.track) r.1.2,
+      ap begin_of r.1.2,
       ap (λ (h : HistoryOnTrack). h.entries) r.1.2,
       subst (λ t. WritesPart old asked t) (is_told (has_reply (demand_in before.track line)) (request_text c.args.number line ++ rest) some)
           (part_more old asked (request_text c.args.number line) rest
@@ -53,7 +53,7 @@ returns-clause-told g c =
     let some : has_reply (demand_in before.track line) ≡ true =
     ap (λ t. has_reply (demand_in t line)) (sym (c.deref.ensures ∙ c.track.ensures)) ∙ sym c.has_reply.ensures ∙ c.if-not-has_reply.false in
     let r = c.answer_line.ensures.answered in
-    let rest = r.0 ++ change_text before.track before.entries r.1 in (
+    let rest = r.0 ++ change_text (begin_of before) before.entries r.1 in (
       r.0,
       r.1,
       r.2,

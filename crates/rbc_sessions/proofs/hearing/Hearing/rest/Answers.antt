@@ -11,8 +11,8 @@ returns-in-Ok-Event g c =
     let branch = c.in-Ok-Event in
     let line = c.args.line.now in
     let told : demand_in c.args.self.now.sitting.seat.told.track line ≡ Ok (Event branch.told) =
-    ap (λ t. demand_in t line) (later.track ∙ sym c.args.counter.now.of_desk) ∙ sym (ap Ok (sym branch.field-0-is) ∙ branch.ensures.demand) in
+    ap (λ t. demand_in t line) (later.track ∙ sym c.args.context.now.of_desk) ∙ sym (ap Ok (sym branch.field-0-is) ∙ branch.ensures.demand) in
     let of_track : IsToldOfTrack g.L.DeskName.opened.track branch.told =
-    subst (λ t. IsToldOfTrack t branch.told) c.args.counter.now.of_desk (subst (IsDemandOfTrack c.args.counter.now.track.now) branch.field-0-is branch.ensures.of_track) in
+    subst (λ t. IsToldOfTrack t branch.told) c.args.context.now.of_desk (subst (IsDemandOfTrack c.args.context.now.track.now) branch.field-0-is branch.ensures.of_track) in
     rests_or_same g.L.DeskName.opened.track g.K.Keeper.kept c.args.self.now (record { sitting = c.args.self.now.sitting; resting = c.push.new.self }) line branch.told c.push.result
     c.requires told of_track (c.keeps_nothing.ensures c.if-not-keeps_nothing.false) refl c.push.ensures

@@ -7,7 +7,7 @@ use Rattle.rbc_sessions.proofs.resting.Resting.enter.Goals as goal
 
 pub returns-clause-heard : goal.returns-clause-heard
 returns-clause-heard g c =
-    let text = flat_map (reply_text c.args.counter.now.track.now) c.hear_all.new.replies.items in (
+    let text = flat_map (reply_text c.args.context.now.track.now) c.hear_all.new.replies.items in (
       text,
       subst (λ (told : List Told). SeatHears c.args.seat.now told text c.hear_all.new.seat) (c.as_slice.ensures.value ∙ c.self.view_is) c.hear_all.ensures.hears,
       rw c.as_slice-2.ensures.value at c.print_all-printed.ensures,

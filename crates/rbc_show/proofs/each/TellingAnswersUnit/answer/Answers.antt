@@ -1,4 +1,5 @@
 use Rattle.std.proofs.Common.{◌||◌, inl, refl, ap, ◌∙◌, Err}
+use Rattle.rbc_kept.specs.Records.{begin_of}
 use Rattle.rbc_show.specs.declared.each.Telling.{Telling}
 use Rattle.rbc_show.specs.Showing.{told_text}
 use Rattle.rbc_show.proofs.TellingLemmas.{line_told}
@@ -8,7 +9,7 @@ pub returns-in-Err-Memory-clause-reply : goal.returns-in-Err-Memory-clause-reply
 returns-in-Err-Memory-clause-reply g c =
     let before = c.args.self.now in
     let r = c.in-Err-Memory.ensures.told in (
-      told_text before.number before.history.track before.history.entries c.args.line.now r.0 r.1,
+      told_text before.number (begin_of before.history) before.history.entries c.args.line.now r.0 r.1,
       (c.requires.ready, inl refl),
       record { text = r.5; failed = refl },
     )
@@ -17,7 +18,7 @@ pub returns-in-Err-Write-clause-reply : goal.returns-in-Err-Write-clause-reply
 returns-in-Err-Write-clause-reply g c =
     let before = c.args.self.now in
     let r = c.in-Err-Write.ensures.told in
-    let text = told_text before.number before.history.track before.history.entries c.args.line.now r.0 r.1 in
+    let text = told_text before.number (begin_of before.history) before.history.entries c.args.line.now r.0 r.1 in
     let after : Telling = record { history = c.tell_line.new.history; number = c.saturating_add-self.result; lost = before.lost } in (
       text,
       line_told before after c.args.line.now text r.0 r.1 c.requires.ready refl r.2 r.3 r.4 c.saturating_add-self.ensures refl,

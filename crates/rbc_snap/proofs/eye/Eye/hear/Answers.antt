@@ -1,5 +1,5 @@
 use Rattle.std.proofs.Common.{subst, sym}
-use Rattle.rbc_model.specs.Histories.{IsLegal}
+use Rattle.rbc_record.specs.Records.{IsRight}
 use Rattle.rbc_snap.specs.Ends.{Watching}
 use Rattle.rbc_snap.specs.Later.{IsLater}
 use Rattle.rbc_snap.specs.Sights.{SeenOf}
@@ -14,4 +14,4 @@ returns-then-is_behind-clause-heard g c =
 
 pub returns-else-is_behind-clause-later : goal.returns-else-is_behind-clause-later
 returns-else-is_behind-clause-later g c =
-    later_itself c.args.self.now.told (subst (λ (e : Watching). IsLegal e.told.track e.told.entries) c.self.view_is c.known.ensures)
+    later_itself c.args.self.now.told (subst (λ (e : Watching). IsRight e.told) c.self.view_is c.known.ensures)

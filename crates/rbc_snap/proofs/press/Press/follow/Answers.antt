@@ -11,7 +11,13 @@ invariant_of-self g c =
     let kept = c.self.invariant in
     let told = c.self.inside.sight.history in
     let shown = c.self.inside.writer.desk.shown.value.sight.history in
-    let goes : IsLater c.args.self.now.told log = record { track = c.requires.track; legal = c.known.ensures.legal; opening = c.requires.opening } in
+    let goes : IsLater c.args.self.now.told log = record {
+      track = c.requires.track;
+      begin = c.requires.begin;
+      most = c.requires.most;
+      right = c.right.ensures;
+      opening = c.requires.opening;
+    } in
     let on : IsLater told log = subst (λ (p : Pressed). IsLater p.told log) (sym c.self.view_is) goes in (
       kept.0,
       kept.1,

@@ -10,7 +10,7 @@ invariant_of-press g c =
     let log = c.args.log.now in
     let shown = c.loop-reader.invariant.1 in
     let sight = c.begin-head.ensures.sight in
-    let itself = subst (λ (s : SeenOf). IsLater log s.history) (sym sight) (later_itself log c.known.ensures.legal) in (
+    let itself = subst (λ (s : SeenOf). IsLater log s.history) (sym sight) (later_itself log c.right.ensures) in (
       ap (λ (s : SeenOf). s.book) shown,
       c.begin-head.ensures.head ∙ ap head_of c.requires.journal,
       ap (λ (s : SeenOf). s.book) sight ∙ c.requires.journal,

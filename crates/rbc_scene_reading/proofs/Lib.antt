@@ -1,0 +1,17 @@
+pub mod RowLemmas
+pub mod TrainLemmas
+pub mod KeptLemmas
+pub mod AdditionLemmas
+pub mod SharingLemmas
+pub mod LineLemmas
+pub mod StandingLemmas
+pub mod HoldingLemmas
+pub mod SaidLemmas
+pub mod ReadLemmas
+pub mod StepLemmas
+pub mod PieceLemmas
+pub mod WrittenRowLemmas
+pub mod WrittenTrainLemmas
+pub mod WrittenLemmas
+pub mod HistoryLemmas
+pub mod OneTextLemmas

@@ -1,0 +1,9 @@
+pub mod Running
+pub mod Pieces
+pub mod Stages
+pub mod Readings
+pub mod Reading
+pub mod Standings
+pub mod Spans
+pub mod Laws
+pub mod Additions

@@ -1,0 +1,5 @@
+mod WordLemmas
+mod LegLemmas
+mod SaidLemmas
+mod SceneTextLemmas
+mod WrittenLemmas

@@ -1,0 +1,4 @@
+pub mod SceneLine
+pub mod LineViews
+pub mod SaidScenes
+pub mod Laws
