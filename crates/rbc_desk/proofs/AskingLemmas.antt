@@ -116,7 +116,7 @@ known_shown history train v e = viewed_there (view_of history.track (scene_now h
 the_same : (told history : HistoryOnTrack) → IsLater told history → length told.entries ≡ length history.entries → told ≡ history
 the_same told history later as_many =
     let all : take (length told.entries) history.entries ≡ history.entries = take_all (length told.entries) history.entries (omega (arith, as_many)) in
-    λ i. record { track = sym later.track i; entries = (sym later.opening ∙ all) i }
+    λ i. record { track = sym later.track i; begin = sym later.begin i; most = sym later.most i; entries = (sym later.opening ∙ all) i }
 
 -- a candidate for what its seat was told is one for a history that goes on from that, if no more was entered
 pub made_still : (told history : HistoryOnTrack) (candidate : Candidate) → IsLater told history → IsMadeIn told candidate → candidate.version ≡ length history.entries → IsMadeIn history candidate
@@ -157,7 +157,7 @@ seen_denied old new train (Err (Refused (Unshown fault version))) later h =
     record { before = new; later = later; answered = unshown new train version fault h.0 h.1; told = refl }
 seen_denied old new train (Err Memory) later h = record { before = new; later = later; answered = h; told = refl }
 
--- the same for an answer that is known to be what an eye shows
+-- an answer that is known to be what an eye shows: its view is one in what was told, and its fault is one that is answered
 pub look_view : (old new : HistoryOnTrack) (train : ℕ) (seen : Result (View × ℕ) (OrMemory EyeFault)) (answer : Result (Option (View × ℕ)) (OrMemory AskFault)) → answer ≡ seen_by seen → IsSeenIn old new train seen
     → IfOk answer (λ seen. IfSome seen (IsViewIn new train))
 look_view old new train seen answer e h = subst (λ a. IfOk a (λ seen. IfSome seen (IsViewIn new train))) (sym e) (seen_view old new train seen h)
@@ -177,7 +177,7 @@ since_before first begun new train answer later since = record {
   told = since.told;
 }
 
--- the same, for the train that asked
+-- what goes on from a history goes on from what that goes on from, for the train that asked
 pub since_asked : (first begun new : HistoryOnTrack) (train asked : ℕ) (answer : Result GrantedAtDesk (OrMemory AskFault)) → IsLater first begun → train ≡ asked → IsAnsweredThen begun new train answer → IsAnsweredThen first new asked answer
 since_asked first begun new train asked answer later same since =
     subst (λ n. IsAnsweredThen first new n answer) same (since_before first begun new train answer later since)

@@ -7,8 +7,8 @@ use Rattle.std.proofs.lemmas.List.Folds.{list_any-append, list_any_none, list_an
 use Rattle.std.proofs.lemmas.List.Concat.{flat_map-append}
 use Rattle.std.proofs.lemmas.Bool.Decides.{nat_tests}
 use Rattle.std.proofs.lemmas.Option.{same_Some, none-some}
-use Rattle.rbc_model.specs.Histories.{Entry, Receipt, IsAtPlace, IsLegal, Matches}
-use Rattle.rbc_snap.specs.Records.{HistoryOnTrack}
+use Rattle.rbc_model.specs.Histories.{Entry, Receipt, IsAtPlace, Matches}
+use Rattle.rbc_snap.specs.Records.{HistoryOnTrack, IsRight}
 use Rattle.rbc_desk.specs.Seats.{Seated}
 use Rattle.rbc_desk.specs.Closing.{all_receipts, AreAtPlaces, IsFirstMisplaced, AreMarked, Finds, FindsAll, GoesOn}
 
@@ -135,10 +135,11 @@ matches entries start begun receipts is places many =
     subst (λ s. Matches receipts entries s) is (record { each = each_at_place entries start [] receipts places; as_many = omega arith })
 
 -- the history at the end goes on from that at the beginning
-pub goes_on : (history opened : HistoryOnTrack) (start : ℕ) (receipts : List Receipt) → history.track ≡ opened.track → take start history.entries ≡ opened.entries → start ≡ length opened.entries → IsLegal history.track history.entries
+pub goes_on : (history opened : HistoryOnTrack) (start : ℕ) (receipts : List Receipt) → history.track ≡ opened.track → history.begin ≡ opened.begin → history.most ≡ opened.most
+    → take start history.entries ≡ opened.entries → start ≡ length opened.entries → IsRight history
     → length receipts + start ≡ length history.entries → GoesOn opened receipts history
-goes_on history opened start receipts track base begun legal many =
+goes_on history opened start receipts track begin most base begun right many =
     record {
-      later = record { track = track; legal = legal; opening = ap (λ n. take n history.entries) (sym begun) ∙ base };
+      later = record { track = track; begin = begin; most = most; right = right; opening = ap (λ n. take n history.entries) (sym begun) ∙ base };
       as_many = omega arith;
     }

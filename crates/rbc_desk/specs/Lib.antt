@@ -1,6 +1,7 @@
 pub mod Seats
 pub mod Asking
 pub mod Closing
+pub mod Looking
 pub mod States
 pub mod Telling
 pub mod Trains

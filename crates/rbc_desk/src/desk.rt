@@ -6,6 +6,7 @@ ghost use Rattle.std.specs.Arc.{arc_value};
 ghost use Rattle.rbc_model.specs.Histories.{Heard, IsLegal, Matches};
 ghost use Rattle.rbc_snap.specs.Steps.{IsOfTrack};
 ghost use Rattle.rbc_snap.specs.Later.{IsLater, scene_of};
+ghost use Rattle.rbc_snap.specs.Records.{begin_of};
 ghost use Rattle.rbc_desk.specs.Asking.{seen_by, IsAnsweredAt, IsAnsweredThen, IsMadeIn, IsTriedAt, IsViewIn};
 ghost use Rattle.rbc_desk.specs.Closing.{all_receipts, IsUnmatched};
 ghost use Rattle.rbc_desk.specs.Seats.{seated};
@@ -138,7 +139,7 @@ impl<L: DeskName> Desk<L> {
     {
         let Blank { ledger, journal } = blank;
         let (entries, mut rest) = ledger.open::<L>();
-        log.known();
+        log.right();
         let start = log.version();
         let track = Arc::try_clone(log.track())?;
         let (press, eyes) = Press::<L>::new(rt, alloc, journal, &log, seats)?;
@@ -181,8 +182,9 @@ impl<L: DeskName> Desk<L> {
     ///
     /// # Errors
     ///
-    /// Those of [`Record::apply`], for a legal history that goes on from all that the seat was told, and that it is told
-    /// then; `Memory` comes in place of none that [`Record::refusal`] tells. The seat has no new receipt.
+    /// `Refused` with `Full`, where the record has as many entries as it may have, or with the refusal of the scene, for a legal
+    /// history that goes on from all that the seat was told, and that it is told then; `Memory`, where it is refused, comes in
+    /// place of none that [`Record::refusal`] tells. The seat has no new receipt.
     pub fn event<R: Wait>(
         &self,
         rt: &R,
@@ -200,12 +202,15 @@ impl<L: DeskName> Desk<L> {
         answer
     }
 
-    /// The same, for a seat that will tell more or ask: what is entered is published later, by the next [`Desk::publish`] or
-    /// [`Desk::event`] from this seat, or from another that was told of it. So many entries are published as one.
+    /// Enters what a train or the interlocking tells, and gives the seat the receipt, for a seat that will tell more or ask: what
+    /// is entered is published later, by the next [`Desk::publish`] or [`Desk::event`] from this seat, or from another that was
+    /// told of it. So many entries are published as one. The seat is told all that there is then.
     ///
     /// # Errors
     ///
-    /// As above.
+    /// `Refused` with `Full`, where the record has as many entries as it may have, or with the refusal of the scene, for a legal
+    /// history that goes on from all that the seat was told, and that it is told then; `Memory`, where it is refused, comes in
+    /// place of none that [`Record::refusal`] tells. The seat has no new receipt.
     pub fn event_ahead<R: Wait>(
         &self,
         rt: &R,
@@ -284,7 +289,7 @@ impl<L: DeskName> Desk<L> {
     {
         let shared = self.lock(rt);
         let fault = (*shared).ask_in_vain(rt, seat, train);
-        // As above.
+        // A guard that is dropped would need that the press may be.
         MutexGuard::unlock(shared);
         fault
     }
@@ -301,7 +306,7 @@ impl<L: DeskName> Desk<L> {
     /// - `UnknownTrain`: there is no train of this number,
     /// - `Blocked` with what stands at the reach, the reach in metres from the train's group, and the version of the
     ///   history, where no safe end can be given by a message,
-    /// - `Full`: the record has 100,000 entries.
+    /// - `Full`: the record has as many entries as it may have.
     ///
     /// `Memory`, where there is a train of this number, and no memory for the view, the receipt or the entry, or the gate
     /// finds none. After a fault the seat has no new receipt.
@@ -318,11 +323,14 @@ impl<L: DeskName> Desk<L> {
         self.ask_by(rt, rt, alloc, seat, train, gate)
     }
 
-    /// The same by two runtimes: one has the threads of the computation, the other waits for the lock.
+    /// Grants a train that asks the authority that is best for what it is shown, as [`Desk::ask`] does, by two runtimes: one has
+    /// the threads of the computation, the other waits for the lock.
     ///
     /// # Errors
     ///
-    /// As above.
+    /// `Refused` with `UnknownTrain`, `Blocked` or `Full`, for a legal history that goes on from all that the seat was told, and
+    /// that it is told then; `Memory`, where there is none for the view, the receipt or the entry, or the gate finds none. After
+    /// a fault the seat has no new receipt.
     pub fn ask_by<T: Threads + Sync, R: Wait, G: Gate>(
         &self,
         rt: &T,
@@ -502,7 +510,9 @@ impl<L: DeskName> Desk<L> {
             Matches (all_receipts seats.items) log.entries (length L.opened.entries)) }
         ensures grown { IfOk result (λ log. take (length L.opened.entries) log.entries ≡ L.opened.entries) }
         ensures track { IfOk result (λ log. log.track ≡ L.opened.track) }
-        ensures legal { IfOk result (λ log. IsLegal log.track log.entries) }
+        ensures begin { IfOk result (λ log. log.begin ≡ L.opened.begin) }
+        ensures most { IfOk result (λ log. log.most ≡ L.opened.most) }
+        ensures legal { IfOk result (λ log. IsLegal (begin_of log) log.entries) }
         ensures told { IfOk result (λ log. All (λ seat. IsLater seat.told log) seats.items) }
         ensures missing { vec_len seats < L.parts → result ≡ Err (Missing (L.parts - vec_len seats)) }
         ensures unmatched { IfErr result (IsUnmatched L.opened L.parts seats.items) }

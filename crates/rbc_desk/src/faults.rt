@@ -15,7 +15,7 @@ pub enum AskFault {
     /// the history.
     #[error("blocked")]
     Blocked(Obstacle, i64, u64),
-    /// The record has 100,000 entries.
+    /// The record has as many entries as it may have.
     #[error("the record is full")]
     Full,
 }

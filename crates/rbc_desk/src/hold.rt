@@ -23,8 +23,9 @@ impl<'desk, L: DeskName> Hold<'desk, L> {
     ///
     /// # Errors
     ///
-    /// Those of [`rbc_snap::Record::apply`], for a legal history that goes on from all that the seat was told, and that it is
-    /// told then; `Memory` comes in place of none that [`rbc_snap::Record::refusal`] tells. The seat has no new receipt.
+    /// `Refused` with `Full`, where the record has as many entries as it may have, or with the refusal of the scene, for a legal
+    /// history that goes on from all that the seat was told, and that it is told then; `Memory`, where it is refused, comes in
+    /// place of none that [`rbc_snap::Record::refusal`] tells. The seat has no new receipt.
     pub fn event<R: Wait>(
         &mut self,
         rt: &R,

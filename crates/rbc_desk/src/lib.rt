@@ -11,6 +11,7 @@ mod gate;
 mod granted;
 mod hold;
 mod name;
+mod onlooker;
 mod seat;
 mod shared;
 mod state;
@@ -22,10 +23,11 @@ pub use gate::{Gate, OpenGate};
 pub use granted::Granted;
 pub use hold::Hold;
 pub use name::DeskName;
+pub use onlooker::Onlooker;
 pub use rbc_model::{Memory, OrMemory, Told};
 pub use rbc_snap::{
-    ApplyFault, Candidate, CommitFault, Entry, Grant, HistoryName, Receipt, Record, Scene, Sight,
-    Train, View, candidate,
+    ApplyFault, Behind, Candidate, CommitFault, Entry, EntryLimit, Grant, HistoryName, Receipt,
+    Record, Scene, Sight, Train, View, candidate,
 };
 pub use rbc_track::Track;
 pub use seat::Seat;

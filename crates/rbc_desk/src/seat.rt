@@ -1,15 +1,19 @@
 //! A worker's seat.
 
-ghost use Rattle.std.specs.Prelude.{◌≡◌, [], length};
-ghost use Rattle.rbc_snap.specs.Later.{IsLater};
+ghost use Rattle.std.specs.Prelude.{◌≡◌, [], length, IfOk};
+ghost use Rattle.std.specs.Arc.{arc_value};
+ghost use Rattle.rbc_snap.specs.Later.{IsLater, scene_of};
 ghost use Rattle.rbc_snap.specs.Sights.{seen_of};
+ghost use Rattle.rbc_desk.specs.Looking.{HasLooked};
 ghost use Rattle.rbc_desk.specs.Seats.{seated};
 
 use crate::DeskName;
-use rbc_snap::{Eye, Receipt, Sight};
+use rbc_model::OrMemory;
+use rbc_snap::{Behind, Eye, Receipt, Scene, Sight};
 use std::alloc::Global;
 use std::marker::Model;
 use std::sync::ledger::Share;
+use std::sync::{Arc, Wait};
 
 /// A worker's seat at a desk. Contracts see it as the receipts of what was entered from it, in order, and what it was
 /// told of the history: all that its answers speak of.
@@ -58,6 +62,22 @@ impl<L: DeskName> Seat<L> {
     {
         self.eye.hear(&other.eye);
         self.is_ahead = self.is_ahead || other.is_ahead;
+    }
+
+    /// The scene that is published, shared and not copied, with its version. The desk's lock is not taken for it. The seat is told
+    /// the history that led to it.
+    ///
+    /// # Errors
+    ///
+    /// `Refused`, where the seat was told more than is published; nothing more is told then. `Memory`, where the scene can't be
+    /// shared once more.
+    pub fn published<R: Wait>(&mut self, rt: &R) -> Result<(Arc<Scene>, u64), OrMemory<Behind>>
+        ensures scene { IfOk result (λ seen. arc_value seen.0 ≡ scene_of self.new.told) }
+        ensures version { IfOk result (λ seen. seen.1 ≡ length self.new.told.entries) }
+        ensures later { IsLater self.old.told self.new.told }
+        ensures looked { HasLooked self.old self.new }
+    {
+        self.eye.scene(rt)
     }
 
     /// What the seat was told, as a moment of the desk's history.

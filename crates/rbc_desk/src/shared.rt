@@ -12,6 +12,7 @@ ghost use Rattle.rbc_snap.specs.Entering.{EntersOrMemory, entry_told, refused_at
 ghost use Rattle.rbc_snap.specs.Ends.{pressed};
 ghost use Rattle.rbc_snap.specs.Present.{has_train};
 ghost use Rattle.rbc_snap.specs.Steps.{IsOfTrack};
+ghost use Rattle.rbc_snap.specs.Records.{begin_of};
 ghost use Rattle.rbc_desk.specs.Closing.{all_receipts, IsUnmatchedIn};
 ghost use Rattle.rbc_desk.specs.States.{state_of};
 ghost use Rattle.rbc_desk.specs.Trains.{numbers_of};
@@ -47,6 +48,8 @@ pub(crate) struct Shared<L: DeskName> {
     pub(crate) rest: Share<L>,
     pub(crate) ghost published: { press.told ≡ log },
     pub(crate) ghost track: { log.track ≡ L.opened.track },
+    pub(crate) ghost begin: { log.begin ≡ L.opened.begin },
+    pub(crate) ghost most: { log.most ≡ L.opened.most },
     pub(crate) ghost base: { take start log.entries ≡ L.opened.entries },
     pub(crate) ghost starts: { start ≡ length L.opened.entries },
     pub(crate) ghost counted: { entries.total + start ≡ length log.entries },
@@ -130,6 +133,8 @@ fn trains_of(alloc: Global, log: &Record) -> Result<Vec<TrainId>, Memory>
 /// The press follows the record, which goes on from what it told, and tells the eye all of it.
 fn follow<L: DeskName, R: Wait>(rt: &R, log: &Record, press: &mut Press<L>, eye: &mut Eye<L>)
     requires track { log.now.track ≡ press.old.told.track }
+    requires begin { log.now.begin ≡ press.old.told.begin }
+    requires most { log.now.most ≡ press.old.told.most }
     requires opening { take (length press.old.told.entries) log.now.entries ≡ press.old.told.entries }
     ensures press { press.new ≡ pressed log.now press.old.published }
     ensures told { eye.new.told ≡ log.now }
@@ -144,7 +149,7 @@ impl<L: DeskName> Shared<L> {
     fn goes_on(&self)
         ensures { IsLater L.opened self.now.log }
     {
-        self.log.known();
+        self.log.right();
     }
 
     /// Tells the seat all that the record has.
@@ -422,7 +427,7 @@ impl<L: DeskName> Shared<L> {
     pub(crate) fn close<R: Wait>(self, rt: &R, seats: Vec<Seat<L>>) -> Result<Record, CloseFault>
         requires { L.parts ≤ vec_len seats }
         ensures log { IfOk result (λ log. log ≡ self.log) }
-        ensures legal { IfOk result (λ log. IsLegal log.track log.entries) }
+        ensures legal { IfOk result (λ log. IsLegal (begin_of log) log.entries) }
         ensures matches { IfOk result (λ log.
             Matches (all_receipts seats.items) self.log.entries (length L.opened.entries)) }
         ensures told { IfOk result (λ log. All (λ seat. IsLater seat.told log) seats.items) }
@@ -437,6 +442,7 @@ impl<L: DeskName> Shared<L> {
             mut rest,
         } = self;
         log.known();
+        log.right();
         let misplaced = take_all(rt, &log, &mut found, &press, &mut rest, seats);
         press.end(rt);
         entries.audit(&mut rest);

@@ -1,11 +1,12 @@
 -- What comes of a centre that stayed up.
-use Rattle.std.proofs.Common.{◌≡◌, ℕ, Bool, true, false, suc, List, [], ◌∷◌, length, map, Option, Some, None, refl, sym, ap, ◌∙◌, subst, arith}
+use Rattle.std.proofs.Common.{◌≡◌, ℕ, Bool, true, false, suc, List, [], ◌∷◌, ◌++◌, length, map, Option, Some, None, refl, sym, ap, ◌∙◌, subst, arith}
 use Rattle.std.proofs.lemmas.List.{length-map, take_all}
 use Rattle.std.proofs.lemmas.List.Elements.{All-map, All-nil}
-use Rattle.std.specs.Prelude.{◌||◌, All, IfSome, take}
+use Rattle.std.specs.Prelude.{◌||◌, All, IfSome, take, option_to_list}
 use Rattle.std.specs.List.{Contains, list_any}
 use Rattle.rbc_port.specs.Clients.{Coming}
 use Rattle.rbc_server.specs.Connections.{OneKnows, TellsFailure}
+use Rattle.rbc_server.specs.Looking.{LooksOn}
 use Rattle.rbc_server.specs.Records.{HistoryOnTrack}
 use Rattle.rbc_server.specs.Seats.{Seated}
 use Rattle.rbc_server.specs.Serving.{IsCloseFault}
@@ -102,7 +103,7 @@ if_there : {X : Type 0} (P : X → Type 0) (o : Option X) → ((x : X) → o ≡
 if_there P None f = tt
 if_there P (Some x) f = f x refl
 
--- the same of a fault that may be there
+-- what stands behind the first fault, if there is one
 pub stands_there : {D L P : Type 0} (keeps : P → ℕ → Type 0) (sitting : D → Sitting L P) (lost : D → Bool) (comings : List (Option (List Coming))) (sittings : List (Sitting L P)) (duties : List D) (pens : List P)
     → pens ≡ map (λ d. (sitting d).pen) duties → (all failed : Bool) (fault : Option ServeFault) (count : ℕ) → fault ≡ duty_fault all failed (list_any lost duties)
     → AreOnDuty keeps (take count comings) (take count sittings) (map sitting duties) (map lost duties) → (all ≡ true → count ≡ length sittings)
@@ -120,23 +121,38 @@ none_stand {L = L} {P = P} keeps comings sittings pens fault none is =
 
 -- ---- the centre's fault
 
-module _ {L P : Type 0} (keeps : P → ℕ → Type 0) (opened : HistoryOnTrack) (parts : ℕ) (comings : List (Option (List Coming))) (sittings : List (Sitting L P)) (pens : List P) (old new : Option (List ℕ)) where
-  pub fault_stands : (fault : ServeFault) → StandsRelieved keeps comings sittings pens fault → IsStayFault keeps opened parts comings sittings pens old new fault
+module _ {L P : Type 0} (keeps : P → ℕ → Type 0) (opened : HistoryOnTrack) (parts : ℕ) (comings : List (Option (List Coming))) (sittings : List (Sitting L P)) (looking : Option Seated) (pens : List P) (old new : Option (List ℕ)) where
+  pub fault_stands : (fault : ServeFault) → StandsRelieved keeps comings sittings pens fault → IsStayFault keeps opened parts comings sittings looking pens old new fault
   fault_stands Port stood = stood
   fault_stands Memory stood = stood
   fault_stands Journal stood = stood
   fault_stands Write stood = absurd stood
   fault_stands (Close fault) stood = absurd stood
 
-  pub unclosed_stands : (seats : List Seated) (fault : ServeFault) → AreRelieved keeps comings sittings seats pens → IsCloseFault opened parts seats old new fault
-      → IsStayFault keeps opened parts comings sittings pens old new fault
-  unclosed_stands seats Port relieved unclosed = absurd unclosed
-  unclosed_stands seats Memory relieved unclosed = absurd unclosed
-  unclosed_stands seats Journal relieved unclosed = absurd unclosed
-  unclosed_stands seats Write relieved unclosed = record { seats = seats; relieved = relieved; unclosed = unclosed }
-  unclosed_stands seats (Close fault) relieved unclosed = record { seats = seats; relieved = relieved; unclosed = unclosed }
+  pub unclosed_stands : (seats : List Seated) (looker : Option Seated) (fault : ServeFault) → AreRelieved keeps comings sittings seats pens → LooksOn looking looker
+      → IsCloseFault opened parts (seats ++ option_to_list looker) old new fault → IsStayFault keeps opened parts comings sittings looking pens old new fault
+  unclosed_stands seats looker Port relieved looked unclosed = absurd unclosed
+  unclosed_stands seats looker Memory relieved looked unclosed = absurd unclosed
+  unclosed_stands seats looker Journal relieved looked unclosed = absurd unclosed
+  unclosed_stands seats looker Write relieved looked unclosed = record { seats = seats; relieved = relieved; looker = looker; looked = looked; unclosed = unclosed }
+  unclosed_stands seats looker (Close fault) relieved looked unclosed = record { seats = seats; relieved = relieved; looker = looker; looked = looked; unclosed = unclosed }
 
 -- no write failed while seats were on duty
 pub not_written : {L P : Type 0} (keeps : P → ℕ → Type 0) (comings : List (Option (List Coming))) (sittings : List (Sitting L P)) (pens : List P) (fault : ServeFault) → StandsRelieved keeps comings sittings pens fault
     → fault ≡ Write → ⊥
 not_written keeps comings sittings pens fault stood is = subst (StandsRelieved keeps comings sittings pens) is stood
+
+-- ---- who looks on
+
+-- from the first moment on nothing is told but what goes on
+pub looks_at_first : (seat : Option Seated) → LooksOn seat seat
+looks_at_first None = tt
+looks_at_first (Some seat) = record { receipts = refl; later = λ earlier is. is }
+
+pub looks_further : (first mid last : Option Seated) → LooksOn first mid → LooksOn mid last → LooksOn first last
+looks_further None None None so next = tt
+looks_further None None (Some last) so next = absurd next
+looks_further None (Some mid) last so next = absurd so
+looks_further (Some first) None last so next = absurd so
+looks_further (Some first) (Some mid) None so next = absurd next
+looks_further (Some first) (Some mid) (Some last) so next = record { receipts = next.receipts ∙ so.receipts; later = λ earlier is. next.later earlier (so.later earlier is) }

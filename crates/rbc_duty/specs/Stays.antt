@@ -1,8 +1,9 @@
 -- A centre that stayed up until its end was asked for, and what comes of it.
-use Rattle.std.specs.Prelude.{◌≡◌, ℕ, List, length, map, take, All, Bool, true, false, Option, Some, None}
+use Rattle.std.specs.Prelude.{◌≡◌, ◌++◌, ℕ, List, length, map, take, All, Bool, true, false, Option, Some, None, option_to_list}
 use Rattle.std.specs.List.{Contains}
 use Rattle.std.specs.Io.KnownBytes.{Appends}
 use Rattle.rbc_port.specs.Clients.{Coming}
+use Rattle.rbc_server.specs.Looking.{LooksOn}
 use Rattle.rbc_server.specs.Records.{HistoryOnTrack}
 use Rattle.rbc_server.specs.Seats.{Seated}
 use Rattle.rbc_server.specs.Serving.{IsClosed, IsCloseFault, closed_line}
@@ -27,11 +28,14 @@ pub record AreRelieved {L P : Type 0} (kept : P → ℕ → Type 0) (comings : L
   pub seats_are : seats ≡ map (λ (s : Sitting L P). s.seat) served
   pub pens_are : pens ≡ map (λ (s : Sitting L P). s.pen) served
 
--- The same, and the desk that was opened with this history was closed with these seats, and gave this record. What was written tells how many entries it has.
-pub record IsStayed {L P : Type 0} (kept : P → ℕ → Type 0) (opened : HistoryOnTrack) (comings : List (Option (List Coming))) (sittings : List (Sitting L P)) (pens : List P) (old new : Option (List ℕ)) (log : HistoryOnTrack) : Type 0 where
+-- Each of the seats, at which these clients came, was on duty, and keeping failed at none. The desk that was opened with this history was closed with these
+-- seats, and with that of an onlooker, if there was one, and gave this record. What was written tells how many entries it has.
+pub record IsStayed {L P : Type 0} (kept : P → ℕ → Type 0) (opened : HistoryOnTrack) (comings : List (Option (List Coming))) (sittings : List (Sitting L P)) (looking : Option Seated) (pens : List P) (old new : Option (List ℕ)) (log : HistoryOnTrack) : Type 0 where
   pub seats : List Seated
   pub relieved : AreRelieved kept comings sittings seats pens
-  pub closing : IsClosed opened seats log
+  pub looker : Option Seated
+  pub looked : LooksOn looking looker
+  pub closing : IsClosed opened (seats ++ option_to_list looker) log
   pub closed : Appends old new (closed_line (length log.entries))
 
 -- So many of the seats were on duty, the first ones; by these ports no client could be accepted any more; and these are the pens.
@@ -49,15 +53,17 @@ StandsRelieved kept comings sittings pens Write = ⊥
 StandsRelieved kept comings sittings pens (Close fault) = ⊥
 
 -- all were on duty, and the last line could not be told whole, or the desk not be closed
-pub record IsUnclosed {L P : Type 0} (kept : P → ℕ → Type 0) (opened : HistoryOnTrack) (parts : ℕ) (comings : List (Option (List Coming))) (sittings : List (Sitting L P)) (pens : List P) (old new : Option (List ℕ)) (fault : ServeFault) : Type 0 where
+pub record IsUnclosed {L P : Type 0} (kept : P → ℕ → Type 0) (opened : HistoryOnTrack) (parts : ℕ) (comings : List (Option (List Coming))) (sittings : List (Sitting L P)) (looking : Option Seated) (pens : List P) (old new : Option (List ℕ)) (fault : ServeFault) : Type 0 where
   pub seats : List Seated
   pub relieved : AreRelieved kept comings sittings seats pens
-  pub unclosed : IsCloseFault opened parts seats old new fault
+  pub looker : Option Seated
+  pub looked : LooksOn looking looker
+  pub unclosed : IsCloseFault opened parts (seats ++ option_to_list looker) old new fault
 
 -- what stands behind a fault
-abbrev pub IsStayFault : {L P : Type 0} → (P → ℕ → Type 0) → HistoryOnTrack → ℕ → List (Option (List Coming)) → List (Sitting L P) → List P → Option (List ℕ) → Option (List ℕ) → ServeFault → Type 0
-IsStayFault kept opened parts comings sittings pens old new Port = StandsRelieved kept comings sittings pens Port
-IsStayFault kept opened parts comings sittings pens old new Memory = StandsRelieved kept comings sittings pens Memory
-IsStayFault kept opened parts comings sittings pens old new Journal = StandsRelieved kept comings sittings pens Journal
-IsStayFault kept opened parts comings sittings pens old new Write = IsUnclosed kept opened parts comings sittings pens old new Write
-IsStayFault kept opened parts comings sittings pens old new (Close fault) = IsUnclosed kept opened parts comings sittings pens old new (Close fault)
+abbrev pub IsStayFault : {L P : Type 0} → (P → ℕ → Type 0) → HistoryOnTrack → ℕ → List (Option (List Coming)) → List (Sitting L P) → Option Seated → List P → Option (List ℕ) → Option (List ℕ) → ServeFault → Type 0
+IsStayFault kept opened parts comings sittings looking pens old new Port = StandsRelieved kept comings sittings pens Port
+IsStayFault kept opened parts comings sittings looking pens old new Memory = StandsRelieved kept comings sittings pens Memory
+IsStayFault kept opened parts comings sittings looking pens old new Journal = StandsRelieved kept comings sittings pens Journal
+IsStayFault kept opened parts comings sittings looking pens old new Write = IsUnclosed kept opened parts comings sittings looking pens old new Write
+IsStayFault kept opened parts comings sittings looking pens old new (Close fault) = IsUnclosed kept opened parts comings sittings looking pens old new (Close fault)

@@ -5,7 +5,7 @@ ghost use Rattle.rbc_duty.specs.Duties.{IsDuty};
 
 use crate::Post;
 use rbc_port::{Client, Clients, Closing};
-use rbc_server::{Counter, DeskName, Keeper, OpenGate, Sitting, Visit, connection};
+use rbc_server::{DeskName, Keeper, OpenGate, SessionContext, Sitting, Visit, connection};
 use rbc_streams::{Sink, Source};
 use std::alloc::Global;
 use std::io::Eprint;
@@ -42,7 +42,7 @@ pub fn serve_in_turn<
 >(
     rt: &T,
     alloc: Global,
-    counter: &Counter<'a, L, K, OpenGate, T>,
+    context: &SessionContext<'a, L, K, OpenGate, T>,
     closing: &E,
     post: Post<L, Q, P>,
 ) -> Duty<L, Q>
@@ -68,7 +68,7 @@ pub fn serve_in_turn<
             is_port_lost = !closing.is_asked();
             break;
         };
-        let Visit { sitting: left, .. } = connection(rt, alloc, counter, sitting, client);
+        let Visit { sitting: left, .. } = connection(rt, alloc, context, sitting, client);
         sitting = left;
     }
     ask_where(rt, closing, sitting.has_failed || is_port_lost);

@@ -9,5 +9,6 @@ mod staying;
 
 pub use duty::{Duty, serve_in_turn};
 pub use post::Post;
+pub use rbc_server::Onlooker;
 pub use standing::{Stood, stand_all};
-pub use staying::{Stayed, Unstayed, stay};
+pub use staying::{Company, Stayed, Unstayed, stay};

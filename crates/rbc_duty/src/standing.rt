@@ -4,11 +4,12 @@ ghost use Rattle.std.specs.Prelude.{◌≡◌, ◌≤◌, [], All, true, take, m
 ghost use Rattle.std.specs.List.{AllZip};
 ghost use Rattle.std.specs.Thread.{IsSend, IsSync};
 ghost use Rattle.rbc_server.specs.Connections.{TellsFailure};
+ghost use Rattle.rbc_server.specs.Looking.{LooksOn};
 ghost use Rattle.rbc_duty.specs.Duties.{AreOnDuty, IsDuty};
 
 use crate::{Duty, Post, serve_in_turn};
 use rbc_port::{Client, Clients, Closing};
-use rbc_server::{Counter, DeskName, Keeper, OpenGate};
+use rbc_server::{DeskName, Keeper, Onlooker, OpenGate, SessionContext};
 use rbc_streams::{Sink, Source};
 use std::alloc::Global;
 use std::io::Eprint;
@@ -71,18 +72,38 @@ fn handles_for<L: DeskName, Q: Drop, K: Keeper<L, Pen = Q>, P: Clients + Drop>(
     }
 }
 
-/// What duties leave.
+/// Lets an onlooker look until the end is asked for, or there is nothing for it to do.
+fn look_on<L: DeskName, B: Onlooker<L>, E: Closing, T: Wait + Clock>(
+    rt: &T,
+    alloc: Global,
+    closing: &E,
+    mut onlooker: B,
+) -> B
+    ensures { LooksOn (B.seat onlooker) (B.seat result) }
+{
+    for _ in rt.forever() {
+        if closing.is_asked() || !onlooker.attend(rt, alloc) {
+            return onlooker;
+        }
+    }
+    unreachable!()
+}
+
+/// What duties leave, and who looked on.
 #[derive(Drop)]
-pub struct Stood<L: DeskName, Q> {
-    /// Those of the first posts, in their order.
+pub struct Stood<L: DeskName, Q, B> {
+    /// What the duties of the first posts leave, in their order.
     pub duties: Vec<Duty<L, Q>>,
     /// Whether these are all.
     pub all_begun: bool,
+    /// The onlooker.
+    pub onlooker: B,
 }
 
 /// Serves the clients that come to each of these posts, each post in a thread of its own, until the end is asked for, a port
 /// is lost or a request can't be kept; then all end. Where no thread can be started for a post, or there is no memory for it, it
-/// asks for the end, and this post and those behind it are let go. There is room for what the duties leave.
+/// asks for the end, and this post and those behind it are let go. There is room for what the duties leave. Meanwhile the onlooker
+/// is attended to in this thread.
 pub fn stand_all<
     'a,
     L: DeskName + Send + Sync,
@@ -94,16 +115,18 @@ pub fn stand_all<
     G: Send + Drop,
     C: Client<Reader = I, Writer = O, Gone = G> + Send + Drop,
     P: Clients<Each = C> + Send + Drop,
+    B: Onlooker<L> + Drop,
     E: Closing + Sync,
     T: Threads + Wait + Clock + Eprint + Sync,
 >(
     rt: &T,
     alloc: Global,
-    counter: &Counter<'a, L, K, OpenGate, T>,
+    context: &SessionContext<'a, L, K, OpenGate, T>,
     closing: &E,
     posts: Vec<Post<L, Q, P>>,
     duties: Vec<Duty<L, Q>>,
-) -> Stood<L, Q>
+    onlooker: B,
+) -> Stood<L, Q, B>
     requires empty { vec_len duties ≡ 0 }
     requires room { vec_len posts ≤ vec_capacity duties }
     ensures on_duty { AreOnDuty K.kept (take (vec_len result.duties) (map (λ post. P.coming post.port) posts.items))
@@ -112,11 +135,12 @@ pub fn stand_all<
     ensures count { vec_len result.duties ≤ vec_len posts }
     ensures all { result.all_begun ≡ true → vec_len result.duties ≡ vec_len posts }
     ensures failed { All (λ duty. TellsFailure K.failed duty.sitting) result.duties.items }
+    ensures looks { LooksOn (B.seat onlooker) (B.seat result.onlooker) }
 {
     thread::scope(
         thread::scope_env(),
         rt,
-        move |scope| -> Stood<L, Q>
+        move |scope| -> Stood<L, Q, B>
             requires { IsSync T.row × IsSend L.row × IsSync L.row × IsSend Q.row × IsSend X.row × IsSend K.row × IsSync K.row × IsSend I.row
                 × IsSend O.row × IsSend G.row × IsSend C.row × IsSend P.row × IsSync E.row × (vec_len duties ≡ 0) × (vec_len posts ≤ vec_capacity duties) }
             ensures on_duty { AreOnDuty K.kept (take (vec_len result.duties) (map (λ post. P.coming post.port) posts.items))
@@ -125,6 +149,7 @@ pub fn stand_all<
             ensures count { vec_len result.duties ≤ vec_len posts }
             ensures all { result.all_begun ≡ true → vec_len result.duties ≡ vec_len posts }
             ensures failed { All (λ duty. TellsFailure K.failed duty.sitting) result.duties.items }
+            ensures looks { LooksOn (B.seat onlooker) (B.seat result.onlooker) }
         {
             let (mut handles, mut all_begun) = handles_for(alloc, posts.len());
             // What runs in a thread holds each type that it names.
@@ -148,7 +173,7 @@ pub fn stand_all<
                         ensures failed { TellsFailure K.failed result.sitting }
                     {
                         let _types = types;
-                        serve_in_turn(rt, alloc, counter, closing, post)
+                        serve_in_turn(rt, alloc, context, closing, post)
                     },
                 );
                 match spawned.ok() {
@@ -159,9 +184,11 @@ pub fn stand_all<
                     }
                 }
             }
+            let onlooker = look_on(rt, alloc, closing, onlooker);
             Stood {
                 duties: join_all(rt, handles, duties),
                 all_begun,
+                onlooker,
             }
         },
     )

@@ -1,18 +1,20 @@
 //! A centre that stays up until its end is asked for.
 
-ghost use Rattle.std.specs.Prelude.{◌≡◌, ◌≢◌, ◌↔◌, ◌≤◌, ◌<◌, [], List, None, Some, All, false, take, map, length, vec_len, vec_capacity, IsTrue, IsErrAnd, IfOk, IfErr, IfSome, OnOk};
+ghost use Rattle.std.specs.Prelude.{◌≡◌, ◌≢◌, ◌↔◌, ◌≤◌, ◌<◌, ◌+◌, ◌^◌, ◌++◌, [], List, None, Some, All, false, take, map, length, vec_len, vec_capacity, IsTrue, IsErrAnd, IfOk, IfErr, IfSome, OnOk, option_to_list};
 ghost use Rattle.std.specs.List.{list_any};
 ghost use Rattle.rbc_model.specs.Histories.{IsLegal};
 ghost use Rattle.rbc_server.specs.Connections.{OneKnows};
 ghost use Rattle.rbc_server.specs.Later.{IsLater};
-ghost use Rattle.rbc_server.specs.Records.{HistoryOnTrack};
+ghost use Rattle.rbc_server.specs.Looking.{LooksOn};
+ghost use Rattle.rbc_server.specs.Records.{begin_of, HistoryOnTrack};
 ghost use Rattle.rbc_server.specs.declared.serving.ServeFault.TheVariants.{Port as PortFault, Write as WriteFault, Memory as NoMemory, Journal as JournalFault};
 ghost use Rattle.rbc_duty.specs.Stays.{AreRelieved, IsStayed, IsStayFault, StandsRelieved, duty_fault};
 
 use crate::{Duty, Post, Stood, stand_all};
 use rbc_port::{Client, Clients, Closing};
 use rbc_server::{
-    Counter, Desk, DeskName, Keeper, OpenGate, Record, Seat, ServeFault, Sight, Sitting, close_desk,
+    Desk, DeskName, Keeper, Onlooker, OpenGate, Record, Seat, ServeFault, SessionContext, Sight,
+    Sitting, close_desk,
 };
 use rbc_streams::{Sink, Source};
 use std::alloc::{AllocError, Global};
@@ -36,6 +38,7 @@ fn part_all<L: DeskName, Q: Drop>(duties: Vec<Duty<L, Q>>, room: Parted<L, Q>) -
     requires room_for_pens { vec_len duties ≤ vec_capacity room.pens }
     ensures seats { result.seats.items ≡ map (λ duty. duty.sitting.seat) duties.items }
     ensures pens { result.pens.items ≡ map (λ duty. duty.sitting.pen) duties.items }
+    ensures room { vec_capacity result.seats ≡ vec_capacity room.seats }
 {
     let Parted {
         mut seats,
@@ -86,34 +89,36 @@ struct Room<L: DeskName, Q> {
     parted: Parted<L, Q>,
 }
 
-/// Room for this number of duties.
+/// Room for this number of duties, and for one seat more.
 ///
 /// # Errors
 ///
 /// The allocator refuses memory.
 fn room_for<L: DeskName, Q: Drop>(alloc: Global, count: usize) -> Result<Room<L, Q>, AllocError>
+    requires { count < 2 ^ 63 }
     ensures duties { IfOk result (λ room. (vec_len room.duties ≡ 0) × (vec_capacity room.duties ≡ count)) }
-    ensures seats { IfOk result (λ room. (vec_len room.parted.seats ≡ 0) × (vec_capacity room.parted.seats ≡ count)) }
+    ensures seats { IfOk result (λ room. (vec_len room.parted.seats ≡ 0) × (vec_capacity room.parted.seats ≡ count + 1)) }
     ensures pens { IfOk result (λ room. (vec_len room.parted.pens ≡ 0) × (vec_capacity room.parted.pens ≡ count)) }
 {
     Ok(Room {
         duties: Vec::with_capacity(alloc, count)?,
         parted: Parted {
-            seats: Vec::with_capacity(alloc, count)?,
+            seats: Vec::with_capacity(alloc, count + 1)?,
             pens: Vec::with_capacity(alloc, count)?,
         },
     })
 }
 
-/// The seats and the pens of those that were on duty, each in order, and why the centre may not end well.
+/// The seats and the pens of those that were on duty, each in order, why the centre may not end well, and who looked on.
 #[derive(Drop)]
-struct Relieved<L: DeskName, Q> {
+struct Relieved<L: DeskName, Q, B> {
     parted: Parted<L, Q>,
     fault: Option<ServeFault>,
+    onlooker: B,
 }
 
 /// Where there was no room for any duty.
-fn none_relieved<L: DeskName, Q>(alloc: Global) -> Relieved<L, Q>
+fn none_relieved<L: DeskName, Q, B>(alloc: Global, onlooker: B) -> Relieved<L, Q, B>
     ensures pens { result.parted.pens.items ≡ [] }
     ensures fault { result.fault ≡ Some NoMemory }
 {
@@ -123,6 +128,7 @@ fn none_relieved<L: DeskName, Q>(alloc: Global) -> Relieved<L, Q>
             pens: Vec::new(alloc),
         },
         fault: Some(ServeFault::Memory),
+        onlooker,
     }
 }
 
@@ -142,31 +148,52 @@ fn attend<
     G: Send + Drop,
     C: Client<Reader = I, Writer = O, Gone = G> + Send + Drop,
     P: Clients<Each = C> + Send + Drop,
+    B: Onlooker<L> + Drop,
     E: Closing + Sync,
     T: Threads + Wait + Clock + Eprint + Sync,
 >(
     rt: &T,
     alloc: Global,
-    counter: &Counter<'a, L, K, OpenGate, T>,
+    context: &SessionContext<'a, L, K, OpenGate, T>,
     closing: &E,
     posts: Vec<Post<L, Q, P>>,
-) -> Relieved<L, Q>
+    onlooker: B,
+) -> Relieved<L, Q, B>
     ensures relieved { result.fault ≡ None → AreRelieved K.kept (map (λ post. P.coming post.port) posts.items)
         (map (λ post. post.sitting) posts.items) result.parted.seats.items result.parted.pens.items }
     ensures count { result.fault ≡ None → vec_len result.parted.seats ≡ vec_len posts }
     ensures stands { IfSome result.fault (StandsRelieved K.kept (map (λ post. P.coming post.port) posts.items)
         (map (λ post. post.sitting) posts.items) result.parted.pens.items) }
     ensures journal { result.fault ≡ Some JournalFault → OneKnows K.failed result.parted.pens.items }
+    ensures looks { result.fault ≡ None → LooksOn (B.seat onlooker) (B.seat result.onlooker) }
+    ensures room { result.fault ≡ None → vec_len result.parted.seats < vec_capacity result.parted.seats }
 {
     let Ok(Room { duties, parted }) = room_for(alloc, posts.len()) else {
-        return none_relieved(alloc);
+        return none_relieved(alloc, onlooker);
     };
-    let Stood { duties, all_begun } = stand_all(rt, alloc, counter, closing, posts, duties);
+    let Stood {
+        duties,
+        all_begun,
+        onlooker,
+    } = stand_all(rt, alloc, context, closing, posts, duties, onlooker);
     let fault = fault_in(all_begun, duties.as_slice());
     Relieved {
         parted: part_all(duties, parted),
         fault,
+        onlooker,
     }
+}
+
+/// These seats, and that of an onlooker behind them, in the room that is there for it.
+fn with_looker<L: DeskName>(mut seats: Vec<Seat<L>>, looker: Option<Seat<L>>) -> Vec<Seat<L>>
+    requires { vec_len seats < vec_capacity seats }
+    ensures seats { result.items ≡ seats.items ++ option_to_list looker }
+    ensures some { vec_len seats ≤ vec_len result }
+{
+    if let Some(looker) = looker {
+        seats.push_reserved(looker);
+    }
+    seats
 }
 
 /// The last moment of the desk's history that one of these seats was told: by then it has all that any of them was told.
@@ -205,10 +232,19 @@ pub struct Unstayed<Q> {
     pub pens: Vec<Q>,
 }
 
-/// Serves the clients that come to each of these posts at a desk, until the end is asked for; then closes the desk, and prints
-/// how many entries the record has. Each post serves its clients one after the other, in a thread of its own. A fault of a
-/// session ends its connection, and no other. A reply that tells of an entry is written once the request that led to it is kept.
-/// The desk is ended on each way out.
+/// Who has the seats of a desk that stays up.
+#[derive(Drop)]
+pub struct Company<L: DeskName, Q, P, B> {
+    /// The posts, in order.
+    pub posts: Vec<Post<L, Q, P>>,
+    /// Who looks on, or nobody.
+    pub onlooker: B,
+}
+
+/// Serves the clients that come to each post of this company at a desk, until the end is asked for, while its onlooker looks at it; then
+/// closes the desk, and prints how many entries the record has. Each post serves its clients one after the other, in a thread of
+/// its own. A fault of a session ends its connection, and no other. A reply that tells of an entry is written once the request
+/// that led to it is kept. The desk is ended on each way out.
 ///
 /// # Errors
 ///
@@ -228,6 +264,7 @@ pub fn stay<
     G: Send + Drop,
     C: Client<Reader = I, Writer = O, Gone = G> + Send + Drop,
     P: Clients<Each = C> + Send + Drop,
+    B: Onlooker<L> + Drop,
     E: Closing + Sync,
     W: Sink,
     T: Threads + Wait + Clock + Eprint + Sync,
@@ -237,23 +274,26 @@ pub fn stay<
     keeper: &K,
     closing: &E,
     desk: Desk<L>,
-    posts: Vec<Post<L, Q, P>>,
+    company: Company<L, Q, P, B>,
     writer: &mut W,
 ) -> Result<Stayed<Q>, Unstayed<Q>>
     requires going { W.failed writer.old ≡ false }
-    requires some { 1 ≤ vec_len posts }
+    requires some { 1 ≤ vec_len company.posts }
 
     // The record goes on from the one at the desk's opening, and is legal.
     ensures grown { IfOk result (λ stayed. take (length L.opened.entries) stayed.record.entries ≡ L.opened.entries) }
     ensures track { IfOk result (λ stayed. stayed.record.track ≡ L.opened.track) }
-    ensures legal { IfOk result (λ stayed. IsLegal stayed.record.track stayed.record.entries) }
+    ensures begin { IfOk result (λ stayed. stayed.record.begin ≡ L.opened.begin) }
+    ensures most { IfOk result (λ stayed. stayed.record.most ≡ L.opened.most) }
+    ensures legal { IfOk result (λ stayed. IsLegal (begin_of stayed.record) stayed.record.entries) }
 
     // The clients that came to each seat, in order, were served from it, each from what the one before left: what each said was
     // answered to it, line by line. None that was accepted is left out, and none was served twice. What led to the entries that
     // it was told of is kept, by what the pens that come back know. The receipts of all these clients are the entries since the
-    // desk was opened. What was written tells how many entries the record has.
-    ensures stayed { IfOk result (λ stayed. IsStayed K.kept L.opened (map (λ post. P.coming post.port) posts.items)
-        (map (λ post. post.sitting) posts.items) stayed.pens.items (W.written writer.old) (W.written writer.new) stayed.record) }
+    // desk was opened: the seat of the onlooker, which is closed with theirs, has gained none. What was written tells how many
+    // entries the record has.
+    ensures stayed { IfOk result (λ stayed. IsStayed K.kept L.opened (map (λ post. P.coming post.port) company.posts.items)
+        (map (λ post. post.sitting) company.posts.items) (B.seat company.onlooker) stayed.pens.items (W.written writer.old) (W.written writer.new) stayed.record) }
     ensures handed_on { OnOk result (W.held_back writer.new ≡ []) }
 
     // The record is what was told of it, or goes on from that.
@@ -268,24 +308,31 @@ pub fn stay<
     ensures journal_failed { IfErr result (λ unstayed. unstayed.fault ≡ JournalFault → OneKnows K.failed unstayed.pens.items) }
     ensures write { IsErrAnd result (λ unstayed. unstayed.fault ≡ WriteFault) ↔ IsTrue (W.failed writer.new) }
 
-    // What stands behind a fault: the seats were on duty as above, but not those for which no thread could be started, nor any
-    // behind them; and the pens are theirs. Where a port was lost, no more clients come by it, where it is known who comes. Behind
-    // a write fault a part of the last line is written, from its start.
-    ensures fault { IfErr result (λ unstayed. IsStayFault K.kept L.opened L.parts (map (λ post. P.coming post.port) posts.items)
-        (map (λ post. post.sitting) posts.items) unstayed.pens.items (W.written writer.old) (W.written writer.new) unstayed.fault) }
+    // What stands behind a fault: the seats were on duty, and the clients that came to them were served, but for the seats for
+    // which no thread could be started, and any behind them; and the pens are of those on duty. Where a port was lost, no more
+    // clients come by it, where it is known who comes. Behind a write fault a part of the last line is written, from its start.
+    ensures fault { IfErr result (λ unstayed. IsStayFault K.kept L.opened L.parts (map (λ post. P.coming post.port) company.posts.items)
+        (map (λ post. post.sitting) company.posts.items) (B.seat company.onlooker) unstayed.pens.items (W.written writer.old) (W.written writer.new) unstayed.fault) }
 {
-    let Relieved { parted, fault } = attend(
+    let Company { posts, onlooker } = company;
+    let Relieved {
+        parted,
+        fault,
+        onlooker,
+    } = attend(
         rt,
         alloc,
-        &Counter::new(&desk, keeper, &OpenGate, rt),
+        &SessionContext::new(&desk, keeper, &OpenGate, rt),
         closing,
         posts,
+        onlooker,
     );
     let Parted { seats, pens } = parted;
     if let Some(fault) = fault {
         desk.end(rt);
         return Err(Unstayed { fault, pens });
     }
+    let seats = with_looker(seats, onlooker.into_seat());
     let told = last_sight(seats.as_slice());
     match close_desk(rt, desk, seats, writer) {
         Ok(record) => Ok(Stayed { record, told, pens }),

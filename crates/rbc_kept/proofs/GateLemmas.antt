@@ -20,8 +20,7 @@ use Rattle.rbc_model.specs.Results.{◌>>=◌}
 use Rattle.rbc_model.specs.Sessions.{lines_of, with_front}
 use Rattle.rbc_model.specs.SessionText.{SessionLine, Blank, words_line}
 use Rattle.rbc_model.specs.SessionReply.{BadLine}
-use Rattle.rbc_model.specs.Tracks.{Track}
-use Rattle.rbc_model.specs.Histories.{Entry}
+use Rattle.rbc_model.specs.Histories.{Beginning, Entry}
 use Rattle.rbc_model.specs.Words.{without_return, words_of, is_blank, is_text}
 use Rattle.rbc_session_laws.specs.Answers.{Answer, demand_answer, line_answer, turns_of}
 use Rattle.rbc_session_laws.specs.Demands.{looked_up}
@@ -56,10 +55,10 @@ request_words-gate line short =
     let behind : nat_lt LONGEST_LINE (length (32 ∷ line)) ≡ false = grind arith in
     ap₂ words_read behind (without_return-gate line) ∙ ap (λ long. words_read long (without_return line)) (sym (fits (length line) short))
 
-line_answer-gate : (track : Track) (before : List Entry) (line : List ℕ) → length line < LONGEST_LINE → line_answer track before (32 ∷ line) ≡ line_answer track before line
+line_answer-gate : (begin : Beginning) (before : List Entry) (line : List ℕ) → length line < LONGEST_LINE → line_answer begin before (32 ∷ line) ≡ line_answer begin before line
 unfolding line_answer
-line_answer-gate track before line short =
-    ap (λ read. demand_answer track before (result_map_both (λ said. said) BadLine (read >>= (λ found. words_or_blank found)) >>= looked_up track)) (request_words-gate line short)
+line_answer-gate begin before line short =
+    ap (λ read. demand_answer begin before (result_map_both (λ said. said) BadLine (read >>= (λ found. words_or_blank found)) >>= looked_up begin.track)) (request_words-gate line short)
   where
     words_or_blank : Option (List (List ℕ)) → Result SessionLine LineFault
     words_or_blank found = option_map_or words_line found (Ok Blank)
@@ -110,45 +109,45 @@ comment_read rest short =
 no_comment : is_comment [] ≡ true → ⊥
 no_comment e = cc
 
-module _ (track : Track) where
-  nothing_said : (before : List Entry) → (line_answer track before (35 ∷ [])).added ≡ None
+module _ (begin : Beginning) where
+  nothing_said : (before : List Entry) → (line_answer begin before (35 ∷ [])).added ≡ None
   unfolding line_answer
   nothing_said before = refl
 
-  comment_added : (before : List Entry) (rest : List ℕ) → length (35 ∷ rest) < LONGEST_LINE → (line_answer track before (32 ∷ 35 ∷ rest)).added ≡ None
+  comment_added : (before : List Entry) (rest : List ℕ) → length (35 ∷ rest) < LONGEST_LINE → (line_answer begin before (32 ∷ 35 ∷ rest)).added ≡ None
   unfolding line_answer
   comment_added before rest short =
-      ap (λ (a : Answer). a.added) (line_answer-gate track before (35 ∷ rest) short)
-      ∙ ap (λ read. (demand_answer track before (result_map_both (λ said. said) BadLine (read >>= (λ found. option_map_or words_line found (Ok Blank))) >>= looked_up track)).added) (comment_read rest short)
+      ap (λ (a : Answer). a.added) (line_answer-gate begin before (35 ∷ rest) short)
+      ∙ ap (λ read. (demand_answer begin before (result_map_both (λ said. said) BadLine (read >>= (λ found. option_map_or words_line found (Ok Blank))) >>= looked_up begin.track)).added) (comment_read rest short)
 
-  commented : (before : List Entry) (line : List ℕ) → is_comment line ≡ true → length line < LONGEST_LINE → (line_answer track before (32 ∷ line)).added ≡ None
+  commented : (before : List Entry) (line : List ℕ) → is_comment line ≡ true → length line < LONGEST_LINE → (line_answer begin before (32 ∷ line)).added ≡ None
   commented before [] is short = absurd (no_comment is)
   commented before (first ∷ rest) is short =
       let mark : first ≡ 35 = grind (arith, nat_tests) in
-      subst (λ (byte : ℕ). (line_answer track before (32 ∷ byte ∷ rest)).added ≡ None) (sym mark)
+      subst (λ (byte : ℕ). (line_answer begin before (32 ∷ byte ∷ rest)).added ≡ None) (sym mark)
       (comment_added before rest (omega (arith, short)))
 
   abbrev Leads : List Entry → List (List ℕ) → List Entry → Type 0
-  Leads before lines entries = entries_added (turns_of track before (map (λ line. 32 ∷ line) lines ++ (35 ∷ []) ∷ [])) ≡ entries
+  Leads before lines entries = entries_added (turns_of begin before (map (λ line. 32 ∷ line) lines ++ (35 ∷ []) ∷ [])) ≡ entries
 
   -- a line, and those behind it
   by_line : (b : Bool) (before : List Entry) (line : List ℕ) (lines : List (List ℕ)) (entries : List Entry) → is_comment line ≡ b → length line < LONGEST_LINE
-      → ((front rest : List Entry) → Tells (Adds track) front (told_of lines) rest → Leads front lines rest)
-      → Tells (Adds track) before (cond (not b) (line ∷ told_of lines) (told_of lines)) entries → Leads before (line ∷ lines) entries
+      → ((front rest : List Entry) → Tells (Adds begin) front (told_of lines) rest → Leads front lines rest)
+      → Tells (Adds begin) before (cond (not b) (line ∷ told_of lines) (told_of lines)) entries → Leads before (line ∷ lines) entries
   unfolding turns_of
   by_line true before line lines entries is short behind told = rw (commented before line is short, append-nil before) (behind before entries told)
   by_line false before line lines entries is short behind (entry, rest, same, adds, later) =
-      let said : (line_answer track before (32 ∷ line)).added ≡ Some entry = ap (λ (a : Answer). a.added) (line_answer-gate track before line short) ∙ adds in
+      let said : (line_answer begin before (32 ∷ line)).added ≡ Some entry = ap (λ (a : Answer). a.added) (line_answer-gate begin before line short) ∙ adds in
       rw said (ap (λ (l : List Entry). entry ∷ l) (behind (before ++ entry ∷ []) rest later) ∙ sym same)
 
   leads : (before : List Entry) (lines : List (List ℕ)) (entries : List Entry) → AllByRecursion (λ line. length line < LONGEST_LINE) lines
-      → Tells (Adds track) before (told_of lines) entries → Leads before lines entries
+      → Tells (Adds begin) before (told_of lines) entries → Leads before lines entries
   unfolding turns_of
   leads before [] entries short told = rw (nothing_said before) (sym told)
   leads before (line ∷ lines) entries short told =
       by_line (is_comment line) before line lines entries refl short.0 (λ front rest lead. leads front lines rest short.1 lead) told
 
 pub journals_are_sessions : JournalsAreSessions
-journals_are_sessions track lines entries are short told =
-    ap (λ (all : List (List ℕ)). entries_added (turns_of track [] all)) (same_lines (at_rest lines) ∙ at_rest_lines lines are)
-    ∙ leads track [] lines entries (recursion_from_All (λ line. length line < LONGEST_LINE) lines short) told
+journals_are_sessions begin lines entries are short told =
+    ap (λ (all : List (List ℕ)). entries_added (turns_of begin [] all)) (same_lines (at_rest lines) ∙ at_rest_lines lines are)
+    ∙ leads begin [] lines entries (recursion_from_All (λ line. length line < LONGEST_LINE) lines short) told

@@ -6,11 +6,10 @@ use Rattle.std.proofs.lemmas.Bool.{both_ways, ltb-true, lt-ltb}
 use Rattle.rbc_journal.specs.Device.{LeavesOnly}
 use Rattle.rbc_journal.specs.Journal.{recovered, IsBeforeOrAfter}
 use Rattle.rbc_journal.specs.Settled.{staged}
-use Rattle.rbc_model.specs.Histories.{Entry}
+use Rattle.rbc_model.specs.Histories.{Beginning, Entry}
 use Rattle.rbc_model.specs.SoundTracks.{IsInForm}
-use Rattle.rbc_model.specs.Tracks.{Track}
 use Rattle.rbc_server.specs.Changes.{Goes}
-use Rattle.rbc_server.specs.Records.{HistoryOnTrack}
+use Rattle.rbc_server.specs.Records.{begin_of, HistoryOnTrack}
 use Rattle.rbc_kept.specs.Adds.{Adds}
 use Rattle.rbc_kept.specs.Advances.{Advances, LeavesWritten, IsSaid, IsTreated, Rests, Writes}
 use Rattle.rbc_kept.specs.Kept.{IsFrom, IsGoing, IsReady, TellsRecord}
@@ -22,8 +21,8 @@ use Rattle.rbc_kept.proofs.BetweenLemmas.{staged_from, weaker}
 use Rattle.rbc_kept.proofs.TellingLemmas.{one_more}
 
 -- what the file and some lines behind it tell
-abbrev Told : Track → List (List ℕ) → List (List ℕ) → List Entry → Type 0
-Told track lines behind entries = Tells (Adds track) [] (lines ++ behind) entries
+abbrev Told : Beginning → List (List ℕ) → List (List ℕ) → List Entry → Type 0
+Told begin lines behind entries = Tells (Adds begin) [] (lines ++ behind) entries
 
 -- ---- the record is told
 
@@ -32,24 +31,24 @@ module _ {D : Type 0} (seen : D → List ℕ) where
   pub told_still : (first now : Kept D) → TellsRecord seen first → now.history ≡ first.history → now.journal.device ≡ first.journal.device
       → staged now.journal ≡ staged first.journal → TellsRecord seen now
   told_still first now told same device lines =
-      subst (λ (h : HistoryOnTrack). Told h.track (recovered (seen now.journal.device)) (staged now.journal) h.entries) (sym same)
-      (subst (λ (d : D). Told first.history.track (recovered (seen d)) (staged now.journal) first.history.entries) (sym device)
-      (subst (λ (ls : List (List ℕ)). Told first.history.track (recovered (seen first.journal.device)) ls first.history.entries) (sym lines) told))
+      subst (λ (h : HistoryOnTrack). Told (begin_of h) (recovered (seen now.journal.device)) (staged now.journal) h.entries) (sym same)
+      (subst (λ (d : D). Told (begin_of first.history) (recovered (seen d)) (staged now.journal) first.history.entries) (sym device)
+      (subst (λ (ls : List (List ℕ)). Told (begin_of first.history) (recovered (seen first.journal.device)) ls first.history.entries) (sym lines) told))
 
   grown_told : (first now : Kept D) (line text said : List ℕ) → IsInForm first.history.track → IsTreated first.history now.history line text said → TellsRecord seen first
       → now.journal.device ≡ first.journal.device → length first.history.entries < length now.history.entries → staged now.journal ≡ staged first.journal ++ text ∷ [] → TellsRecord seen now
   grown_told first now line text said form treated told device more lines =
       let g = grown first.history now.history line said treated.goes more in
-      let track = first.history.track in
+      let begin = begin_of first.history in
       let entries = first.history.entries in
       let file = recovered (seen first.journal.device) in
-      let adds = same_adds track entries line text g.0 treated.says (adds_of track entries line said g.0 form g.1) in
-      let one : Told track file (staged first.journal ++ text ∷ []) (entries ++ g.0 ∷ []) =
-      subst (λ (ls : List (List ℕ)). Tells (Adds track) [] ls (entries ++ g.0 ∷ [])) (append_assoc file (staged first.journal) (text ∷ []))
-      (one_more (Adds track) [] (file ++ staged first.journal) entries text g.0 told adds) in
-      subst (λ (h : HistoryOnTrack). Told h.track (recovered (seen now.journal.device)) (staged now.journal) h.entries) (sym g.2)
-      (subst (λ (d : D). Told track (recovered (seen d)) (staged now.journal) (entries ++ g.0 ∷ [])) (sym device)
-      (subst (λ (ls : List (List ℕ)). Told track file ls (entries ++ g.0 ∷ [])) (sym lines) one))
+      let adds = same_adds begin entries line text g.0 treated.says (adds_of begin entries line said g.0 form g.1) in
+      let one : Told begin file (staged first.journal ++ text ∷ []) (entries ++ g.0 ∷ []) =
+      subst (λ (ls : List (List ℕ)). Tells (Adds begin) [] ls (entries ++ g.0 ∷ [])) (append_assoc file (staged first.journal) (text ∷ []))
+      (one_more (Adds begin) [] (file ++ staged first.journal) entries text g.0 told adds) in
+      subst (λ (h : HistoryOnTrack). Told (begin_of h) (recovered (seen now.journal.device)) (staged now.journal) h.entries) (sym g.2)
+      (subst (λ (d : D). Told begin (recovered (seen d)) (staged now.journal) (entries ++ g.0 ∷ [])) (sym device)
+      (subst (λ (ls : List (List ℕ)). Told begin file ls (entries ++ g.0 ∷ [])) (sym lines) one))
 
   by_version : (first now : Kept D) (line text said : List ℕ) (version : ℕ) (is_added : Bool) → IsInForm first.history.track → version ≡ length first.history.entries
       → IsTreated first.history now.history line text said → TellsRecord seen first → now.journal.device ≡ first.journal.device → nat_lt version (length now.history.entries) ≡ is_added
@@ -103,8 +102,8 @@ module _ {D : Type 0} (seen : D → List ℕ) (may_leave : D → List ℕ → Ty
         record {
           whole = works;
           settled = s.0;
-          told = subst (λ (h : HistoryOnTrack). Tells (Adds h.track) [] (recovered (seen next.journal.device) ++ staged next.journal) h.entries) (sym said.history)
-              (subst (λ (ls : List (List ℕ)). Tells (Adds now.history.track) [] ls now.history.entries) (sym lines) told);
+          told = subst (λ (h : HistoryOnTrack). Tells (Adds (begin_of h)) [] (recovered (seen next.journal.device) ++ staged next.journal) h.entries) (sym said.history)
+              (subst (λ (ls : List (List ℕ)). Tells (Adds (begin_of now.history)) [] ls now.history.entries) (sym lines) told);
           few = subst (λ n. n < MOST_TOGETHER) (sym writes.none_rests) (lit< tt);
           holds = s.1;
           none_rests = λ zero. (none, writes.none_held);
@@ -116,17 +115,17 @@ module _ {D : Type 0} (seen : D → List ℕ) (may_leave : D → List ℕ → Ty
     goes_next : Goes first.history line reply next.history
     goes_next = subst (λ (h : HistoryOnTrack). Goes first.history line reply h) (sym said.history) goes
 
-    same_track : now.history.track ≡ first.history.track
-    same_track = ap (λ (h : HistoryOnTrack). h.track) goes.2
+    same_begin : begin_of now.history ≡ begin_of first.history
+    same_begin = ap begin_of goes.2
 
     leaves_now : LeavesWritten seen may_leave moment left_since faults first next
     leaves_now =
-        subst (λ (d : D). LeavesOnly moment left_since d next.journal.device (IsFrom (Adds first.history.track) (length (recovered (seen d))) next.history.entries)) device
-        (subst (λ t. LeavesOnly moment left_since now.journal.device next.journal.device (IsFrom (Adds t) (length (recovered (seen now.journal.device))) next.history.entries)) same_track
-        (subst (λ (h : HistoryOnTrack). LeavesOnly moment left_since now.journal.device next.journal.device (IsFrom (Adds now.history.track) (length (recovered (seen now.journal.device))) h.entries)) (sym said.history)
+        subst (λ (d : D). LeavesOnly moment left_since d next.journal.device (IsFrom (Adds (begin_of first.history)) (length (recovered (seen d))) next.history.entries)) device
+        (subst (λ t. LeavesOnly moment left_since now.journal.device next.journal.device (IsFrom (Adds t) (length (recovered (seen now.journal.device))) next.history.entries)) same_begin
+        (subst (λ (h : HistoryOnTrack). LeavesOnly moment left_since now.journal.device next.journal.device (IsFrom (Adds (begin_of now.history)) (length (recovered (seen now.journal.device))) h.entries)) (sym said.history)
         (weaker moment left_since now.journal.device next.journal.device (IsBeforeOrAfter (recovered (seen now.journal.device)) (staged now.journal))
-        (IsFrom (Adds now.history.track) (length (recovered (seen now.journal.device))) now.history.entries)
-        (λ c left. staged_from (Adds now.history.track) c (recovered (seen now.journal.device)) (staged now.journal) now.history.entries told left) said.any_moment)))
+        (IsFrom (Adds (begin_of now.history)) (length (recovered (seen now.journal.device))) now.history.entries)
+        (λ c left. staged_from (Adds (begin_of now.history)) c (recovered (seen now.journal.device)) (staged now.journal) now.history.entries told left) said.any_moment)))
 
     answered_now : next.has_failed ≡ false
         → (Rests now reply text next × (staged next.journal ≡ staged now.journal) × (next.resting < MOST_TOGETHER))
@@ -175,7 +174,7 @@ module _ {D : Type 0} (seen : D → List ℕ) (may_leave : D → List ℕ → Ty
       later = let same_faults = ap faults device in let later = said.later in omega (arith, same_faults, later);
     }
 
-  -- the same where the line was refused before anything changed
+  -- a line that is refused before anything changes is answered as by the record alone
   pub unchanged : (now next : Kept D) (line reply text : List ℕ) → IsGoing seen may_leave now → Goes now.history line reply now.history → Said now reply text next
       → Advances seen may_leave moment left_since faults now line text next
   unchanged now next line reply text going goes said = advances now now next line reply text going goes going.told refl refl refl said
@@ -187,7 +186,7 @@ module _ {D : Type 0} (seen : D → List ℕ) (may_leave : D → List ℕ → Ty
   ready_goes kept ready = record {
     whole = ready.whole;
     settled = ready.is_kept.settled;
-    told = subst (λ (ls : List (List ℕ)). Tells (Adds kept.history.track) [] ls kept.history.entries)
+    told = subst (λ (ls : List (List ℕ)). Tells (Adds (begin_of kept.history)) [] ls kept.history.entries)
         (sym (ap (λ (l : List (List ℕ)). recovered (seen kept.journal.device) ++ l) ready.is_kept.none_waits ∙ append-nil (recovered (seen kept.journal.device)))) ready.is_kept.told;
     few = subst (λ n. n < MOST_TOGETHER) (sym ready.none_rests) (lit< tt);
     holds = ready.holds;
@@ -202,7 +201,7 @@ module _ {D : Type 0} (seen : D → List ℕ) (may_leave : D → List ℕ → Ty
         is_kept = record {
           settled = going.settled;
           none_waits = both.0;
-          told = subst (λ (ls : List (List ℕ)). Tells (Adds kept.history.track) [] ls kept.history.entries)
+          told = subst (λ (ls : List (List ℕ)). Tells (Adds (begin_of kept.history)) [] ls kept.history.entries)
               (ap (λ (l : List (List ℕ)). recovered (seen kept.journal.device) ++ l) both.0 ∙ append-nil (recovered (seen kept.journal.device))) going.told;
         };
         none_rests = none;

@@ -4,10 +4,9 @@ use Rattle.std.specs.Prelude.{slice_get}
 use Rattle.std.proofs.lemmas.List.{take-take}
 use Rattle.std.proofs.lemmas.Option.{slice_get_within}
 use Rattle.rbc_server.specs.Later.{IsLater}
-use Rattle.rbc_server.specs.Records.{HistoryOnTrack}
+use Rattle.rbc_server.specs.Records.{begin_on, begin_of, HistoryOnTrack}
 use Rattle.rbc_journal.specs.Journal.{recovered}
-use Rattle.rbc_model.specs.Histories.{Entry}
-use Rattle.rbc_model.specs.Tracks.{Track}
+use Rattle.rbc_model.specs.Histories.{Beginning, Entry}
 use Rattle.rbc_model.proofs.BasicLemmas.{slice_get-from_take}
 use Rattle.rbc_scribe.specs.Told.{HasLines}
 use Rattle.rbc_kept.specs.Adds.{Adds}
@@ -31,14 +30,15 @@ module _ {A : Type 0} where
 pub tells_later : (a b : HistoryOnTrack) → IsLater a b → (place : ℕ) (line : List ℕ) → TellsEntry a place line → TellsEntry b place line
 tells_later a b later place line t =
     let n = length a.entries in
+    let same : begin_of b ≡ begin_of a = λ i. begin_on (later.track i) (later.begin i) (later.most i) in
     let opening : a.entries ≡ take n b.entries = sym later.opening in
     let below = slice_get_within a.entries place t.entry t.stands in
     let front : take place a.entries ≡ take place b.entries = ap (take place) opening ∙ take-take place n b.entries (omega (arith, below)) in
     record {
       entry = t.entry;
       stands = slice_get-from_take n b.entries place t.entry (subst (λ (l : List Entry). slice_get l place ≡ Some t.entry) opening t.stands);
-      adds = subst (λ (before : List Entry). Adds b.track before line t.entry) front
-          (subst (λ (track : Track). Adds track (take place a.entries) line t.entry) (sym later.track) t.adds);
+      adds = subst (λ (before : List Entry). Adds (begin_of b) before line t.entry) front
+          (subst (λ (begin : Beginning). Adds begin (take place a.entries) line t.entry) (sym same) t.adds);
     }
 
 pub tells_first : (history : HistoryOnTrack) (least : ℕ) (file : List ℕ) → HasLines (TellsEntry history) least file → TellsFirst history least file

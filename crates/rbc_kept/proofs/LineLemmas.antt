@@ -5,7 +5,7 @@ use Rattle.rbc_journal.specs.Journal.{IsTold}
 use Rattle.rbc_kept.proofs.AddingLemmas.{adds_said}
 use Rattle.rbc_kept.proofs.TreatingLemmas.{said_is_told}
 use Rattle.rbc_server.specs.Keeping.{AddsEntry}
-use Rattle.rbc_server.specs.Records.{HistoryOnTrack}
+use Rattle.rbc_server.specs.Records.{begin_of, HistoryOnTrack}
 use Rattle.rbc_model.proofs.SaidLineLemmas.{said_line_read}
 use Rattle.rbc_model.specs.declared.limits.TheConstants.{LONGEST_LINE}
 use Rattle.rbc_model.specs.declared.refusals.LineFault.{LineFault}
@@ -39,5 +39,5 @@ pub tells_asked : (history : HistoryOnTrack) (place : ℕ) (line : List ℕ) (sa
 tells_asked history place line said read asked = record {
   entry = asked.entry;
   stands = asked.stands;
-  adds = adds_said history.track (take place history.entries) line said asked.entry read asked.adds;
+  adds = adds_said (begin_of history) (take place history.entries) line said asked.entry read asked.adds;
 }

@@ -7,7 +7,7 @@ use Rattle.rbc_journal.specs.declared.journal.Journal.{Journal}
 use Rattle.rbc_kept.proofs.TellingLemmas.{as_many}
 use Rattle.rbc_kept.specs.Adds.{Adds}
 use Rattle.rbc_kept.specs.Kept.{IsKept}
-use Rattle.rbc_server.specs.Records.{HistoryOnTrack}
+use Rattle.rbc_server.specs.Records.{begin_of, HistoryOnTrack}
 use Rattle.rbc_kept.specs.Tells.{Tells}
 use Rattle.rbc_model.specs.Histories.{Entry}
 use Rattle.rbc_scribe.specs.Told.{AreTold}
@@ -36,9 +36,9 @@ module _ (adds : List Entry → List ℕ → Entry → Type 0) where
       )
 
 -- lines that tell a record tell its entries, each at its place
-pub are_told : (history : HistoryOnTrack) (lines : List (List ℕ)) → Tells (Adds history.track) [] lines history.entries → AreTold (TellsEntry history) lines
+pub are_told : (history : HistoryOnTrack) (lines : List (List ℕ)) → Tells (Adds (begin_of history)) [] lines history.entries → AreTold (TellsEntry history) lines
 are_told history lines told = λ place line here.
-    let found = by_place (Adds history.track) [] lines history.entries told place line here in
+    let found = by_place (Adds (begin_of history)) [] lines history.entries told place line here in
     record { entry = found.0; stands = found.1; adds = found.2 }
 
 module _ {D : Type 0} (seen : D → List ℕ) (may_leave : D → List ℕ → Type 0) (history : HistoryOnTrack) (journal : Journal D) (kept : IsKept seen may_leave history journal) where
@@ -49,7 +49,7 @@ module _ {D : Type 0} (seen : D → List ℕ) (may_leave : D → List ℕ → Ty
 
   -- there are as many lines as entries
   pub as_many_lines : length (recovered (seen journal.device)) ≡ length history.entries
-  as_many_lines = as_many (Adds history.track) [] (recovered (seen journal.device)) history.entries kept.told
+  as_many_lines = as_many (Adds (begin_of history)) [] (recovered (seen journal.device)) history.entries kept.told
 
   -- also by another name of the record
   pub as_many_opened : (opened : HistoryOnTrack) → history ≡ opened → length (recovered (seen journal.device)) ≡ length opened.entries

@@ -10,10 +10,9 @@ use Rattle.rbc_journal.specs.Settled.{IsSettled, staged}
 use Rattle.rbc_journal.specs.declared.journal.Journal.{Journal}
 use Rattle.rbc_model.specs.declared.sessions.Inquiry.{Inquiry}
 use Rattle.rbc_model.specs.declared.sessions.Inquiry.TheVariants.{State as AskedState, Scene as AskedScene}
-use Rattle.rbc_model.specs.Histories.{Entry, replay}
+use Rattle.rbc_model.specs.Histories.{Beginning, Entry, replay}
 use Rattle.rbc_model.specs.Inquiries.{inquiry_reply}
 use Rattle.rbc_model.specs.Sessions.{Prints, WritesText}
-use Rattle.rbc_model.specs.Tracks.{Track}
 use Rattle.rbc_session_laws.specs.Turns.{AnswersInquiry}
 use Rattle.rbc_kept.specs.Advances.{Holds, IsSaid}
 use Rattle.rbc_kept.specs.declared.kept.Kept.{Kept}
@@ -58,7 +57,7 @@ module _ {D : Type 0} (seen : D → List ℕ) (may_leave : D → List ℕ → Ty
     later = later;
   }
 
-  -- the same behind a try to let it rest
+  -- behind a try to let it rest it is written, or the journal fails
   pub said_settled : (before mid after : Kept D) (reply text : List ℕ) → mid.history ≡ before.history → mid.journal ≡ before.journal
       → mid.replies.bytes.items ≡ before.replies.bytes.items → after.history ≡ mid.history
       → (after.has_failed ≡ false → IsSettled seen may_leave after.journal × (recovered (seen after.journal.device) ≡ recovered (seen mid.journal.device) ++ staged mid.journal)
@@ -109,6 +108,6 @@ prints_behind a b c broken before failed held reply r whole first second =
     rw whole (record { text = then_text a b c held reply r first.text second.text; failed = second.failed })
 
 -- what is asked to be shown has a reply
-pub shown_itself : (track : Track) (entries : List Entry) (inquiry : Inquiry) → AnswersInquiry track entries (inquiry_reply track (length entries) (replay track entries) inquiry) None inquiry
-shown_itself track entries AskedState = (refl, refl)
-shown_itself track entries AskedScene = inl (refl, refl)
+pub shown_itself : (begin : Beginning) (entries : List Entry) (inquiry : Inquiry) → AnswersInquiry begin entries (inquiry_reply begin.track (length entries) (replay begin entries) inquiry) None inquiry
+shown_itself begin entries AskedState = (refl, refl)
+shown_itself begin entries AskedScene = inl (refl, refl)

@@ -16,7 +16,7 @@ use Rattle.rbc_model.specs.SoundTracks.{IsInForm}
 use Rattle.rbc_model.specs.Talks.{Answered, IsTalk}
 use Rattle.rbc_model.specs.Histories.{Entry}
 use Rattle.rbc_server.specs.Changes.{Goes}
-use Rattle.rbc_server.specs.Records.{HistoryOnTrack, history_on}
+use Rattle.rbc_server.specs.Records.{begin_of, HistoryOnTrack, history_on}
 use Rattle.rbc_server.specs.Answered.{AnswersAll}
 use Rattle.rbc_server.proofs.AnsweredLemmas.{session_answers}
 use Rattle.rbc_server.proofs.SessionLemmas.{AreRight, turned, session_turns}
@@ -51,20 +51,20 @@ answered_one : {State : Type 0} (Answers : State → List ℕ → List ℕ → S
     → Answered Answers first (line ∷ []) reply last
 answered_one Answers first last line reply step = (reply, [], last, step, sym (append-nil reply), (refl, refl))
 
--- a record grows, on its track
+-- a record grows, from the same beginning
 pub record Grows (before after : HistoryOnTrack) : Type 0 where
-  pub track : after.track ≡ before.track
+  pub begin : begin_of after ≡ begin_of before
   pub more : (some : List Entry) × (after.entries ≡ before.entries ++ some)
 
 grows_by : (before after : HistoryOnTrack) (line reply : List ℕ) → Goes before line reply after → Grows before after
 grows_by before after line reply (added, answers, is) = record {
-  track = ap (λ (h : HistoryOnTrack). h.track) is;
+  begin = ap begin_of is;
   more = (entries_of added, ap (λ (h : HistoryOnTrack). h.entries) is);
 }
 
 grows_on : (first mid last : HistoryOnTrack) → Grows first mid → Grows mid last → Grows first last
 grows_on first mid last a b = record {
-  track = b.track ∙ a.track;
+  begin = b.begin ∙ a.begin;
   more = (
     a.more.0 ++ b.more.0,
     b.more.1 ∙ ap (λ (l : List Entry). l ++ b.more.0) a.more.1 ∙ append_assoc first.entries a.more.0 b.more.0,
@@ -105,17 +105,17 @@ module _ {D : Type 0} (seen : D → List ℕ) (may_leave : D → List ℕ → Ty
         grows = grows_on first.history mid.history last.history a.grows b.grows;
         leaves =
             let more = b.grows.more in
-            further (Adds first.history.track) seen may_leave moment left_since only_now first.journal.device mid.journal.device last.journal.device
+            further (Adds (begin_of first.history)) seen may_leave moment left_since only_now first.journal.device mid.journal.device last.journal.device
             (on_disk first) (on_disk mid) mid.history.entries last.history.entries more.0 stays more.1 a.leaves
-            (subst (λ t. LeavesOnly moment left_since mid.journal.device last.journal.device (IsFrom (Adds t) (on_disk mid) last.history.entries)) a.grows.track b.leaves);
+            (subst (λ t. LeavesOnly moment left_since mid.journal.device last.journal.device (IsFrom (Adds t) (on_disk mid) last.history.entries)) a.grows.begin b.leaves);
         stays = λ works. let later = b.stays works in omega (arith, stays, later);
         later = omega (arith, a.later, b.later);
       }
 
   passes_none : (first : Kept D) → IsGoing seen may_leave first → Passes first first
   passes_none first going = record {
-    grows = record { track = refl; more = ([], sym (append-nil first.history.entries)) };
-    leaves = steady (Adds first.history.track) seen may_leave moment left_since only_now first.journal.device (staged first.journal) first.history.entries
+    grows = record { begin = refl; more = ([], sym (append-nil first.history.entries)) };
+    leaves = steady (Adds (begin_of first.history)) seen may_leave moment left_since only_now first.journal.device (staged first.journal) first.history.entries
         going.settled.durable going.told;
     stays = λ works. omega arith;
     later = omega arith;
@@ -131,18 +131,18 @@ module _ {D : Type 0} (seen : D → List ℕ) (may_leave : D → List ℕ → Ty
 
   -- between sessions all entries are on the disk
   all_on_disk : (kept : Kept D) → IsReady seen may_leave kept → on_disk kept ≡ length kept.history.entries
-  all_on_disk kept ready = as_many (Adds kept.history.track) [] (recovered (seen kept.journal.device)) kept.history.entries ready.is_kept.told
+  all_on_disk kept ready = as_many (Adds (begin_of kept.history)) [] (recovered (seen kept.journal.device)) kept.history.entries ready.is_kept.told
 
   pub leaves_in : (first last : Kept D) (input : List ℕ) (old new : Option (List ℕ)) (result : Result (Unit {0}) SessionFault) → IsReady seen may_leave first
       → IsTalk LONGEST_LINE Steps first last input old new result → Leaves seen may_leave moment left_since faults first last
   leaves_in first last input old new result ready talk =
       let p = passes first last talk.treated talk.text (ready_goes seen may_leave first ready) talk.answered in
-      subst (λ n. LeavesOnly moment left_since first.journal.device last.journal.device (IsFrom (Adds first.history.track) n last.history.entries)) (all_on_disk first ready) p.leaves
+      subst (λ n. LeavesOnly moment left_since first.journal.device last.journal.device (IsFrom (Adds (begin_of first.history)) n last.history.entries)) (all_on_disk first ready) p.leaves
 
-  pub track_in : (first last : Kept D) (input : List ℕ) (old new : Option (List ℕ)) (result : Result (Unit {0}) SessionFault) → IsReady seen may_leave first
-      → IsTalk LONGEST_LINE Steps first last input old new result → last.history.track ≡ first.history.track
-  track_in first last input old new result ready talk =
-      let p = passes first last talk.treated talk.text (ready_goes seen may_leave first ready) talk.answered in p.grows.track
+  pub begin_in : (first last : Kept D) (input : List ℕ) (old new : Option (List ℕ)) (result : Result (Unit {0}) SessionFault) → IsReady seen may_leave first
+      → IsTalk LONGEST_LINE Steps first last input old new result → begin_of last.history ≡ begin_of first.history
+  begin_in first last input old new result ready talk =
+      let p = passes first last talk.treated talk.text (ready_goes seen may_leave first ready) talk.answered in p.grows.begin
 
   -- ---- replies that rest
 
@@ -283,10 +283,10 @@ module _ {D : Type 0} (seen : D → List ℕ) (may_leave : D → List ℕ → Ty
     unanswered : Answered Goes mid lost said last.history
     some_lost : 0 < length lost
     few_lost : length lost ≤ MOST_TOGETHER
-    leaves : (c : List ℕ) → may_leave last.journal.device c → IsFrom (Adds one.history.track) (length mid.entries) last.history.entries c
+    leaves : (c : List ℕ) → may_leave last.journal.device c → IsFrom (Adds (begin_of one.history)) (length mid.entries) last.history.entries c
 
-  track_of : (first last : HistoryOnTrack) (lines : List (List ℕ)) (text : List ℕ) → Answered Goes first lines text last → last.track ≡ first.track
-  track_of first last lines text answered = let t = turned first last lines text answered in t.track
+  same_begin : (first last : HistoryOnTrack) (lines : List (List ℕ)) (text : List ℕ) → Answered Goes first lines text last → begin_of last ≡ begin_of first
+  same_begin first last lines text answered = let t = turned first last lines text answered in t.begin
 
   cut_in : (one now last : Kept D) (lines : List (List ℕ)) (text line said : List ℕ) → Along one now lines text → Steps now line said last → last.has_failed ≡ true
       → Cut one last (lines ++ line ∷ []) (text ++ said)
@@ -295,7 +295,7 @@ module _ {D : Type 0} (seen : D → List ℕ) (may_leave : D → List ℕ → Ty
       let few = a.going.few in
       let long = length-append a.resting (line ∷ []) in
       let count = a.count in
-      let track = track_of a.mid now.history a.resting now.replies.bytes.items a.unanswered ∙ track_of one.history a.mid a.front text a.answered in
+      let begin = same_begin a.mid now.history a.resting now.replies.bytes.items a.unanswered ∙ same_begin one.history a.mid a.front text a.answered in
       record {
         front = a.front;
         lost = a.resting ++ line ∷ [];
@@ -308,8 +308,8 @@ module _ {D : Type 0} (seen : D → List ℕ) (may_leave : D → List ℕ → Ty
         some_lost = omega (arith, long);
         few_lost = omega (arith, long, count, few);
         leaves = λ c left.
-            subst (λ t. IsFrom (Adds t) (length a.mid.entries) last.history.entries c) track
-            (subst (λ n. IsFrom (Adds now.history.track) n last.history.entries c) a.durable
+            subst (λ t. IsFrom (Adds t) (length a.mid.entries) last.history.entries c) begin
+            (subst (λ n. IsFrom (Adds (begin_of now.history)) n last.history.entries c) a.durable
             (step.any_moment.each c (counts_now last.journal.device (moment now.journal.device) c step.any_moment.later left)));
       }
 
@@ -329,7 +329,7 @@ module _ {D : Type 0} (seen : D → List ℕ) (may_leave : D → List ℕ → Ty
 
   pub cut_short : (first last : Kept D) (input : List ℕ) (old new : Option (List ℕ)) → IsReady seen may_leave first
       → IsTalk LONGEST_LINE Steps first last input old new (Err Write) → last.has_failed ≡ true
-      → IsCutShort first.history.track first.history.entries last.history.entries input old new (may_leave last.journal.device)
+      → IsCutShort (begin_of first.history) first.history.entries last.history.entries input old new (may_leave last.journal.device)
   cut_short first last input old new ready talk broken =
       let cut = cut_of first first last [] talk.treated [] talk.text (along_none first ready) broken talk.answered in
       let told = turned first.history cut.mid cut.front talk.text cut.answered in
@@ -350,22 +350,22 @@ module _ {D : Type 0} (seen : D → List ℕ) (may_leave : D → List ℕ → Ty
         some_lost = let lost = cut.some_lost in omega (arith, lost, some_gone, all_gone);
         few_lost = let lost = cut.few_lost in omega (arith, lost, some_gone, all_gone);
         each = told.right;
-        each_lost = subst (λ (h : HistoryOnTrack). AreRight h.track h.entries gone.turns) (mid_is told.track told.entries) gone.right;
+        each_lost = subst (λ (h : HistoryOnTrack). AreRight (begin_of h) h.entries gone.turns) (mid_is told.begin told.entries) gone.right;
         entries = gone.entries ∙ ap (λ (l : List Entry). l ++ entries_added gone.turns) told.entries;
         written = subst (WritesPart old new) told.said talk.ends.0;
-        on_disk = λ c left. subst (λ (l : List Entry). IsFrom (Adds first.history.track) (length l) last.history.entries c) told.entries (cut.leaves c left);
+        on_disk = λ c left. subst (λ (l : List Entry). IsFrom (Adds (begin_of first.history)) (length l) last.history.entries c) told.entries (cut.leaves c left);
       }
     where
-      mid_is : {mid : HistoryOnTrack} {entries : List Entry} → mid.track ≡ first.history.track → mid.entries ≡ entries
-          → mid ≡ history_on first.history.track entries
-      mid_is {mid} {entries} track is =
-          ap (λ t. history_on t mid.entries) track ∙ ap (λ (e : List Entry). history_on first.history.track e) is
+      mid_is : {mid : HistoryOnTrack} {entries : List Entry} → begin_of mid ≡ begin_of first.history → mid.entries ≡ entries
+          → mid ≡ history_on (begin_of first.history) entries
+      mid_is {mid} {entries} begin is =
+          ap (λ t. history_on t mid.entries) begin ∙ ap (λ (e : List Entry). history_on (begin_of first.history) e) is
 
   -- ---- either
 
   kept_session_by : (b w : Bool) (first last : Kept D) (input : List ℕ) (old new : Option (List ℕ)) (result : Result (Unit {0}) SessionFault) → last.has_failed ≡ b → last.resting ≡ 0 → IsReady seen may_leave first
       → IsTalk LONGEST_LINE Steps first last input old new result → (result ≡ Err Write) ↔ IsTrue (b || w)
-      → IsKeptSession first.history.track first.history.entries last.history.entries input old new (may_leave last.journal.device) (run_end b result)
+      → IsKeptSession (begin_of first.history) first.history.entries last.history.entries input old new (may_leave last.journal.device) (run_end b result)
   kept_session_by true w first last input old new result broken none ready talk write =
       cut_short first last input old new ready (subst (IsTalk LONGEST_LINE Steps first last input old new) (write.1 refl) talk) broken
   kept_session_by false w first last input old new (Ok done) whole none ready talk write =
@@ -375,7 +375,7 @@ module _ {D : Type 0} (seen : D → List ℕ) (may_leave : D → List ℕ → Ty
 
   pub kept_session : (first last : Kept D) (input : List ℕ) (old new : Option (List ℕ)) (result : Result (Unit {0}) SessionFault) (w : Bool) → last.resting ≡ 0 → IsReady seen may_leave first
       → IsTalk LONGEST_LINE Steps first last input old new result → (result ≡ Err Write) ↔ IsTrue (last.has_failed || w)
-      → IsKeptSession first.history.track first.history.entries last.history.entries input old new (may_leave last.journal.device) (run_end last.has_failed result)
+      → IsKeptSession (begin_of first.history) first.history.entries last.history.entries input old new (may_leave last.journal.device) (run_end last.has_failed result)
   kept_session first last input old new result w none ready talk write = kept_session_by last.has_failed w first last input old new result refl none ready talk write
 
   pub kept_answers : (first last : Kept D) (input : List ℕ) (left_before left_after old new : Option (List ℕ)) (result : Result (Unit {0}) SessionFault)

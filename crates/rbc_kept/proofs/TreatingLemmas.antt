@@ -23,7 +23,7 @@ use Rattle.rbc_server.specs.SessionRefusal.TheVariants.{Memory as NoMemory}
 use Rattle.rbc_server.specs.SessionReply.{SessionReply}
 use Rattle.rbc_server.specs.SessionReply.TheVariants.{Refused as RefusedReply}
 use Rattle.rbc_server.specs.Changes.{Comes, Goes}
-use Rattle.rbc_server.specs.Records.{HistoryOnTrack, scene_now}
+use Rattle.rbc_server.specs.Records.{history_on, begin_of, HistoryOnTrack, scene_now}
 use Rattle.rbc_server.proofs.CentreLemmas.{line_comes, printed_comes, refused_comes}
 use Rattle.rbc_server.proofs.KeepingLemmas.{line_asks}
 use Rattle.rbc_model.specs.declared.sessions.Inquiry.{Inquiry}
@@ -36,7 +36,7 @@ use Rattle.rbc_kept.specs.Advances.{IsTreated}
 
 -- what is asked for comes to this
 abbrev pub ComesTo : Result Demand SessionRefusal → HistoryOnTrack → List ℕ → HistoryOnTrack → Type 0
-ComesTo demand before reply after = Comes (λ track entries said added. AnswersDemand track entries said added demand) before reply after
+ComesTo demand before reply after = Comes (λ begin entries said added. AnswersDemand begin entries said added demand) before reply after
 
 -- what a request asks for, as it was found
 pub asked : (track other : Track) (said : SessionLine) (found demand : Demand) → track ≡ other → found ≡ demand → Ok found ≡ looked_up track said → looked_up other said ≡ Ok demand
@@ -45,20 +45,20 @@ asked track other said found demand is same e =
 
 -- a blank line comes to nothing
 pub nothing_comes : (history : HistoryOnTrack) → ComesTo (Ok Nothing) history [] history
-nothing_comes history = (None, (refl, refl), ap (λ entries. record { track = history.track; entries = entries }) (sym (append-nil history.entries)))
+nothing_comes history = (None, (refl, refl), ap (history_on (begin_of history)) (sym (append-nil history.entries)))
 
 -- what is asked to be shown changes nothing
-pub shown_comes : (history : HistoryOnTrack) (inquiry : Inquiry) (reply : List ℕ) → AnswersInquiry history.track history.entries reply None inquiry → ComesTo (Ok (Show inquiry)) history reply history
-shown_comes history inquiry reply answers = (None, answers, ap (λ entries. record { track = history.track; entries = entries }) (sym (append-nil history.entries)))
+pub shown_comes : (history : HistoryOnTrack) (inquiry : Inquiry) (reply : List ℕ) → AnswersInquiry (begin_of history) history.entries reply None inquiry → ComesTo (Ok (Show inquiry)) history reply history
+shown_comes history inquiry reply answers = (None, answers, ap (history_on (begin_of history)) (sym (append-nil history.entries)))
 
 -- a train that is shown a view is given up where there is no memory
 pub given_up : (first now : HistoryOnTrack) (train : ℕ) (shown : View) → now ≡ first → view first.track (scene_now first) train ≡ Ok shown
     → ComesTo (Ok (Authority train)) now (reply_text now.track (RefusedReply NoMemory)) now
 given_up first now train shown same is = (
   None,
-  subst (AnswersAsker now.track now.entries (reply_text now.track (RefusedReply NoMemory)) None train)
+  subst (AnswersAsker (begin_of now) now.entries (reply_text now.track (RefusedReply NoMemory)) None train)
       (sym (subst (λ (h : HistoryOnTrack). view h.track (scene_now h) train ≡ Ok shown) (sym same) is)) (inr (refl, refl)),
-  ap (λ entries. record { track = now.track; entries = entries }) (sym (append-nil now.entries)),
+  ap (history_on (begin_of now)) (sym (append-nil now.entries)),
 )
 
 -- what is refused when it is looked up changes nothing
@@ -79,17 +79,17 @@ treated_by first before after line text said demand reply same read says asks co
     let from_first = subst (λ (h : HistoryOnTrack). ComesTo demand h (reply_text h.track reply) after) same comes in
     record {
       goes = goes_by first after line (reply_text after.track reply) said demand read asks
-          (printed_comes (λ track entries s added. AnswersDemand track entries s added demand) first after reply after.track refl from_first);
+          (printed_comes (λ begin entries s added. AnswersDemand begin entries s added demand) first after reply after.track refl from_first);
       says = says ∙ sym read;
     }
 
--- the same where the record was the same before
+-- what a line comes to from a record, it comes to from one that is equal to it
 pub goes_from : (first before after : HistoryOnTrack) (line reply : List ℕ) (said : SessionLine) (demand : Result Demand SessionRefusal) → before ≡ first → parse_session line ≡ Ok said
     → looked_up first.track said ≡ demand → ComesTo demand before reply after → Goes first line reply after
 goes_from first before after line reply said demand same read asks comes =
     goes_by first after line reply said demand read asks (subst (λ (h : HistoryOnTrack). ComesTo demand h reply after) same comes)
 
--- and where it is the same after
+-- what a line leads to may be given by a record that is equal to it
 pub said_goes : (first after now : HistoryOnTrack) (line : List ℕ) (reply : SessionReply) → now ≡ after → Goes first line (reply_text after.track reply) after
     → Goes first line (reply_text now.track reply) now
 said_goes first after now line reply same goes = subst (λ (h : HistoryOnTrack). Goes first line (reply_text h.track reply) h) (sym same) goes

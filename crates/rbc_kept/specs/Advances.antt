@@ -5,7 +5,7 @@ use Rattle.rbc_journal.specs.Journal.{recovered, IsBeforeOrAfter}
 use Rattle.rbc_journal.specs.Settled.{IsSettled, staged}
 use Rattle.rbc_model.specs.SessionText.{parse_session}
 use Rattle.rbc_server.specs.Changes.{Goes}
-use Rattle.rbc_server.specs.Records.{HistoryOnTrack}
+use Rattle.rbc_server.specs.Records.{begin_of, HistoryOnTrack}
 use Rattle.rbc_kept.specs.Adds.{Adds}
 use Rattle.rbc_kept.specs.Kept.{IsFrom, IsBetween, IsGoing}
 use Rattle.rbc_kept.specs.declared.kept.Kept.{Kept}
@@ -38,12 +38,12 @@ RestsOnly more result kept = (more ≡ false → kept.resting ≡ 0) × OnErr re
 module _ {D : Type 0} (seen : D → List ℕ) (may_leave : D → List ℕ → Type 0) (moment : D → ℕ) (left_since : D → ℕ → List ℕ → Type 0) (faults : D → ℕ) where
   -- A crash at any moment between leaves a file that stands for the entries from before, or for some of those that came since too.
   abbrev pub Leaves : Kept D → Kept D → Type 0
-  Leaves before after = LeavesOnly moment left_since before.journal.device after.journal.device (IsBetween (Adds before.history.track) before.history.entries after.history.entries)
+  Leaves before after = LeavesOnly moment left_since before.journal.device after.journal.device (IsBetween (Adds (begin_of before.history)) before.history.entries after.history.entries)
 
-  -- the same of the entries that were on the disk before
+  -- A crash at any moment between leaves a file that stands for the entries that were on the disk before, or for some of those that came since too.
   abbrev pub LeavesWritten : Kept D → Kept D → Type 0
   LeavesWritten before after =
-      LeavesOnly moment left_since before.journal.device after.journal.device (IsFrom (Adds before.history.track) (length (recovered (seen before.journal.device))) after.history.entries)
+      LeavesOnly moment left_since before.journal.device after.journal.device (IsFrom (Adds (begin_of before.history)) (length (recovered (seen before.journal.device))) after.history.entries)
 
   -- The reply to a line, whose entry is staged, rests; or all lines that are staged are put, and then the reply is written behind those that rested. Where the
   -- journal failed instead, nothing is written.

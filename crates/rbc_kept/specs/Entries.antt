@@ -2,14 +2,14 @@
 use Rattle.std.specs.Prelude.{◌≡◌, ◌≤◌, ℕ, List, length, take, slice_get, Some}
 use Rattle.rbc_journal.specs.Journal.{recovered}
 use Rattle.rbc_kept.specs.Adds.{Adds}
-use Rattle.rbc_server.specs.Records.{HistoryOnTrack}
+use Rattle.rbc_server.specs.Records.{begin_of, HistoryOnTrack}
 use Rattle.rbc_model.specs.Histories.{Entry}
 
 -- the line adds the entry at this place, behind those before it
 pub record TellsEntry (history : HistoryOnTrack) (place : ℕ) (line : List ℕ) : Type 0 where
   pub entry : Entry
   pub stands : slice_get history.entries place ≡ Some entry
-  pub adds : Adds history.track (take place history.entries) line entry
+  pub adds : Adds (begin_of history) (take place history.entries) line entry
 
 -- A file that tells the first entries of a history, at least the number given: no more than there are, each by its own line, and none is skipped.
 pub record TellsFirst (history : HistoryOnTrack) (least : ℕ) (file : List ℕ) : Type 0 where

@@ -3,7 +3,7 @@ use Rattle.std.specs.Prelude.{◌≡◌, ◌<◌, ◌≤◌, ℕ, List, [], ◌+
 use Rattle.rbc_journal.specs.Journal.{recovered}
 use Rattle.rbc_journal.specs.Settled.{IsSettled, staged}
 use Rattle.rbc_journal.specs.declared.journal.Journal.{Journal}
-use Rattle.rbc_server.specs.Records.{HistoryOnTrack}
+use Rattle.rbc_server.specs.Records.{begin_of, HistoryOnTrack}
 use Rattle.rbc_kept.specs.Tells.{Tells}
 use Rattle.rbc_kept.specs.Adds.{Adds}
 use Rattle.rbc_kept.specs.declared.kept.Kept.{Kept}
@@ -25,7 +25,7 @@ IsBetween adds before after file = IsFrom adds (length before) after file
 pub record IsKept {D : Type 0} (seen : D → List ℕ) (may_leave : D → List ℕ → Type 0) (history : HistoryOnTrack) (journal : Journal D) : Type 0 where
   pub settled : IsSettled seen may_leave journal
   pub none_waits : staged journal ≡ []
-  pub told : StandsFor (Adds history.track) (seen journal.device) history.entries
+  pub told : StandsFor (Adds (begin_of history)) (seen journal.device) history.entries
 
 -- The journal has not failed, and tells the record. No reply rests.
 pub record IsReady {D : Type 0} (seen : D → List ℕ) (may_leave : D → List ℕ → Type 0) (kept : Kept D) : Type 0 where
@@ -37,9 +37,10 @@ pub record IsReady {D : Type 0} (seen : D → List ℕ) (may_leave : D → List 
 
 -- the file and the lines that are staged tell the record
 abbrev pub TellsRecord : {D : Type 0} → (D → List ℕ) → Kept D → Type 0
-TellsRecord seen kept = Tells (Adds kept.history.track) [] (recovered (seen kept.journal.device) ++ staged kept.journal) kept.history.entries
+TellsRecord seen kept = Tells (Adds (begin_of kept.history)) [] (recovered (seen kept.journal.device) ++ staged kept.journal) kept.history.entries
 
--- The same between two lines of a session: fewer replies rest than may, and lines are staged only where one does.
+-- Between two lines of a session: the journal has not failed, and the file and the lines that are staged tell the record. Fewer replies rest than may, and
+-- lines are staged only where one does.
 pub record IsGoing {D : Type 0} (seen : D → List ℕ) (may_leave : D → List ℕ → Type 0) (kept : Kept D) : Type 0 where
   pub whole : kept.has_failed ≡ false
   pub settled : IsSettled seen may_leave kept.journal

@@ -3,8 +3,7 @@ use Rattle.std.specs.Prelude.{◌≡◌, ◌<◌, ℕ, List, [], ◌++◌, lengt
 use Rattle.rbc_journal.specs.Gates.{at_rest, IsLine}
 use Rattle.rbc_journal.specs.Journal.{recovered, told_of}
 use Rattle.rbc_model.specs.declared.limits.TheConstants.{LONGEST_LINE}
-use Rattle.rbc_model.specs.Tracks.{Track}
-use Rattle.rbc_model.specs.Histories.{Entry}
+use Rattle.rbc_model.specs.Histories.{Beginning, Entry}
 use Rattle.rbc_session_laws.specs.Answers.{entries_after}
 use Rattle.rbc_session_laws.specs.Retelling.{IsRetold}
 use Rattle.rbc_kept.specs.Adds.{Adds}
@@ -24,9 +23,9 @@ BeginningsStand {Entry} adds =
 
 -- what a file stands for is a history that its own lines lead to
 abbrev pub AreRetold : Type 0
-AreRetold = (track : Track) (file : List ℕ) (entries : List Entry) → StandsFor (Adds track) file entries → IsRetold track entries
+AreRetold = (begin : Beginning) (file : List ℕ) (entries : List Entry) → StandsFor (Adds begin) file entries → IsRetold begin entries
 
 -- the session over the bytes of a file at rest leads to what its lines tell beside its comments, if each line is short enough with its gate
 abbrev pub JournalsAreSessions : Type 0
-JournalsAreSessions = (track : Track) (lines : List (List ℕ)) (entries : List Entry) → All IsLine lines → All (λ line. length line < LONGEST_LINE) lines
-    → Tells (Adds track) [] (told_of lines) entries → entries_after track [] (at_rest lines) ≡ entries
+JournalsAreSessions = (begin : Beginning) (lines : List (List ℕ)) (entries : List Entry) → All IsLine lines → All (λ line. length line < LONGEST_LINE) lines
+    → Tells (Adds begin) [] (told_of lines) entries → entries_after begin [] (at_rest lines) ≡ entries

@@ -2,8 +2,7 @@
 use Rattle.std.specs.Prelude.{◌≡◌, ◌<◌, ◌≤◌, ◌+◌, ℕ, List, ◌++◌, length, take, slice_get, Option, Some, Result, Ok, Err}
 use Rattle.rbc_model.specs.declared.limits.TheConstants.{MOST_LINES}
 use Rattle.rbc_model.specs.Sessions.{lines_of, WritesPart}
-use Rattle.rbc_model.specs.Tracks.{Track}
-use Rattle.rbc_model.specs.Histories.{Entry}
+use Rattle.rbc_model.specs.Histories.{Beginning, Entry}
 use Rattle.rbc_session_laws.specs.Turns.{AnswersLine}
 use Rattle.rbc_session_laws.specs.SessionRuns.{Turn, entries_added, lines_treated, replies_to, IsSession}
 use Rattle.rbc_kept.specs.Adds.{Adds}
@@ -15,7 +14,7 @@ use Rattle.rbc_kept.specs.declared.fault.RunFault.TheVariants.{Session, Journal}
 -- A session over this input, from these entries to those, that the journal ended, where a crash from then on leaves such files. Its first lines were treated, each
 -- after the entries of those before it. All that they added is on the disk, and what was written is made of the replies to them. So were the next lines, at most 64,
 -- but these have no reply.
-pub record IsCutShort (track : Track) (before after : List Entry) (input : List ℕ) (old new : Option (List ℕ)) (left : List ℕ → Type 0) : Type 0 where
+pub record IsCutShort (begin : Beginning) (before after : List Entry) (input : List ℕ) (old new : Option (List ℕ)) (left : List ℕ → Type 0) : Type 0 where
   pub turns : List Turn
   pub lost : List Turn
   pub rest : List (List ℕ)
@@ -24,15 +23,15 @@ pub record IsCutShort (track : Track) (before after : List Entry) (input : List 
   pub some_lost : 0 < length lost
   pub few_lost : length lost ≤ MOST_TOGETHER
   pub each : (place : ℕ) (turn : Turn) → slice_get turns place ≡ Some turn
-      → AnswersLine track (before ++ entries_added (take place turns)) turn.line turn.reply turn.added
+      → AnswersLine begin (before ++ entries_added (take place turns)) turn.line turn.reply turn.added
   pub each_lost : (place : ℕ) (turn : Turn) → slice_get lost place ≡ Some turn
-      → AnswersLine track ((before ++ entries_added turns) ++ entries_added (take place lost)) turn.line turn.reply turn.added
+      → AnswersLine begin ((before ++ entries_added turns) ++ entries_added (take place lost)) turn.line turn.reply turn.added
   pub entries : after ≡ (before ++ entries_added turns) ++ entries_added lost
   pub written : WritesPart old new (replies_to turns)
-  pub on_disk : (c : List ℕ) → left c → IsBetween (Adds track) (before ++ entries_added turns) after c
+  pub on_disk : (c : List ℕ) → left c → IsBetween (Adds begin) (before ++ entries_added turns) after c
 
 -- A session that ended so: as one without a journal, or cut short by it.
-abbrev pub IsKeptSession : Track → List Entry → List Entry → List ℕ → Option (List ℕ) → Option (List ℕ) → (List ℕ → Type 0) → Result (Unit {0}) RunFault → Type 0
-IsKeptSession track before after input old new left (Ok done) = IsSession track before after input old new (Ok done)
-IsKeptSession track before after input old new left (Err (Session fault)) = IsSession track before after input old new (Err fault)
-IsKeptSession track before after input old new left (Err Journal) = IsCutShort track before after input old new left
+abbrev pub IsKeptSession : Beginning → List Entry → List Entry → List ℕ → Option (List ℕ) → Option (List ℕ) → (List ℕ → Type 0) → Result (Unit {0}) RunFault → Type 0
+IsKeptSession begin before after input old new left (Ok done) = IsSession begin before after input old new (Ok done)
+IsKeptSession begin before after input old new left (Err (Session fault)) = IsSession begin before after input old new (Err fault)
+IsKeptSession begin before after input old new left (Err Journal) = IsCutShort begin before after input old new left

@@ -30,9 +30,9 @@ use std::thread::Threads;
 
 /// The centre: what is told to it and asked of it, line by line, is answered by a record that is kept.
 #[derive(Drop)]
-pub(crate) struct Centre;
+pub(crate) struct JournaledCentre;
 
-impl<D: Device> Answers<Centre> for Kept<D> {
+impl<D: Device> Answers<JournaledCentre> for Kept<D> {
     type State = Kept<D>;
 
     ghost use Rattle.std.specs.Prelude.{◌≡◌, ◌≤◌};
@@ -67,7 +67,7 @@ impl<D: Device> Answers<Centre> for Kept<D> {
         &mut self,
         rt: &T,
         alloc: Global,
-        _centre: &Centre,
+        _centre: &JournaledCentre,
         line: &[u8],
         more: bool,
         writer: &mut W,
@@ -81,7 +81,11 @@ impl<D: Device> Answers<Centre> for Kept<D> {
         }
     }
 
-    fn refuse<W: Sink>(&mut self, _centre: &Centre, writer: &mut W) -> Result<(), WriteFailed> {
+    fn refuse<W: Sink>(
+        &mut self,
+        _centre: &JournaledCentre,
+        writer: &mut W,
+    ) -> Result<(), WriteFailed> {
         let overlong = SessionReply::Refused(SessionRefusal::BadLine(LineFault::Overlong));
         self.say(&overlong, false, writer)
     }
@@ -126,7 +130,7 @@ impl<D: Device> Kept<D> {
     ///
     /// # Errors
     ///
-    /// As above.
+    /// The reply is not written whole: the writer failed, or the journal did.
     fn hear<W: Sink>(
         &mut self,
         alloc: Global,
@@ -162,7 +166,7 @@ impl<D: Device> Kept<D> {
     ///
     /// # Errors
     ///
-    /// As above.
+    /// The reply is not written whole: the writer failed, or the journal did.
     fn ask<W: Sink>(
         &mut self,
         rt: &(impl Threads + Sync),
@@ -195,7 +199,7 @@ impl<D: Device> Kept<D> {
     ///
     /// # Errors
     ///
-    /// As above.
+    /// The reply is not written whole: the writer failed, or the journal did.
     fn grant<W: Sink>(
         &mut self,
         rt: &(impl Threads + Sync),

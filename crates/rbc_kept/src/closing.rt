@@ -27,7 +27,7 @@ pub fn close<L: DeskName, D: Device, N: ScribeName, R: Wait>(
     page
 }
 
-/// The same for each of these pens, where the last goes on from all that was told of the lines.
+/// Vouches for what each of these pens has kept, where the last goes on from all that was told of the lines.
 fn vouch_each<L: DeskName, D: Device, N: ScribeName, R: Wait>(
     rt: &R,
     page: &Page<SeatTold<L>, D, N>,
@@ -42,7 +42,7 @@ fn vouch_each<L: DeskName, D: Device, N: ScribeName, R: Wait>(
     }
 }
 
-/// The same for one pen.
+/// Vouches for what one pen has kept, where the last goes on from all that was told of the lines.
 fn vouch<L: DeskName, D: Device, N: ScribeName, R: Wait>(
     rt: &R,
     page: &Page<SeatTold<L>, D, N>,

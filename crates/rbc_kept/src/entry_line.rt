@@ -4,9 +4,9 @@ ghost use Rattle.std.specs.Prelude.{◌≡◌, IfOk};
 ghost use Rattle.rbc_model.specs.SessionText.{said_line};
 ghost use Rattle.rbc_server.specs.SessionLines.{request_view};
 
-use crate::text::Text;
 use rbc_model::Memory;
 use rbc_server::words::{Request, print_request};
+use rbc_streams::Text;
 use std::alloc::Global;
 
 /// The line of a request, one space between its words, without a line feed.

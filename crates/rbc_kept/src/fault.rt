@@ -22,6 +22,9 @@ pub enum KeptFault {
     /// The line of this number, from 1 on, adds nothing: the journal is of another track, or was written by hand.
     #[error("journal: Foreign {0}")]
     Foreign(u64),
+    /// The journal tells more entries than the history may have, which is this number.
+    #[error("journal: Entries {0}")]
+    Entries(u64),
 }
 
 impl From<JournalFault> for KeptFault {

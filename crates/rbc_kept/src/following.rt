@@ -7,7 +7,6 @@ ghost use Rattle.rbc_server.specs.Records.{scene_now};
 ghost use Rattle.rbc_session_laws.specs.declared.demand.Demand.TheVariants.{Event, Authority};
 ghost use Rattle.rbc_kept.specs.Adds.{Follows, FollowsSaid};
 
-use rbc_model::limits::MOST_ENTRIES;
 use rbc_model::{Memory, OrMemory, Told, TrainId};
 use rbc_server::{Record, View, candidate, commit, demand_in};
 use rbc_session_laws::Demand;
@@ -41,7 +40,7 @@ pub fn follow(
 ///
 /// # Errors
 ///
-/// As above.
+/// The allocator refused memory. Nothing changes.
 fn hear(alloc: Global, history: &mut Record, told: &Told) -> Result<bool, Memory>
     requires { IsToldOfTrack history.old.track told.now }
     ensures followed { IfOk result (λ is_added. FollowsSaid is_added history.old (Event told.now) history.new) }
@@ -58,7 +57,7 @@ fn hear(alloc: Global, history: &mut Record, told: &Told) -> Result<bool, Memory
 ///
 /// # Errors
 ///
-/// As above.
+/// The allocator refused memory. Nothing changes.
 fn ask(
     rt: &(impl Threads + Sync),
     alloc: Global,
@@ -79,7 +78,7 @@ fn ask(
 ///
 /// # Errors
 ///
-/// As above.
+/// The allocator refused memory. Nothing changes.
 fn grant(
     rt: &(impl Threads + Sync),
     alloc: Global,
@@ -92,13 +91,14 @@ fn grant(
 {
     history.known();
     let before = history.version();
+    let most = history.most().entries() as u64;
     let Ok(candidate) = candidate(rt, alloc, shown, before) else {
         return Err(Memory);
     };
     let _reply = commit(alloc, history, &candidate);
     if history.version() > before {
         Ok(true)
-    } else if before >= MOST_ENTRIES as u64 {
+    } else if before >= most {
         Ok(false)
     } else {
         Err(Memory)

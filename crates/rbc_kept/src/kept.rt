@@ -1,6 +1,7 @@
 //! A record and its journal.
 
 ghost use Rattle.std.specs.Prelude.{◌≡◌, ◌<◌, [], false, not, is_some, IfSome, IfOk, IfErr};
+ghost use Rattle.rbc_server.specs.Records.{begin_of};
 ghost use Rattle.rbc_journal.specs.Device.{Only, LeavesOnly};
 ghost use Rattle.rbc_journal.specs.Gates.{counted};
 ghost use Rattle.rbc_journal.specs.Journal.{recovered, told_of};
@@ -12,9 +13,9 @@ ghost use Rattle.rbc_kept.specs.Tells.{Tells};
 
 use crate::KeptFault;
 use crate::replaying::replay;
-use crate::text::Text;
 use rbc_journal::{Device, Journal, Readable};
 use rbc_server::Record;
+use rbc_streams::Text;
 use std::alloc::Global;
 use std::thread::Threads;
 
@@ -42,7 +43,7 @@ impl<D: Device> Kept<D> {
     ///
     /// # Errors
     ///
-    /// `Memory`, `Foreign` or `Full`, before the file is asked for anything; `Device`. The file comes back, with all that
+    /// `Memory`, `Foreign`, `Entries` or `Full`, before the file is asked for anything; `Device`. The file comes back, with all that
     /// counts in it.
     pub fn open(
         rt: &(impl Threads + Sync),
@@ -57,6 +58,7 @@ impl<D: Device> Kept<D> {
         requires durable { Only (D.seen device) (D.may_leave device) }
         ensures ready { IfOk result (λ kept. IsReady D.seen D.may_leave kept) }
         ensures track { IfOk result (λ kept. kept.history.track ≡ history.track) }
+        ensures begin { IfOk result (λ kept. begin_of kept.history ≡ begin_of history) }
         ensures same { IfOk result (λ kept. recovered (D.seen kept.journal.device) ≡ recovered file.now.text.now) }
 
         // A crash at any moment leaves the same lines.
@@ -74,7 +76,8 @@ impl<D: Device> Kept<D> {
         Kept::over(alloc, history, file, device)
     }
 
-    /// The same over a record that has gained the entries already ([`replay`]).
+    /// Opens a journal from what was read of its file, which a crash may have left, over a record that has gained the entries
+    /// that its lines tell already ([`replay`]): a new file that stands for these takes its place. It may crash too.
     ///
     /// # Errors
     ///
@@ -85,12 +88,13 @@ impl<D: Device> Kept<D> {
         file: &Readable<'_>,
         device: D,
     ) -> Result<Kept<D>, (KeptFault, D)>
-        requires told { Tells (Adds history.track) [] (told_of (counted file.now.text.now)) history.entries }
+        requires told { Tells (Adds (begin_of history)) [] (told_of (counted file.now.text.now)) history.entries }
         requires whole { IsWholeText file.now.text.now file.now.seal }
         requires same { recovered (D.seen device) ≡ recovered file.now.text.now }
         requires durable { Only (D.seen device) (D.may_leave device) }
         ensures ready { IfOk result (λ kept. IsReady D.seen D.may_leave kept) }
         ensures track { IfOk result (λ kept. kept.history.track ≡ history.track) }
+        ensures begin { IfOk result (λ kept. begin_of kept.history ≡ begin_of history) }
         ensures same { IfOk result (λ kept. recovered (D.seen kept.journal.device) ≡ recovered file.now.text.now) }
 
         // A crash at any moment leaves the same lines.
@@ -119,7 +123,7 @@ impl<D: Device> Kept<D> {
         requires { self.now.has_failed ≡ false → IsReady D.seen D.may_leave self.now }
         ensures some { is_some result ≡ not self.now.has_failed }
         ensures history { IfSome result (λ r. r.now ≡ self.now.history) }
-        ensures retold { IfSome result (λ r. IsRetold r.now.track r.now.entries) }
+        ensures retold { IfSome result (λ r. IsRetold (begin_of r.now) r.now.entries) }
     {
         if self.has_failed {
             return None;

@@ -15,7 +15,6 @@ mod replaying;
 mod request_line;
 mod saying;
 mod sessions;
-mod text;
 mod told;
 
 pub use closing::close;

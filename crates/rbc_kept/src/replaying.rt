@@ -1,6 +1,7 @@
 //! The lines of a journal, entered in a record.
 
 ghost use Rattle.std.specs.Prelude.{◌≡◌, [], OnOk, Err};
+ghost use Rattle.rbc_server.specs.Records.{begin_of};
 ghost use Rattle.rbc_journal.specs.Gates.{counted};
 ghost use Rattle.rbc_journal.specs.Journal.{told_of};
 ghost use Rattle.rbc_kept.specs.Adds.{Adds};
@@ -17,7 +18,8 @@ use std::thread::Threads;
 ///
 /// # Errors
 ///
-/// `Memory`, or `Foreign` with the number of the first line that adds nothing.
+/// `Memory`. For the first line that adds nothing: `Entries` with the number of entries that there may be, where there
+/// are so many; else `Foreign` with the line's number.
 pub fn replay(
     rt: &(impl Threads + Sync),
     alloc: Global,
@@ -25,7 +27,8 @@ pub fn replay(
     text: &[u8],
 ) -> Result<(), KeptFault>
     requires { history.old.entries ≡ [] }
-    ensures told { OnOk result (Tells (Adds history.old.track) [] (told_of (counted text.now)) history.new.entries) }
+    ensures told { OnOk result (Tells (Adds (begin_of history.old)) [] (told_of (counted text.now)) history.new.entries) }
+    ensures begin { begin_of history.new ≡ begin_of history.old }
     ensures track { history.new.track ≡ history.old.track }
     ensures fault { result ≡ Err KeptFault.Device → ⊥ }
 {
@@ -33,7 +36,12 @@ pub fn replay(
     while let Some((_comments, line, after)) = next_told(rest) {
         if !follow(rt, alloc, history, line)? {
             history.known();
-            return Err(KeptFault::Foreign(history.version() + 1));
+            history.right();
+            let told = history.version();
+            return Err(match history.is_full() {
+                true => KeptFault::Entries(told),
+                false => KeptFault::Foreign(told + 1),
+            });
         }
         rest = after;
     }

@@ -2,6 +2,7 @@
 
 ghost use Rattle.std.specs.Prelude.{◌≡◌, ◌||◌, ◌+◌, ◌<◌, ◌≤◌, ◌++◌, [], ℕ, List, None, true, false, is_err, IsTrue, OnOk, OnErr, MatchBool};
 ghost use Rattle.std.specs.Io.KnownBytes.{Keeps};
+ghost use Rattle.rbc_server.specs.Records.{begin_of};
 ghost use Rattle.rbc_journal.specs.Device.{LeavesOnly};
 ghost use Rattle.rbc_journal.specs.Journal.{recovered, IsBeforeOrAfter};
 ghost use Rattle.rbc_journal.specs.Settled.{staged, IsSettled};
@@ -56,7 +57,8 @@ impl<D: Device> Kept<D> {
     ///
     /// # Errors
     ///
-    /// As above.
+    /// The journal failed, and nothing is written: what was written before is handed on, if the writer takes it. Or the writer
+    /// failed.
     pub(crate) fn show<W: Sink>(
         &mut self,
         alloc: Global,
@@ -69,7 +71,7 @@ impl<D: Device> Kept<D> {
         requires holds { self.old.replies.failed ≡ false }
         ensures none_rests { self.new.resting ≡ 0 }
         ensures shown { (reply : List ℕ) × (text : List ℕ)
-            × AnswersInquiry self.old.history.track self.old.history.entries reply None inquiry
+            × AnswersInquiry (begin_of self.old.history) self.old.history.entries reply None inquiry
             × IsSaid D.seen D.may_leave D.moment D.left_since D.faults self.old reply text self.new
             × Prints (W.written writer.old) (W.written writer.new) (self.new.has_failed || W.failed writer.new) text result }
     {
@@ -131,7 +133,8 @@ impl<D: Device> Kept<D> {
     ///
     /// # Errors
     ///
-    /// As above.
+    /// The journal failed, and nothing is written: what was written before is handed on, if the writer takes it. Or the writer
+    /// failed.
     fn settle<W: Sink>(&mut self, writer: &mut W) -> Result<(), WriteFailed>
         requires works { W.failed writer.old ≡ false }
         requires whole { self.old.has_failed ≡ false }

@@ -2,6 +2,7 @@
 
 ghost use Rattle.std.specs.Prelude.{◌≡◌, ◌↔◌, ◌<◌, ℕ, List, [], true, false, IsTrue, OnOk, IfErr, Err};
 ghost use Rattle.std.specs.Io.KnownBytes.{Consumes, IsAtEnd};
+ghost use Rattle.rbc_server.specs.Records.{begin_of};
 ghost use Rattle.rbc_journal.specs.Device.{LeavesOnly};
 ghost use Rattle.rbc_model.specs.declared.sessions.SessionFault.TheVariants.{Read as ReadFault, Write as WriteFault, Memory as NoMemory};
 ghost use Rattle.rbc_server.specs.Answered.{AnswersAll};
@@ -12,7 +13,7 @@ ghost use Rattle.rbc_kept.specs.Ends.{run_end};
 ghost use Rattle.rbc_kept.specs.Kept.{IsReady};
 ghost use Rattle.rbc_kept.specs.Sessions.{IsKeptSession};
 
-use crate::answering::Centre;
+use crate::answering::JournaledCentre;
 use crate::{Kept, RunFault};
 use rbc_journal::Device;
 use rbc_model::SessionFault;
@@ -25,8 +26,8 @@ use std::thread::Threads;
 ///
 /// # Errors
 ///
-/// Those of [`rbc_server::run`], and `Journal`, where the journal failed: the line that was treated last has no reply, and
-/// whether the journal has its entry is not known. The replies before it are handed on, if the writer takes them.
+/// `Session` with whatever [`rbc_server::run`] answers; `Journal`, where the journal failed: the line that was treated last has
+/// no reply, and whether the journal has its entry is not known. The replies before it are handed on, if the writer takes them.
 pub fn run<R: Source, W: Sink, D: Device>(
     rt: &(impl Threads + Sync),
     alloc: Global,
@@ -61,8 +62,9 @@ pub fn run<R: Source, W: Sink, D: Device>(
     // The record is of the same track, and each line of what was read was answered after the entries of those before
     // it. Where the journal failed, all entries that were told of are on the disk, and of no other a byte was written.
     ensures track { kept.new.history.track ≡ kept.old.history.track }
+    ensures begin { begin_of kept.new.history ≡ begin_of kept.old.history }
     ensures session { (input : List ℕ) × Consumes (R.left reader.old) (R.left reader.new) input
-        × IsKeptSession kept.old.history.track kept.old.history.entries kept.new.history.entries input
+        × IsKeptSession (begin_of kept.old.history) kept.old.history.entries kept.new.history.entries input
         (W.written writer.old) (W.written writer.new) (D.may_leave kept.new.journal.device) result }
 
     // At the end of the input, where memory was never refused, what was written and the history are one function of the
@@ -75,7 +77,7 @@ pub fn run<R: Source, W: Sink, D: Device>(
 {
     // The record's track is in form.
     kept.history.known();
-    let ended = converse(rt, alloc, reader, writer, kept, &Centre);
+    let ended = converse(rt, alloc, reader, writer, kept, &JournaledCentre);
     run_end(ended, kept.has_failed)
 }
 

@@ -20,7 +20,7 @@ pub trait Closing {
 #[derive(Drop)]
 pub struct PortEnd {
     listener: TcpListener,
-    // The same socket. To shut it down wakes all that accept at it.
+    // The listener's socket. To shut it down wakes all that accept at it.
     socket: TcpStream,
     // When the end was asked for, as far as there was a clock.
     asked: OnceLock<Option<Instant>>,
@@ -40,7 +40,7 @@ impl PortEnd {
         })
     }
 
-    /// The same socket once more.
+    /// A handle of its own on the socket.
     pub(crate) fn listener(&self) -> io::Result<TcpListener> {
         self.listener.try_clone()
     }

@@ -19,7 +19,7 @@ use std::time::{Clock, Duration};
 /// How many slices a second of waiting has.
 const SLICES: u64 = 10;
 
-/// The same in milliseconds.
+/// How long a slice is, in milliseconds.
 const SLICE: u64 = 100;
 
 /// How long a client is still heard once the end was asked for, if it never stops, in seconds.

@@ -92,7 +92,7 @@ impl<N> Port<N> {
         }
     }
 
-    // The same, with a number of clients that it shares with other ports.
+    // A port whose number of clients is shared with other ports.
     pub(crate) fn sharing(
         listener: N,
         terms: Terms,

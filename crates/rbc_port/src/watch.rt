@@ -34,18 +34,15 @@ impl Watch {
         }
     }
 
-    /// The same once more.
+    /// A second watch that writes where this one does.
     ///
     /// # Errors
     /// There are too many.
     pub fn again(&self) -> Result<Watch, Memory> {
-        match Arc::try_clone(&self.tally) {
-            Ok(tally) => Ok(Watch {
-                log: self.log,
-                tally,
-            }),
-            Err(_) => Err(Memory),
-        }
+        Ok(Watch {
+            log: self.log,
+            tally: self.shared_tally()?,
+        })
     }
 
     /// Whether a log is kept.
@@ -56,5 +53,13 @@ impl Watch {
     /// What the centre has done.
     pub fn tally(&self) -> &Tally {
         &*self.tally
+    }
+
+    /// What the centre has done, for one more who is told of it.
+    ///
+    /// # Errors
+    /// There are too many.
+    pub fn shared_tally(&self) -> Result<Arc<Tally>, Memory> {
+        Ok(Arc::try_clone(&self.tally)?)
     }
 }

@@ -178,6 +178,13 @@ pub all_came : {H S : Type 0} (R : H → S → Type 0) (handles begun rest : Lis
 all_came R handles begun rest back goes over same =
     subst (λ l. AllZip R l back) same (subst (AllZip R begun) (append-nil back) (goes [] (rw (nil_from_length rest over) tt)))
 
+-- one more has come back
+pub one_back : {H S : Type 0} (R : H → S → Type 0) (begun left rest : List H) (back more : List S) (h : H) (s : S) → ((others : List S) → AllZip R left others → AllZip R begun (back ++ others))
+    → left ≡ h ∷ rest → more ≡ back ++ s ∷ [] → R h s → (others : List S) → AllZip R rest others → AllZip R begun (more ++ others)
+one_back R begun left rest back more h s goes next is so others zip =
+    subst (λ l. AllZip R begun (l ++ others)) (sym is)
+    (subst (AllZip R begun) (sym (append_assoc back (s ∷ []) others)) (goes (s ∷ others) (subst (λ l. AllZip R l (s ∷ others)) (sym next) (so, zip))))
+
 -- a seat more went to a thread that promised to keep what it had
 pub one_handed : {H S : Type 0} (promised : H → S) (handles more : List H) (h : H) (s : S) (left rest all : List S) → map promised handles ++ left ≡ all → left ≡ s ∷ rest
     → more ≡ handles ++ h ∷ [] → promised h ≡ s → map promised more ++ rest ≡ all
@@ -349,7 +356,7 @@ served_so keeps coming to_come sittings served partings None true is = is
 served_so keeps coming to_come sittings served partings None false is = is
 served_so keeps coming to_come sittings served partings (Some f) b is = is
 
--- the same with the pens and what is left of the clients apart
+-- who was served, by what stood in the way, with the pens and what is left of the clients apart
 pub stands : {V G L P : Type 0} (keeps : P → ℕ → Type 0) (sitting : V → Sitting L P) (gone : V → G) (parting : G → Parting) (coming to_come : Option (List Coming)) (sittings : List (Sitting L P))
     (visits : List V) (pens : List P) (left : List G) (fault : Option ConnectFault) (b : Bool)
     → AreServed keeps coming to_come sittings (map sitting visits) (map (λ v. parting (gone v)) visits) fault → pens ≡ map (λ v. (sitting v).pen) visits → left ≡ map gone visits

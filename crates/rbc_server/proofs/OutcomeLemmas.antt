@@ -9,10 +9,10 @@ use Rattle.std.proofs.lemmas.Option.{get_or_from_slice_get, slice_get_within}
 use Rattle.rbc_model.specs.Sessions.{WritesPart}
 use Rattle.rbc_model.specs.SoundTracks.{IsSound}
 use Rattle.rbc_model.specs.Tracks.{Track}
-use Rattle.rbc_model.specs.Histories.{Entry, replay}
+use Rattle.rbc_model.specs.Histories.{Beginning, Entry, replay}
 use Rattle.rbc_model.specs.Views.{view}
 use Rattle.rbc_model.specs.declared.limits.TheConstants.{MOST_ENTRIES}
-use Rattle.rbc_sessions.specs.Records.{history_on}
+use Rattle.rbc_sessions.specs.Records.{IsRight, begin_on, history_on}
 use Rattle.rbc_sessions.specs.Seats.{Seated}
 use Rattle.rbc_sessions.specs.Asking.{IsAnswered}
 use Rattle.rbc_sessions.specs.Granted.{Granted as Grant}
@@ -55,19 +55,20 @@ on_ok (Err e) P p = tt
 
 -- ---- what the desk answers can be told with the track's names
 
-grant_is_tellable : (track : Track) (entries : List Entry) (train : ℕ) (grant : Grant) → IsSound track → IsAnswered (history_on track entries) train (Ok grant)
-    → ObstacleIsOfTrack track grant.candidate.view.obstacle × (grant.receipt.place < MOST_ENTRIES)
-grant_is_tellable track entries train grant sound is = (
-  shown_named (history_on track entries) train grant.candidate.view sound (viewed (view track (replay track entries) train) (length entries) grant.candidate.view is.1),
-  (let below = below_most (length entries) is.0 in omega (arith, is.2)),
+grant_is_tellable : (begin : Beginning) (entries : List Entry) (train : ℕ) (grant : Grant) → IsRight (history_on begin entries) → IsSound begin.track → IsAnswered (history_on begin entries) train (Ok grant)
+    → ObstacleIsOfTrack begin.track grant.candidate.view.obstacle × (grant.receipt.place < MOST_ENTRIES)
+grant_is_tellable begin entries train grant right sound is = (
+  shown_named (history_on begin entries) train grant.candidate.view right sound (viewed (view begin.track (replay begin entries) train) (length entries) grant.candidate.view is.1),
+  (let r = right in let below = below_most begin.most (length entries) r.bounded is.0 in omega (arith, is.2, below)),
 )
 
-answer_is_tellable : (track : Track) (entries : List Entry) (train : ℕ) (answer : Answer) → IsSound track → IsAnswered (history_on track entries) train (asked answer) → AnswerIsTellable track answer
-answer_is_tellable track entries train (Granted grant) sound is = grant_is_tellable track entries train grant sound is
-answer_is_tellable track entries train (Blocked obstacle at version) sound is = asked_blocked_named track entries train obstacle at version sound is
-answer_is_tellable track entries train Gone sound is = tt
-answer_is_tellable track entries train Full sound is = tt
-answer_is_tellable track entries train Memory sound is = tt
+answer_is_tellable : (begin : Beginning) (entries : List Entry) (train : ℕ) (answer : Answer) → IsRight (history_on begin entries) → IsSound begin.track → IsAnswered (history_on begin entries) train (asked answer)
+    → AnswerIsTellable begin.track answer
+answer_is_tellable begin entries train (Granted grant) right sound is = grant_is_tellable begin entries train grant right sound is
+answer_is_tellable begin entries train (Blocked obstacle at version) right sound is = asked_blocked_named begin entries train obstacle at version right sound is
+answer_is_tellable begin entries train Gone right sound is = tt
+answer_is_tellable begin entries train Full right sound is = tt
+answer_is_tellable begin entries train Memory right sound is = tt
 
 -- what one of the seats was told, where each was told of the track
 outcome_is_tellable : (track : Track) (had has : List Seated) (outcome : Outcome) → IsSound track → All (λ (seat : Seated). seat.told.track ≡ track) had → IsToldToOne had has outcome
@@ -78,8 +79,9 @@ outcome_is_tellable track had has outcome sound on t =
     let later = told.later in
     let at : get_or had t.place t.before ≡ t.before = get_or_from_slice_get had t.place t.before t.before t.had_it in
     let here : t.before.told.track ≡ track = subst (λ (s : Seated). s.told.track ≡ track) at (on t.place t.before (slice_get_within had t.place t.before t.had_it)) in
-    answer_is_tellable track history.entries outcome.train outcome.answer sound
-    (subst (λ t. IsAnswered (history_on t history.entries) outcome.train (asked outcome.answer)) (later.track ∙ here) told.answered)
+    answer_is_tellable (begin_on track history.begin history.most) history.entries outcome.train outcome.answer
+    (subst (λ t. IsRight (history_on (begin_on t history.begin history.most) history.entries)) (later.track ∙ here) later.right) sound
+    (subst (λ t. IsAnswered (history_on (begin_on t history.begin history.most) history.entries) outcome.train (asked outcome.answer)) (later.track ∙ here) told.answered)
 
 pub all_tellable : (track : Track) (had has : List Seated) (outcomes : List Outcome) → IsSound track → All (λ (seat : Seated). seat.told.track ≡ track) had → All (IsToldToOne had has) outcomes
     → All (IsTellable track) outcomes

@@ -64,7 +64,8 @@ pub record AreConnections {L P : Type 0} (kept : P → ℕ → Type 0) (coming :
   pub after : map (λ (c : Connection L P). c.after) connections ≡ served
   pub went : map (λ (c : Connection L P). c.went) connections ≡ partings
 
--- The same where keeping failed in none. The seats and the pens came back, in order.
+-- Of the clients that come, where it is known who comes, the first came, in order: one for each of these seats, also in order. Keeping failed in none of their
+-- sessions, and they went so. The seats and the pens came back, in order.
 pub record AreParted {L P : Type 0} (kept : P → ℕ → Type 0) (coming : Option (List Coming)) (sittings : List (Sitting L P)) (seats : List Seated) (pens : List P) (partings : List Parting) : Type 0 where
   pub served : List (Sitting L P)
   pub connections : AreConnections kept coming sittings served partings
@@ -99,7 +100,7 @@ AreServed kept coming to_come sittings served partings (Some NoConnection) = All
 AreServed kept coming to_come sittings served partings (Some NoThread) = AllButOneServed kept coming to_come sittings served partings
 AreServed kept coming to_come sittings served partings (Some NotKeptInSession) = AllServed kept coming to_come sittings served partings
 
--- the same, and these are the pens
+-- who was served, by what stood in the way of more, and the pens that they left
 abbrev pub StandsConnected : {L P : Type 0} → (P → ℕ → Type 0) → Option (List Coming) → Option (List Coming) → List (Sitting L P) → List P → List Parting → Option ConnectFault → Type 0
 StandsConnected {L} {P} kept coming to_come sittings pens partings fault =
     (served : List (Sitting L P)) × AreServed kept coming to_come sittings served partings fault × (pens ≡ map (λ (s : Sitting L P). s.pen) served)

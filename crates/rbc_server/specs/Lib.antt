@@ -4,6 +4,7 @@ pub use Rattle.rbc_sessions.specs.Answered
 pub use Rattle.rbc_sessions.specs.Changes
 pub use Rattle.rbc_sessions.specs.Keeping
 pub use Rattle.rbc_sessions.specs.Later
+pub use Rattle.rbc_sessions.specs.Looking
 pub use Rattle.rbc_sessions.specs.Records
 pub use Rattle.rbc_sessions.specs.Replies
 pub use Rattle.rbc_sessions.specs.SeatSessions

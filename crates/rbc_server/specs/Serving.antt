@@ -130,7 +130,8 @@ abbrev pub IsSweptBy : {L P : Type 0} → List Seated → (P → ℕ → Type 0)
 IsSweptBy [] kept coming partings staff seats pens outcomes = AreParted kept coming staff.sittings.items seats pens partings × (outcomes ≡ [])
 IsSweptBy (worker ∷ workers) kept coming partings staff seats pens outcomes = IsSwept kept coming partings staff seats pens outcomes
 
--- The same with all workers of this staff, and what was written on this track tells the outcomes.
+-- Clients were served from the sittings of this staff, and went so. Where it has workers, a sweep was made behind that with all of them; where it has none,
+-- none was made. What was written on this track tells the outcomes.
 pub record IsAttended {L P : Type 0} (kept : P → ℕ → Type 0) (track : Track) (coming : Option (List Coming)) (partings : List Parting) (staff : Staff L P) (seats : List Seated) (pens : List P) (old new : Option (List ℕ)) : Type 0 where
   pub outcomes : List Outcome
   pub sweep : IsSweptBy staff.workers.items kept coming partings staff seats pens outcomes
@@ -187,7 +188,8 @@ pub record IsCutOff {L P : Type 0} (kept : P → ℕ → Type 0) (track : Track)
   pub tells : TellsAll track (take count outcomes) told
   pub written : WritesPart old new told
 
--- the same while the last line was told, or the desk could not be closed
+-- Clients were served, a sweep was made, if there are workers, and its outcomes were told; then the writer failed while the last line was told, or the desk
+-- could not be closed.
 pub record IsUnclosed {L P : Type 0} (kept : P → ℕ → Type 0) (opened : HistoryOnTrack) (coming : Option (List Coming)) (parts : ℕ) (partings : List Parting) (staff : Staff L P) (pens : List P) (old new : Option (List ℕ)) (fault : ServeFault) : Type 0 where
   pub seats : List Seated
   pub so_far : Option (List ℕ)

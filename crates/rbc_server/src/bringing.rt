@@ -27,7 +27,7 @@ fn bring_each<L: DeskName>(seats: &mut [Seat<L>], others: &[Seat<L>])
     }
 }
 
-/// The same for seats that are owned.
+/// Tells each of these seats, which are owned, all that those others were told.
 pub(crate) fn bring_all<L: DeskName>(mut seats: Vec<Seat<L>>, others: &[Seat<L>]) -> Vec<Seat<L>>
     ensures brought { AllZip (IsBrought others.now) seats.items result.items }
     ensures length { vec_len result ≡ vec_len seats }

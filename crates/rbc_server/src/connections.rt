@@ -7,7 +7,7 @@ ghost use Rattle.rbc_port.specs.Clients.{at_close};
 ghost use Rattle.rbc_server.specs.Connections.{AreParted, AreServed, IsConnection, OneKnows, StandsConnected, TellsFailure, fault_of};
 ghost use Rattle.rbc_server.specs.declared.connections.ConnectFault.TheVariants.{Memory as NoThread, Journal as NotKeptInSession};
 
-use crate::{Counter, Keeper, SessionEnd, Sitting, session};
+use crate::{Keeper, SessionContext, SessionEnd, Sitting, session};
 use rbc_port::{Client, Clients, Closed, Ends, PortFailed};
 use rbc_sessions::{DeskName, OpenGate, Seat};
 use rbc_streams::{Sink, Source};
@@ -81,7 +81,7 @@ pub fn connection<
 >(
     rt: &T,
     alloc: Global,
-    counter: &Counter<'a, L, K, OpenGate, T>,
+    context: &SessionContext<'a, L, K, OpenGate, T>,
     sitting: Sitting<L, Q>,
     client: C,
 ) -> Visit<L, Q, G>
@@ -113,7 +113,7 @@ pub fn connection<
         lines,
         &mut reader,
         &mut writer,
-        counter,
+        context,
         sitting,
     );
     let gone = C::let_go(rt, alloc, reader, writer, ended);
@@ -150,7 +150,7 @@ pub(crate) struct Parted<L: DeskName, Q, G> {
     pub(crate) gone: Vec<G>,
 }
 
-/// The same, in the room that is there for them.
+/// The seats, the pens and what is left of the clients of these visits, each in order, in the room that is there for them.
 fn part_all<L: DeskName, Q: Drop, G: Drop>(
     visits: Vec<Visit<L, Q, G>>,
     room: Parted<L, Q, G>,
@@ -235,7 +235,7 @@ fn visit_all<
     rt: &T,
     alloc: Global,
     port: P,
-    counter: &Counter<'a, L, K, OpenGate, T>,
+    context: &SessionContext<'a, L, K, OpenGate, T>,
     sittings: Vec<Sitting<L, Q>>,
     visits: Vec<Visit<L, Q, G>>,
 ) -> Visited<L, P, Q, G>
@@ -293,7 +293,7 @@ fn visit_all<
                         ensures failed { TellsFailure K.failed result.sitting }
                     {
                         let _types = types;
-                        connection(rt, alloc, counter, sitting, client)
+                        connection(rt, alloc, context, sitting, client)
                     },
                 );
                 match spawned.ok() {
@@ -409,7 +409,7 @@ pub(crate) fn connect<
     rt: &T,
     alloc: Global,
     port: P,
-    counter: &Counter<'a, L, K, OpenGate, T>,
+    context: &SessionContext<'a, L, K, OpenGate, T>,
     sittings: Vec<Sitting<L, Q>>,
     more: usize,
 ) -> Connected<L, P, Q, G>
@@ -429,7 +429,7 @@ pub(crate) fn connect<
         visits,
         fault,
         port,
-    } = visit_all(rt, alloc, port, counter, sittings, visits);
+    } = visit_all(rt, alloc, port, context, sittings, visits);
     let fault = fault_of(fault, visits.as_slice());
     Connected {
         parted: part_all(visits, parted),

@@ -11,10 +11,10 @@ mod staff;
 pub use connections::{Visit, connection};
 pub use rbc_port::{Client, Clients, Closed, Ends, Port, PortFailed, Terms};
 pub use rbc_sessions::{
-    Blank, Candidate, Centre, Counter, Desk, DeskName, KeepFault, Keeper, NoJournal, NotKept,
-    Nowhere, OpenGate, Receipt, Record, Seat, SessionEnd, SessionFault, Sight, Sitting, View,
-    candidate, commit, demand_in, in_vain, looked_up, print_history, replies, run, session, show,
-    stopped, tell, words,
+    Blank, Candidate, Centre, Desk, DeskName, EntryLimit, KeepFault, Keeper, NoJournal, NotKept,
+    NullSink, Onlooker, OpenGate, Receipt, Record, Seat, SessionContext, SessionEnd, SessionFault,
+    Sight, Sitting, View, candidate, commit, demand_in, in_vain, looked_up, print_history, replies,
+    run, session, show, stopped, tell, words,
 };
 pub use serving::{ServeFault, Served, Unserved, close_desk, serve};
 pub use staff::{Staff, no_pens};

@@ -6,7 +6,7 @@ ghost use Rattle.rbc_model.specs.Histories.{IsLegal};
 ghost use Rattle.rbc_port.specs.Clients.{Coming, FewerCome, Parting, at_close};
 ghost use Rattle.rbc_sessions.specs.Later.{IsLater};
 ghost use Rattle.rbc_sessions.specs.Outcomes.{IsToldToOne};
-ghost use Rattle.rbc_sessions.specs.Records.{HistoryOnTrack};
+ghost use Rattle.rbc_sessions.specs.Records.{begin_of, HistoryOnTrack};
 ghost use Rattle.rbc_sessions.specs.Seats.{Seated};
 ghost use Rattle.rbc_sessions.specs.declared.keeping.KeepFault.TheVariants.{Journal as KeeperFailed};
 ghost use Rattle.rbc_server.specs.Connections.{AreParted, OneKnows};
@@ -17,7 +17,7 @@ ghost use Rattle.rbc_server.specs.declared.staff.Staff.{Staff as Serving};
 use crate::bringing::{bring, bring_all};
 use crate::connections::{ConnectFault, Connected, Parted, connect};
 use crate::outcomes::{print_closed, print_outcomes};
-use crate::{Counter, KeepFault, Keeper, Staff};
+use crate::{KeepFault, Keeper, SessionContext, Staff};
 use rbc_model::Memory;
 use rbc_port::{Client, Clients, Closed};
 use rbc_sessions::{CloseFault, Desk, DeskName, OpenGate, Outcome, Record, Seat, Sight, sweep};
@@ -130,10 +130,10 @@ fn are_on_track<L: DeskName>(seats: &[Seat<L>])
 ///
 /// # Errors
 ///
-/// As [`Counter::keep_grants`] has them.
+/// As [`SessionContext::keep_grants`] has them.
 fn keep_swept<'a, L: DeskName, K: Keeper<L>, G, R: Wait>(
     alloc: Global,
-    counter: &Counter<'a, L, K, OpenGate, R>,
+    context: &SessionContext<'a, L, K, OpenGate, R>,
     visited: &mut Parted<L, K::Pen, G>,
     swept: &[Seat<L>],
     outcomes: &[Outcome],
@@ -151,7 +151,7 @@ fn keep_swept<'a, L: DeskName, K: Keeper<L>, G, R: Wait>(
     let Parted { seats, pens, .. } = visited;
     let first = &mut seats[0];
     bring(first, swept);
-    counter.keep_grants(alloc, &mut pens[0], first, outcomes)
+    context.keep_grants(alloc, &mut pens[0], first, outcomes)
 }
 
 /// What the first of these seats was told, as a moment of the desk's history.
@@ -176,7 +176,7 @@ fn first_sight<L: DeskName>(seats: &[Seat<L>]) -> Sight
 fn sweep_behind<'a, L: DeskName + Send + Sync, K: Keeper<L>, G, W: Sink, T: Threads + Wait + Sync>(
     rt: &T,
     alloc: Global,
-    counter: &Counter<'a, L, K, OpenGate, T>,
+    context: &SessionContext<'a, L, K, OpenGate, T>,
     visited: &mut Parted<L, K::Pen, G>,
     workers: Vec<Seat<L>>,
     writer: &mut W,
@@ -201,19 +201,19 @@ fn sweep_behind<'a, L: DeskName + Send + Sync, K: Keeper<L>, G, W: Sink, T: Thre
     ensures which { IfErr result IsSweepFault }
 {
     // The track is sound, so what stands beyond an end, or in the way, is of the track.
-    counter.track.known();
+    context.track.known();
     let workers = bring_all(workers, visited.seats.as_slice());
     are_on_track(workers.as_slice());
-    let (mut workers, outcomes) = sweep(rt, alloc, counter.desk, workers, &OpenGate);
+    let (mut workers, outcomes) = sweep(rt, alloc, context.desk, workers, &OpenGate);
     let outcomes = outcomes?;
     keep_swept(
         alloc,
-        counter,
+        context,
         visited,
         workers.as_slice(),
         outcomes.as_slice(),
     )?;
-    print_outcomes(counter.track, outcomes.as_slice(), writer)?;
+    print_outcomes(context.track, outcomes.as_slice(), writer)?;
     visited.seats.append(&mut workers)?;
     Ok(())
 }
@@ -231,7 +231,7 @@ pub struct Unserved<P, Q, G> {
     pub port: Closed<P>,
 }
 
-/// The same of connections whose seats are let go.
+/// Where serving clients ended with a fault: the fault, and what stands of connections whose seats are let go.
 fn faulted<L: DeskName, P, Q, G>(
     fault: ServeFault,
     visited: Parted<L, Q, G>,
@@ -262,7 +262,11 @@ fn faulted<L: DeskName, P, Q, G>(
 ///
 /// # Errors
 ///
-/// Those of [`serve`], but for `Close`.
+/// The first of these:
+/// - `Port`: a client could not be accepted; nothing was printed,
+/// - `Memory`: the allocator refused it, or no thread could be started for a connection; nothing was printed,
+/// - `Journal`: a request could not be kept, in a session or behind the sweep; nothing was printed,
+/// - `Write`: the writer failed.
 fn attend<
     'a,
     L: DeskName + Send + Sync,
@@ -280,7 +284,7 @@ fn attend<
     rt: &T,
     alloc: Global,
     port: P,
-    counter: &Counter<'a, L, K, OpenGate, T>,
+    context: &SessionContext<'a, L, K, OpenGate, T>,
     staff: Staff<L, Q>,
     writer: &mut W,
 ) -> Result<(Parted<L, Q, G>, Closed<P>), Unserved<P, Q, G>>
@@ -300,14 +304,14 @@ fn attend<
         parted: mut visited,
         fault,
         port,
-    } = connect(rt, alloc, port, counter, sittings, workers.len());
+    } = connect(rt, alloc, port, context, sittings, workers.len());
     if let Some(fault) = fault {
         return Err(faulted(ServeFault::from(fault), visited, port));
     }
     if workers.is_empty() {
         return Ok((visited, port));
     }
-    match sweep_behind(rt, alloc, counter, &mut visited, workers, writer) {
+    match sweep_behind(rt, alloc, context, &mut visited, workers, writer) {
         Ok(()) => Ok((visited, port)),
         Err(fault) => Err(faulted(fault, visited, port)),
     }
@@ -329,7 +333,9 @@ pub fn close_desk<L: DeskName, W: Sink, T: Wait>(
     ensures closing { IfOk result (IsClosed L.opened seats.items) }
     ensures grown { IfOk result (λ log. take (length L.opened.entries) log.entries ≡ L.opened.entries) }
     ensures track { IfOk result (λ log. log.track ≡ L.opened.track) }
-    ensures legal { IfOk result (λ log. IsLegal log.track log.entries) }
+    ensures begin { IfOk result (λ log. log.begin ≡ L.opened.begin) }
+    ensures most { IfOk result (λ log. log.most ≡ L.opened.most) }
+    ensures legal { IfOk result (λ log. IsLegal (begin_of log) log.entries) }
     ensures text { IfOk result (λ log.
         Appends (W.written writer.old) (W.written writer.new) (closed_line (length log.entries))) }
     ensures handed_on { OnOk result (W.held_back writer.new ≡ []) }
@@ -399,7 +405,9 @@ pub fn serve<
     // The record goes on from the one at the desk's opening, and is legal.
     ensures grown { IfOk result (λ served. take (length L.opened.entries) served.record.entries ≡ L.opened.entries) }
     ensures track { IfOk result (λ served. served.record.track ≡ L.opened.track) }
-    ensures legal { IfOk result (λ served. IsLegal served.record.track served.record.entries) }
+    ensures begin { IfOk result (λ served. served.record.begin ≡ L.opened.begin) }
+    ensures most { IfOk result (λ served. served.record.most ≡ L.opened.most) }
+    ensures legal { IfOk result (λ served. IsLegal (begin_of served.record) served.record.entries) }
 
     // The clients that came, in order, were served from the seats, in order: what each said was answered to it, line by
     // line, and what is left of it tells how far, and why no further. What led to the entries that it was told of is kept.
@@ -424,7 +432,7 @@ pub fn serve<
     ensures journal_failed { IfErr result (λ unserved. unserved.fault ≡ JournalFault → OneKnows K.failed unserved.pens.items) }
     ensures write { IsErrAnd result (λ unserved. unserved.fault ≡ WriteFault) ↔ IsTrue (W.failed writer.new) }
 
-    // What stands behind a fault: of the clients that came, in order, all were served as above, but maybe the last one where
+    // What stands behind a fault: of the clients that came, in order, all were served, line by line, but maybe the last one where
     // memory was refused. The pens come back, and what is left of these clients. Behind a write fault a part of the text is
     // written, from its start. Where the desk can't be closed the outcomes are told.
     ensures fault { IfErr result (λ unserved. IsServeFault K.kept L.opened (P.coming port) (P.coming (at_close unserved.port)) L.parts
@@ -434,7 +442,7 @@ pub fn serve<
         rt,
         alloc,
         port,
-        &Counter::new(&desk, keeper, &OpenGate, rt),
+        &SessionContext::new(&desk, keeper, &OpenGate, rt),
         staff,
         writer,
     );

@@ -39,4 +39,7 @@ returns g c =
       journal = λ broken.
           subst (OneKnows g.K.Keeper.failed) (sym parts.pens)
           (one_knows g.K.Keeper.failed (λ d. d.sitting) duties stood.ensures.failed (not_kept stood.result.all_begun failed lost (sym is ∙ broken)));
+      looks = λ none. stood.ensures.looks;
+      room = λ none.
+          omega (arith, c.part_all.result.seats.ok.0, ap length parts.seats, length-map duties (λ d. d.sitting.seat), stood.result.duties.ok.0, stood.ensures.count, parts.room);
     }

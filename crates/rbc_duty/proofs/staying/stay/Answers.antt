@@ -2,7 +2,9 @@ use Rattle.std.proofs.Common.{rules, ◌≡◌, ◌∙◌, Option, None, Some, a
 use Rattle.std.proofs.lemmas.Bool.{both_ways}
 use Rattle.std.specs.Prelude.{All, IfSome}
 use Rattle.rbc_server.specs.Later.{IsLater}
+use Rattle.rbc_server.specs.Looking.{LooksOn}
 use Rattle.rbc_server.specs.Seats.{Seated}
+use Rattle.rbc_server.specs.Serving.{IsClosed, IsCloseFault}
 use Rattle.rbc_server.specs.declared.serving.ServeFault.{ServeFault}
 use Rattle.rbc_duty.specs.Stays.{StandsRelieved}
 use Rattle.rbc_duty.proofs.StayLemmas.{fault_stands, not_written, unclosed_stands}
@@ -10,17 +12,17 @@ use Rattle.rbc_duty.proofs.staying.stay.Goals as goal
 
 pub returns-in-Some-clause-fault : goal.returns-in-Some-clause-fault
 returns-in-Some-clause-fault g c =
-    let posts = c.args.posts.items in
+    let posts = c.args.company.posts.items in
     let comings = map (λ p. g.P.Clients.coming p.port) posts in
     let sittings = map (λ p. p.sitting) posts in
     let pens = c.attend-parted.result.parted.pens.items in
     let written = g.W.Sink.written c.args.writer.now in
-    fault_stands g.K.Keeper.kept g.L.DeskName.opened g.L.Ledger.parts comings sittings pens written written c.in-Some.fault
+    fault_stands g.K.Keeper.kept g.L.DeskName.opened g.L.Ledger.parts comings sittings (g.B.Onlooker.seat c.args.company.onlooker) pens written written c.in-Some.fault
     (subst (λ (f : Option ServeFault). IfSome f (StandsRelieved g.K.Keeper.kept comings sittings pens)) c.in-Some.is c.attend-parted.ensures.stands)
 
 pub returns-in-Some-clause-write : goal.returns-in-Some-clause-write
 returns-in-Some-clause-write g c =
-    let posts = c.args.posts.items in
+    let posts = c.args.company.posts.items in
     let comings = map (λ p. g.P.Clients.coming p.port) posts in
     let sittings = map (λ p. p.sitting) posts in
     let pens = c.attend-parted.result.parted.pens.items in (
@@ -38,7 +40,9 @@ returns-in-Ok-clause-stayed g c =
     record {
       seats = c.attend-parted.result.parted.seats.items;
       relieved = c.attend-parted.ensures.relieved none;
-      closing = c.in-Ok.ensures.closing;
+      looker = c.into_seat.result;
+      looked = subst (LooksOn (g.B.Onlooker.seat c.args.company.onlooker)) (sym c.into_seat.ensures) (c.attend-parted.ensures.looks none);
+      closing = subst (λ s. IsClosed g.L.DeskName.opened s c.in-Ok.record) c.with_looker-seats.ensures.seats c.in-Ok.ensures.closing;
       closed = c.in-Ok.ensures.text;
     }
 
@@ -51,7 +55,11 @@ returns-in-Ok-clause-told g c =
 pub returns-in-Err-clause-fault : goal.returns-in-Err-clause-fault
 returns-in-Err-clause-fault g c =
     let none : c.attend-parted.result.fault ≡ None = search rules in
-    let posts = c.args.posts.items in
+    let posts = c.args.company.posts.items in
+    let old = g.W.Sink.written c.args.writer.now in
+    let new = g.W.Sink.written c.close_desk.new.writer in
     unclosed_stands g.K.Keeper.kept g.L.DeskName.opened g.L.Ledger.parts (map (λ p. g.P.Clients.coming p.port) posts) (map (λ p. p.sitting) posts)
-    c.attend-parted.result.parted.pens.items (g.W.Sink.written c.args.writer.now) (g.W.Sink.written c.close_desk.new.writer) _ c.in-Err.fault
-    (c.attend-parted.ensures.relieved none) c.in-Err.ensures.fault
+    (g.B.Onlooker.seat c.args.company.onlooker) c.attend-parted.result.parted.pens.items old new c.attend-parted.result.parted.seats.items c.into_seat.result c.in-Err.fault
+    (c.attend-parted.ensures.relieved none)
+    (subst (LooksOn (g.B.Onlooker.seat c.args.company.onlooker)) (sym c.into_seat.ensures) (c.attend-parted.ensures.looks none))
+    (subst (λ s. IsCloseFault g.L.DeskName.opened g.L.Ledger.parts s old new c.in-Err.fault) c.with_looker-seats.ensures.seats c.in-Err.ensures.fault)

@@ -1,8 +1,7 @@
 use Rattle.std.proofs.Common.{◌≡◌, [], List, ℕ, sym, ◌∙◌, subst}
 use Rattle.std.proofs.lemmas.Option.{same_Some}
 use Rattle.rbc_journal.specs.Journal.{recovered}
-use Rattle.rbc_model.specs.Tracks.{Track}
-use Rattle.rbc_model.specs.Histories.{Entry}
+use Rattle.rbc_model.specs.Histories.{Beginning, Entry}
 use Rattle.rbc_kept.specs.Adds.{Adds}
 use Rattle.rbc_kept.specs.Tells.{Tells}
 use Rattle.rbc_kept.proofs.AddingLemmas.{are_retold}
@@ -10,15 +9,15 @@ use Rattle.rbc_kept.proofs.GateLemmas.{journals_are_sessions}
 use Rattle.rbc_kept.proofs.TellingLemmas.{tell_one, front_tells}
 use Rattle.rbc_kept.proofs.laws.files_tell_one_history.Goals as goal
 
-only_one : (track : Track) (before : List Entry) (line : List ℕ) (a b : Entry) → Adds track before line a → Adds track before line b → a ≡ b
-only_one track before line a b first second = same_Some a b (sym first ∙ second)
+only_one : (begin : Beginning) (before : List Entry) (line : List ℕ) (a b : Entry) → Adds begin before line a → Adds begin before line b → a ≡ b
+only_one begin before line a b first second = same_Some a b (sym first ∙ second)
 
 pub returns-clause-one : goal.returns-clause-one
-returns-clause-one c track file some other a b = tell_one (Adds track) (only_one track) [] (recovered file) some other a b
+returns-clause-one c begin file some other a b = tell_one (Adds begin) (only_one begin) [] (recovered file) some other a b
 
 pub returns-clause-beginnings : goal.returns-clause-beginnings
-returns-clause-beginnings c track file later rest entries told is =
-    front_tells (Adds track) [] (recovered file) rest entries (subst (λ (ls : List (List ℕ)). Tells (Adds track) [] ls entries) is told)
+returns-clause-beginnings c begin file later rest entries told is =
+    front_tells (Adds begin) [] (recovered file) rest entries (subst (λ (ls : List (List ℕ)). Tells (Adds begin) [] ls entries) is told)
 
 pub returns-clause-retold : goal.returns-clause-retold
 returns-clause-retold c = are_retold

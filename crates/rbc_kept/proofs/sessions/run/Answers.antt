@@ -1,9 +1,10 @@
-use Rattle.std.proofs.Common.{◌≡◌, ◌∙◌, true, sym}
+use Rattle.std.proofs.Common.{◌≡◌, ◌∙◌, ap, true, sym}
 use Rattle.std.specs.Io.KnownBytes.{IsAtEnd}
+use Rattle.rbc_model.specs.Histories.{Beginning}
 use Rattle.rbc_server.specs.Answered.{AnswersAll}
 use Rattle.rbc_kept.proofs.EndLemmas.{read_told, write_told, journal_told, broken_told, memory_told, ok_told, handed_told}
 use Rattle.rbc_kept.proofs.KeepingLemmas.{ready_goes}
-use Rattle.rbc_kept.proofs.TalkLemmas.{leaves_in, track_in, ready_after, fails_in, kept_session, kept_answers}
+use Rattle.rbc_kept.proofs.TalkLemmas.{leaves_in, begin_in, ready_after, fails_in, kept_session, kept_answers}
 use Rattle.rbc_kept.proofs.sessions.run.Goals as goal
 
 pub converse-ended-requires-clause-ready : goal.converse-ended-requires-clause-ready
@@ -46,10 +47,16 @@ returns-clause-any_moment g c =
     leaves_in g.D.Device.seen g.D.Device.may_leave g.D.Device.moment g.D.Device.left_since g.D.Device.faults g.met.D.Device.only_now g.met.D.Device.counts_now
     c.args.kept.now c.converse-ended.new.answerer c.converse-ended.ensures.talk.0 _ _ c.converse-ended.result c.requires.ready c.converse-ended.ensures.talk.2
 
+pub returns-clause-begin : goal.returns-clause-begin
+returns-clause-begin g c =
+    begin_in g.D.Device.seen g.D.Device.may_leave g.D.Device.moment g.D.Device.left_since g.D.Device.faults g.met.D.Device.only_now g.met.D.Device.counts_now
+    c.args.kept.now c.converse-ended.new.answerer c.converse-ended.ensures.talk.0 _ _ c.converse-ended.result c.requires.ready c.converse-ended.ensures.talk.2
+
 pub returns-clause-track : goal.returns-clause-track
 returns-clause-track g c =
-    track_in g.D.Device.seen g.D.Device.may_leave g.D.Device.moment g.D.Device.left_since g.D.Device.faults g.met.D.Device.only_now g.met.D.Device.counts_now
-    c.args.kept.now c.converse-ended.new.answerer c.converse-ended.ensures.talk.0 _ _ c.converse-ended.result c.requires.ready c.converse-ended.ensures.talk.2
+    ap (λ (b : Beginning). b.track)
+    (begin_in g.D.Device.seen g.D.Device.may_leave g.D.Device.moment g.D.Device.left_since g.D.Device.faults g.met.D.Device.only_now g.met.D.Device.counts_now
+    c.args.kept.now c.converse-ended.new.answerer c.converse-ended.ensures.talk.0 _ _ c.converse-ended.result c.requires.ready c.converse-ended.ensures.talk.2)
 
 pub returns-clause-session : goal.returns-clause-session
 returns-clause-session g c = (

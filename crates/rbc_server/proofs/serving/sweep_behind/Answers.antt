@@ -22,7 +22,7 @@ keep_swept-requires-clause-told g c =
 pub print_outcomes-requires-clause-tellable : goal.print_outcomes-requires-clause-tellable
 print_outcomes-requires-clause-tellable g c =
     let track = g.L.DeskName.opened.track in
-    let of_desk = c.args.counter.now.of_desk in
+    let of_desk = c.args.context.now.of_desk in
     let brought = c.bring_all-workers.result.items in
     let outcomes = c.in_ok-outcomes.outcomes.items in
     let told : All (IsToldToOne brought c.sweep-workers.result.0.items) outcomes = search rules in
@@ -34,7 +34,7 @@ print_outcomes-requires-clause-tellable g c =
 pub returns-clause-attended : goal.returns-clause-attended
 returns-clause-attended g c =
     let track = g.L.DeskName.opened.track in
-    let of_desk = c.args.counter.now.of_desk in
+    let of_desk = c.args.context.now.of_desk in
     let served = c.args.visited.now.seats.items in
     let pens = c.args.visited.now.pens.items in
     let brought = c.bring_all-workers.result.items in
@@ -56,14 +56,14 @@ returns-clause-attended g c =
           (swept_with g.K.Keeper.kept coming partings staff served others brought swept heard c.append.new.self.items pens last outcomes parted c.as_slice.ensures.value
           (subst (λ workers. AllZip (IsBrought others) workers brought) (sym same) c.bring_all-workers.ensures.brought) c.sweep-workers.ensures.seats trains answered gained is_kept all);
       told = printed.0;
-      tells = subst (λ track. TellsAll track outcomes printed.0) of_desk (subst (λ l. TellsAll c.args.counter.now.track.now l printed.0) c.as_slice-5.ensures.value printed.1);
+      tells = subst (λ track. TellsAll track outcomes printed.0) of_desk (subst (λ l. TellsAll c.args.context.now.track.now l printed.0) c.as_slice-5.ensures.value printed.1);
       written = printed.2;
     }
 
 pub returns-in_err-print_outcomes-clause-cut_off : goal.returns-in_err-print_outcomes-clause-cut_off
 returns-in_err-print_outcomes-clause-cut_off g c =
     let track = g.L.DeskName.opened.track in
-    let of_desk = c.args.counter.now.of_desk in
+    let of_desk = c.args.context.now.of_desk in
     let served = c.args.visited.now.seats.items in
     let pens = c.args.visited.now.pens.items in
     let brought = c.bring_all-workers.result.items in
@@ -86,6 +86,6 @@ returns-in_err-print_outcomes-clause-cut_off g c =
           (subst (λ workers. AllZip (IsBrought others) workers brought) (sym same) c.bring_all-workers.ensures.brought) c.sweep-workers.ensures.seats trains answered gained is_kept refl);
       count = part.0;
       told = part.1;
-      tells = subst (λ track. TellsAll track (take part.0 outcomes) part.1) of_desk (subst (λ l. TellsAll c.args.counter.now.track.now (take part.0 l) part.1) c.as_slice-5.ensures.value part.2);
+      tells = subst (λ track. TellsAll track (take part.0 outcomes) part.1) of_desk (subst (λ l. TellsAll c.args.context.now.track.now (take part.0 l) part.1) c.as_slice-5.ensures.value part.2);
       written = part.3;
     }

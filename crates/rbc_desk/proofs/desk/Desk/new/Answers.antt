@@ -11,7 +11,7 @@ use Rattle.rbc_desk.proofs.desk.Desk.new.Goals as goal
 pub seats_with-requires-clause-told : goal.seats_with-requires-clause-told
 seats_with-requires-clause-told g c =
     let P : Watching → Type 0 = λ eye. IsLater g.L.DeskName.opened eye.told in
-    let here : IsLater g.L.DeskName.opened c.args.log = subst (λ h. IsLater h c.args.log) c.requires.opened (later_itself c.args.log c.known.ensures.legal) in
+    let here : IsLater g.L.DeskName.opened c.args.log = subst (λ h. IsLater h c.args.log) c.requires.opened (later_itself c.args.log c.right.ensures) in
     subst (All P) (sym c.in_ok-press.ensures.eyes) (All-replicate P c.args.seats (watching c.args.log (length c.args.log.entries)) here)
 
 pub returns : goal.returns

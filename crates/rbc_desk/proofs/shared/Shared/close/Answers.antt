@@ -25,7 +25,7 @@ returns-in-Some-clause-unmatched g c =
     let parts : c.take_all-misplaced.new.all.parts ≡ g.L.Ledger.parts = omega (arith, c.args.seats.ok.0, c.take_all-misplaced.ensures.parts, c.take_all-misplaced.ensures.most, c.requires) in
     let many : length receipts + start ≡ length log.entries = omega (arith, c.audit.ensures.whole parts, c.take_all-misplaced.ensures.amount, c.args.self.counted) in
     let marked : length log.entries - vec_len c.args.self.found ≡ start = omega (arith, c.args.self.counted, c.args.self.places) in (
-      goes_on log g.L.DeskName.opened start receipts c.args.self.track c.args.self.base c.args.self.starts c.known.ensures.legal many,
+      goes_on log g.L.DeskName.opened start receipts c.args.self.track c.args.self.begin c.args.self.most c.args.self.base c.args.self.starts c.right.ensures many,
       subst (λ begun. IsFirstMisplaced log.entries begun [] receipts c.in-Some.receipt) c.args.self.starts
           (subst (λ begun. IsFirstMisplaced log.entries begun [] receipts c.in-Some.receipt) marked c.in-Some.ensures.finds),
     )

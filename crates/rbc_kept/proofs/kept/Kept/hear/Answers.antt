@@ -4,7 +4,7 @@ use Rattle.rbc_server.specs.Replies.{reply_text, ReplyIsWhole}
 use Rattle.rbc_session_laws.specs.declared.demand.Demand.TheVariants.{Event}
 use Rattle.rbc_server.specs.Records.{HistoryOnTrack}
 use Rattle.rbc_server.specs.SessionLines.{request_view}
-use Rattle.rbc_kept.specs.declared.text.Text.{Text}
+use Rattle.rbc_streams.specs.declared.text.Text.{Text}
 use Rattle.rbc_kept.proofs.KeepingLemmas.{advances, told_still, told_after}
 use Rattle.rbc_kept.proofs.TreatingLemmas.{goes_from, said_goes, treated_by}
 use Rattle.rbc_kept.proofs.kept.Kept.hear.Goals as goal

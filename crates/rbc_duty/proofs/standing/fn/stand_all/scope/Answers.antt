@@ -32,6 +32,7 @@ returns g c =
           );
       failed = zip_second (λ h d. IsDuty g.K.Keeper.kept (record { coming = g.P.Clients.coming h.promise.0.value.port; before = h.promise.0.value.sitting; after = d.sitting; lost = d.is_port_lost }))
           (λ d. TellsFailure g.K.Keeper.failed d.sitting) handles duties c.join_all.ensures.on_duty;
+      looks = c.look_on-onlooker.ensures;
     }
 
 pub loop-post-preserved-in-Some-ok : goal.loop-post-preserved-in-Some-ok

@@ -3,7 +3,7 @@ use Rattle.rbc_model.specs.declared.refusals.LineFault.TheVariants.{Overlong}
 use Rattle.rbc_model.specs.SessionReply.{BadLine, refused_reply}
 use Rattle.rbc_kept.proofs.KeepingLemmas.{unchanged}
 use Rattle.rbc_kept.proofs.TreatingLemmas.{overlong_goes}
-use Rattle.rbc_kept.proofs.answering.KeptAnswersCentre.refuse.Goals as goal
+use Rattle.rbc_kept.proofs.answering.KeptAnswersJournaledCentre.refuse.Goals as goal
 
 pub returns-clause-reply : goal.returns-clause-reply
 returns-clause-reply g c =

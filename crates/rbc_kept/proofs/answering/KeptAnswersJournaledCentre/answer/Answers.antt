@@ -4,7 +4,7 @@ use Rattle.rbc_model.specs.SessionReply.{BadLine, refused_reply}
 use Rattle.rbc_server.specs.SessionLines.{request_view}
 use Rattle.rbc_kept.proofs.KeepingLemmas.{unchanged}
 use Rattle.rbc_kept.proofs.TreatingLemmas.{refused_goes}
-use Rattle.rbc_kept.proofs.answering.KeptAnswersCentre.answer.Goals as goal
+use Rattle.rbc_kept.proofs.answering.KeptAnswersJournaledCentre.answer.Goals as goal
 
 pub treat-requires-clause-sayable : goal.treat-requires-clause-sayable
 treat-requires-clause-sayable g c κs within = read_is_sayable c.args.line.now (request_view c.in-Ok.request) (sym c.in-Ok.ensures)

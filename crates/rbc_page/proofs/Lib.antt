@@ -1,0 +1,3 @@
+pub mod HearingLemmas
+pub mod LookoutLemmas
+pub mod NumberLemmas

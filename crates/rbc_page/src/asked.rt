@@ -1,0 +1,31 @@
+//! What is asked for.
+
+/// What a path names.
+#[derive(Clone, Copy)]
+pub enum Page {
+    /// `/`: the viewer.
+    Viewer,
+    /// `/track`: the lines of the track.
+    Track,
+    /// `/scene`: the lines of the newest scene that is published.
+    Scene,
+    /// `/metrics`: what was counted.
+    Metrics,
+    /// `/health`: that the centre answers.
+    Health,
+}
+
+/// A request that is answered.
+#[derive(Clone, Copy)]
+pub struct Asked {
+    /// What its path names.
+    pub page: Page,
+    /// How many entries the scene's history is to have at least, if it says so.
+    pub after: Option<u64>,
+    /// The version that the client has, if its tag is one of this centre.
+    pub known: Option<u64>,
+    /// Whether only the head of the answer is asked for.
+    pub is_head: bool,
+    /// Whether the client may ask again over its connection.
+    pub stays: bool,
+}
