@@ -16,7 +16,7 @@ use Rattle.rbc.specs.declared.journal_fault.JournalFault.TheVariants.{InUse, Fai
 use Rattle.rbc_trackfile.specs.declared.loading.LoadFault.{LoadFault}
 use Rattle.rbc_trackfile.specs.declared.loading.LoadFault.TheVariants.{Memory as NoLoadMemory}
 use Rattle.rbc.specs.declared.failure.Failure.{Failure}
-use Rattle.rbc.specs.declared.failure.Failure.TheVariants.{CommandLine, NotText, NotCertified, NotRead, Load, Session, History, Journal, NoPort, Serve, Memory as NoMemory}
+use Rattle.rbc.specs.declared.failure.Failure.TheVariants.{CommandLine, NotText, NotCertified, NotRead, Load, Begin, Session, History, Journal, NoPort, Serve, Memory as NoMemory}
 
 -- after a command line that asks for help, or that is refused
 abbrev pub status_of_kind : ErrorKind → ℕ
@@ -55,6 +55,7 @@ status_of NotText = 2
 status_of NotCertified = 1
 status_of NotRead = 1
 status_of (Load fault reason) = status_of_load fault
+status_of (Begin fault reason) = 3
 status_of (Session fault) = status_of_fault fault
 status_of (History fault reason) = 4
 status_of (Journal fault place) = status_of_journal fault

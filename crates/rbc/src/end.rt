@@ -69,7 +69,8 @@ impl Line {
         bytes.iter().any(|byte| self.is_found_at(*byte))
     }
 
-    /// The same for one byte. A carriage return before the line feed is no part of a line.
+    /// Goes on through this byte. Whether a line that is the word ends in it. A carriage return before the line feed is no part
+    /// of a line.
     fn is_found_at(&mut self, byte: u8) -> bool {
         let is_whole = self.matched == Some(WORD.len());
         self.matched = match (byte, self.matched) {

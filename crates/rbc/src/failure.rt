@@ -5,6 +5,7 @@ ghost use Rattle.rbc_model.specs.declared.sessions.SessionFault.TheVariants.{Wri
 ghost use Rattle.rbc.specs.Statuses.{is_help_lost, status_of};
 ghost use Rattle.rbc.specs.declared.failure.Failure.TheVariants.{Session};
 
+use crate::beginning::BeginFault;
 use crate::history::HistoryFault;
 use crate::journal_fault::{JournalFault, Misread};
 use crate::output::is_reader_gone;
@@ -27,7 +28,7 @@ const NOT_CERTIFIED: u8 = 1;
 const NOT_READ: u8 = 1;
 /// The exit status after a command line that is refused.
 const REFUSED: u8 = 2;
-/// The exit status after a track that can't be had, or a journal that is not one of this track.
+/// The exit status after a track or a scene that can't be had, or a journal that is not one of this track.
 const NO_TRACK: u8 = 3;
 /// The exit status after a fault of a session, of a port, or of the file of a history or of a journal.
 const SESSION_FAULT: u8 = 4;
@@ -45,6 +46,8 @@ pub enum Failure {
     NotText,
     /// There is no track.
     Load(LoadFault, Reason),
+    /// There is no scene to begin with.
+    Begin(BeginFault, Reason),
     /// A session ended before its input.
     Session(SessionFault),
     /// The file of the history is not written.
@@ -65,8 +68,8 @@ pub enum Failure {
 }
 
 impl Failure {
-    /// The program's exit status: 0 after help, 1 for a certificate, message or packet, 2 for a command line, 3 for a track or
-    /// a foreign journal, 4 for a fault of a session, of a port, or of the file of a history or of a journal, 5 for want of
+    /// The program's exit status: 0 after help, 1 for a certificate, message or packet, 2 for a command line, 3 for a track, a
+    /// scene or a foreign journal, 4 for a fault of a session, of a port, or of the file of a history or of a journal, 5 for want of
     /// memory and 6 for receipts that are not the history.
     pub fn status(&self) -> u8
         ensures { result ≡ status_of self.now }
@@ -85,7 +88,7 @@ impl Failure {
             | Failure::Memory => NO_MEMORY,
             Failure::Journal(fault, _) => fault.status(),
             Failure::Session(_) | Failure::History(_, _) | Failure::NoPort(_) => SESSION_FAULT,
-            Failure::Load(_, _) => NO_TRACK,
+            Failure::Load(_, _) | Failure::Begin(_, _) => NO_TRACK,
             Failure::Serve(ServeFault::Close(_)) => UNMATCHED,
             Failure::Serve(ServeFault::Port | ServeFault::Write | ServeFault::Journal) =>
                 SESSION_FAULT,
@@ -135,6 +138,7 @@ impl Failure {
                 "error: invalid UTF-8 was detected in one or more arguments"
             ),
             Failure::Load(fault, reason) => eprint!(rt; "rbc: {fault}\n{reason}"),
+            Failure::Begin(fault, reason) => eprint!(rt; "rbc: {fault}\n{reason}"),
             Failure::Session(fault) => eprintln!(rt; "rbc: {fault}"),
             Failure::History(fault, reason) => eprint!(rt; "rbc: {fault}\n{reason}"),
             Failure::Journal(fault, place) => tell_journal_fault(rt, fault, place.as_ref()),
@@ -218,6 +222,7 @@ impl From<KeptFault> for Failure {
     fn from(fault: KeptFault) -> Failure {
         match fault {
             KeptFault::Foreign(line) => JournalFault::Foreign(line).into(),
+            KeptFault::Entries(most) => JournalFault::Entries(most).into(),
             KeptFault::Full | KeptFault::Device => JournalFault::Failed(None).into(),
             KeptFault::Memory => Failure::Memory,
         }

@@ -1,12 +1,14 @@
 //! The file of a centre's history. What stands there is kept until a new file with the whole history takes its place.
 
+ghost use Rattle.std.specs.Prelude.{◌≡◌, false, OnOk};
+ghost use Rattle.rbc_show.specs.Records.{begin_of};
 ghost use Rattle.rbc_show.specs.Retelling.{IsRetold};
 
 use crate::failure::Failure;
 use crate::reason::Reason;
-use rbc_command_line::Centre;
-use rbc_show::Stream;
+use rbc_command_line::CentreOptions;
 use rbc_show::kept::server::{Record, print_history};
+use rbc_show::{Sink, Stream, Word, WriteFailed, print_line};
 use std::alloc::Global;
 use std::fs::{File, Files, Metadata, OpenOptions};
 use std::io::ErrorKind;
@@ -70,7 +72,7 @@ fn unwritable(alloc: Global, path: &str, error: &io::Error) -> Failure {
 /// `History`, where the file can't be written, is one of the others or a folder; `Memory`.
 pub(crate) fn history_of<R: Files<File = File> + AllocGlobal>(
     rt: &R,
-    centre: &Centre<'_>,
+    centre: &CentreOptions<'_>,
 ) -> Result<Option<HistoryFile>, Failure> {
     match centre.history {
         Some(path) => Ok(Some(begin_history(rt, path, centre)?)),
@@ -78,11 +80,11 @@ pub(crate) fn history_of<R: Files<File = File> + AllocGlobal>(
     }
 }
 
-/// The same for the file of this path.
+/// Looks where the history of a centre can be written at this path, and makes the new file for it.
 fn begin_history<R: Files<File = File> + AllocGlobal>(
     rt: &R,
     path: &str,
-    centre: &Centre<'_>,
+    centre: &CentreOptions<'_>,
 ) -> Result<HistoryFile, Failure> {
     let alloc = rt.alloc();
     let found = match fs::metadata(rt, path) {
@@ -127,7 +129,7 @@ fn is_written_straight(rt: &impl Files, found: &Metadata) -> bool {
 }
 
 /// Why the file that was found may not be written anew.
-fn fault_of(rt: &impl Files, found: &Metadata, centre: &Centre<'_>) -> Option<HistoryFault> {
+fn fault_of(rt: &impl Files, found: &Metadata, centre: &CentreOptions<'_>) -> Option<HistoryFault> {
     let places = [
         (centre.journal, HistoryFault::IsJournal),
         (Some(centre.track), HistoryFault::IsTrack),
@@ -200,7 +202,7 @@ fn empty_file<R: Files<File = File>>(rt: &R, path: &str) -> io::Result<File> {
 }
 
 impl HistoryFile {
-    /// Writes the lines of a record's history.
+    /// Writes the lines of a record's history, behind a comment that names the scene that it begins with, if a file told that.
     ///
     /// # Errors
     ///
@@ -210,12 +212,13 @@ impl HistoryFile {
         self,
         rt: &R,
         history: &Record,
+        scene: Option<u64>,
     ) -> Result<(), Failure>
-        requires { IsRetold history.now.track history.now.entries }
+        requires { IsRetold (begin_of history.now) history.now.entries }
     {
         match self {
-            HistoryFile::Straight(path) => write_straight(rt, path.as_str(), history),
-            HistoryFile::Anew(new) => new.write(rt, history),
+            HistoryFile::Straight(path) => write_straight(rt, path.as_str(), history, scene),
+            HistoryFile::Anew(new) => new.write(rt, history, scene),
         }
     }
 
@@ -232,25 +235,56 @@ fn write_straight<R: Files<File = File> + AllocGlobal>(
     rt: &R,
     path: &str,
     history: &Record,
+    scene: Option<u64>,
 ) -> Result<(), Failure>
-    requires { IsRetold history.now.track history.now.entries }
+    requires { IsRetold (begin_of history.now) history.now.entries }
 {
     let alloc = rt.alloc();
     match OpenOptions::new().append(true).open(rt, path) {
         Ok(file) => {
-            let _ = write_lines(alloc, path, file, history)?;
+            let _ = write_lines(alloc, path, file, history, scene)?;
             Ok(())
         }
         Err(error) => Err(unwritable(alloc, path, &error)),
     }
 }
 
+/// Writes a comment that names the scene of this version as the beginning, if one is given.
+fn print_beginning<W: Sink>(scene: Option<u64>, writer: &mut W) -> Result<(), WriteFailed>
+    requires { W.failed writer.old ≡ false }
+    ensures going { OnOk result (W.failed writer.new ≡ false) }
+{
+    let Some(version) = scene else {
+        return Ok(());
+    };
+    print_line(b"# begins with scene", &[Word::Count(version)], writer)
+}
+
+/// Writes a history behind its beginning.
+fn print_all<W: Sink>(
+    history: &Record,
+    scene: Option<u64>,
+    writer: &mut W,
+) -> Result<(), WriteFailed>
+    requires going { W.failed writer.old ≡ false }
+    requires retold { IsRetold (begin_of history.now) history.now.entries }
+{
+    print_beginning(scene, writer)?;
+    print_history(history, writer)
+}
+
 /// Writes the lines of a history to the file of this path, and gives it back.
-fn write_lines(alloc: Global, path: &str, file: File, history: &Record) -> Result<File, Failure>
-    requires { IsRetold history.now.track history.now.entries }
+fn write_lines(
+    alloc: Global,
+    path: &str,
+    file: File,
+    history: &Record,
+    scene: Option<u64>,
+) -> Result<File, Failure>
+    requires { IsRetold (begin_of history.now) history.now.entries }
 {
     let mut writer = Stream::writer(alloc, file)?;
-    match print_history(history, &mut writer) {
+    match print_all(history, scene, &mut writer) {
         Ok(()) => Ok(writer.into_writer()),
         Err(_) => Err(Failure::History(
             HistoryFault::Unwritable,
@@ -265,15 +299,16 @@ impl NewFile {
         self,
         rt: &R,
         history: &Record,
+        scene: Option<u64>,
     ) -> Result<(), Failure>
-        requires { IsRetold history.now.track history.now.entries }
+        requires { IsRetold (begin_of history.now) history.now.entries }
     {
         let NewFile {
             file,
             new_path,
             path,
         } = self;
-        let written = write_lines(rt.alloc(), new_path.as_str(), file, history);
+        let written = write_lines(rt.alloc(), new_path.as_str(), file, history, scene);
         let placed = match written {
             Ok(file) => place(rt, &file, new_path.as_str(), path.as_str()),
             Err(failure) => Err(failure),

@@ -9,7 +9,9 @@ ghost use Rattle.rbc_show.specs.Kept.{IsReady};
 
 use crate::failure::{Failure, at_place, file_failed};
 use crate::history::history_of;
+use crate::limit::limit_of;
 use crate::output::{ended, standard_output};
+use crate::page::page_at;
 use crate::serve::{Opened, open_port};
 use crate::serve_kept::serve_kept;
 use crate::stay::{Entrance, open_entrance};
@@ -17,13 +19,13 @@ use crate::stay_kept::stay_kept;
 use crate::terminal::{heard_output, terminal_over};
 use crate::track::TrackFile;
 use crate::watching::watch_on;
-use rbc_command_line::{Centre, Service, Staying};
+use rbc_command_line::{CentreOptions, Service, Staying};
 use rbc_hints::Prompted;
 use rbc_journal_file::{Found, Place, Readable, Recorded, Timed, new_file, read};
 use rbc_model::Memory;
 use rbc_port::tally::Tally;
 use rbc_show::Stream;
-use rbc_show::kept::server::Record;
+use rbc_show::kept::server::{EntryLimit, Record};
 use rbc_show::kept::{self, Kept, KeptFault, RunFault, replay};
 use std::fs::{File, Files};
 use std::io::{BufRead, Eprint, IsTerminal};
@@ -48,7 +50,7 @@ pub(crate) fn run_kept<I: BufRead + Drop + IsTerminal>(
         + Eprint
         + Sync),
     journal: &str,
-    centre: &Centre<'_>,
+    centre: &CentreOptions<'_>,
     track: TrackFile,
 ) -> Result<(), Failure>
     requires { IsLine track.digest }
@@ -58,7 +60,7 @@ pub(crate) fn run_kept<I: BufRead + Drop + IsTerminal>(
     at_place(outcome, place)
 }
 
-/// The same, where the journal's files stand there.
+/// Runs a centre over the standard input, from what the journal whose files stand at this place tells on.
 fn run_at<I: BufRead + Drop + IsTerminal>(
     rt: &(impl Files<File = File>
         + Input<Reader = I>
@@ -69,13 +71,13 @@ fn run_at<I: BufRead + Drop + IsTerminal>(
         + Eprint
         + Sync),
     place: &Place,
-    centre: &Centre<'_>,
+    centre: &CentreOptions<'_>,
     track: TrackFile,
 ) -> Result<(), Failure>
     requires { IsLine track.digest }
 {
     let alloc = rt.alloc();
-    let mut kept = uncounted(rt, place, track)?;
+    let mut kept = uncounted(rt, place, track, limit_of(centre.entries))?;
     let terminal = match kept.history() {
         Some(history) => terminal_over(rt, history)?,
         None => None,
@@ -88,7 +90,7 @@ fn run_at<I: BufRead + Drop + IsTerminal>(
         terminal.end();
     }
     let written = match (history, kept.history()) {
-        (Some(file), Some(history)) => file.write(rt, history),
+        (Some(file), Some(history)) => file.write(rt, history, None),
         (Some(file), None) => {
             file.give_up(rt);
             Ok(())
@@ -108,7 +110,7 @@ fn run_at<I: BufRead + Drop + IsTerminal>(
 ///
 /// # Errors
 ///
-/// `Journal`, where the journal is not opened; `Memory`; `Serve`, also where the journal fails; `Session`.
+/// `Journal`, where the journal is not opened, or fails; `NoPort`, where the port can't be opened; `Memory`; `Serve`; `Session`.
 pub(crate) fn serve_with(
     rt: &(impl Files<File = File>
         + Print
@@ -133,7 +135,7 @@ pub(crate) fn serve_with(
     at_place(outcome, place)
 }
 
-/// The same, where the journal's files stand there.
+/// Serves connections on a port, from what the journal whose files stand at this place tells on.
 fn serve_at(
     rt: &(impl Files<File = File>
         + Print
@@ -154,8 +156,9 @@ fn serve_at(
     requires { IsLine track.digest }
 {
     let alloc = rt.alloc();
-    let watch = watch_on(rt, service.terms)?;
-    let kept = counted(rt, place, track, watch.tally())?;
+    let most = limit_of(service.entries);
+    let watch = watch_on(rt, service.terms, most)?;
+    let kept = counted(rt, place, track, most, watch.tally())?;
     let mut output = standard_output(rt)?;
     let outcome = match open_port(rt, service, &watch, &mut output) {
         Ok(Opened { port, minutes }) => {
@@ -172,7 +175,7 @@ fn serve_at(
 ///
 /// # Errors
 ///
-/// Those of [`serve_with`].
+/// `NoPort`, where a port can't be had; `Journal`, where the journal is not opened, or fails; `Memory`; `Serve`; `Session`.
 pub(crate) fn stay_with<I: BufRead + Drop + Send + 'static>(
     rt: &(impl Files<File = File>
         + Input<Reader = I>
@@ -198,7 +201,7 @@ pub(crate) fn stay_with<I: BufRead + Drop + Send + 'static>(
     at_place(outcome, place)
 }
 
-/// The same, where the journal's files stand there.
+/// Serves clients that come and go, from what the journal whose files stand at this place tells on.
 fn stay_at<I: BufRead + Drop + Send + 'static>(
     rt: &(impl Files<File = File>
         + Input<Reader = I>
@@ -220,8 +223,10 @@ fn stay_at<I: BufRead + Drop + Send + 'static>(
     requires { IsLine track.digest }
 {
     let alloc = rt.alloc();
-    let watch = watch_on(rt, staying.terms)?;
-    let kept = counted(rt, place, track, watch.tally())?;
+    let most = limit_of(staying.entries);
+    let watch = watch_on(rt, staying.terms, most)?;
+    let page = page_at(rt, staying.page, &track.track, &watch)?;
+    let kept = counted(rt, place, track, most, watch.tally())?;
     let mut output = standard_output(rt)?;
     let outcome = match open_entrance(rt, staying, &watch, &mut output) {
         Ok(
@@ -231,7 +236,7 @@ fn stay_at<I: BufRead + Drop + Send + 'static>(
                 minutes,
             },
         ) => {
-            let outcome = stay_kept(rt, alloc, &*end, ports, kept, &mut output);
+            let outcome = stay_kept(rt, alloc, &*end, ports, page, kept, &mut output);
             minutes.end(rt);
             outcome
         }
@@ -245,11 +250,13 @@ fn stay_at<I: BufRead + Drop + Send + 'static>(
 ///
 /// # Errors
 ///
-/// `Journal`, where the file is no journal of this track, is damaged, or fails; `Memory`.
+/// `Journal`, where the file is no journal of this track, is damaged, tells more entries than the history may have, or fails;
+/// `Memory`.
 fn opened<'r, 't, R: Files<File = File> + AllocGlobal + Threads + Clock + Eprint + Sync>(
     rt: &'r R,
     place: &Place,
     track: TrackFile,
+    most: EntryLimit,
     tally: Option<&'t Tally>,
 ) -> Result<Kept<Recorded<Timed<'r, 't, R>>>, Failure>
     requires { IsLine track.digest }
@@ -257,7 +264,8 @@ fn opened<'r, 't, R: Files<File = File> + AllocGlobal + Threads + Clock + Eprint
 {
     let alloc = rt.alloc();
     let TrackFile { track, digest } = track;
-    let empty = Record::new(alloc, Arc::new(alloc, track).map_err(Memory::from)?)?;
+    let track = Arc::new(alloc, track).map_err(Memory::from)?;
+    let empty = Record::with_limit(alloc, track, most)?;
     let found = rbc_journal_file::open(rt, place)?;
     let Some(bytes) = found.bytes() else {
         let bytes = new_file(alloc, &digest)?;
@@ -275,37 +283,41 @@ fn opened<'r, 't, R: Files<File = File> + AllocGlobal + Threads + Clock + Eprint
     Ok(kept)
 }
 
-/// The same, whose commits are not counted.
+/// The record that a journal tells, with its journal, whose commits are not counted.
 ///
 /// # Errors
 ///
-/// Those of [`opened`].
+/// `Journal`, where the file is no journal of this track, is damaged, tells more entries than the history may have, or fails;
+/// `Memory`.
 fn uncounted<'r, R: Files<File = File> + AllocGlobal + Threads + Clock + Eprint + Sync>(
     rt: &'r R,
     place: &Place,
     track: TrackFile,
+    most: EntryLimit,
 ) -> Result<Kept<Recorded<Timed<'r, 'r, R>>>, Failure>
     requires { IsLine track.digest }
     ensures { IfOk result (λ kept. IsReady (λ file. seen (past_of file)) (λ file. may_leave (past_of file)) kept) }
 {
-    opened(rt, place, track, None)
+    opened(rt, place, track, most, None)
 }
 
-/// The same, whose commits are counted.
+/// The record that a journal tells, with its journal, whose commits are counted.
 ///
 /// # Errors
 ///
-/// Those of [`opened`].
+/// `Journal`, where the file is no journal of this track, is damaged, tells more entries than the history may have, or fails;
+/// `Memory`.
 fn counted<'r, 't, R: Files<File = File> + AllocGlobal + Threads + Clock + Eprint + Sync>(
     rt: &'r R,
     place: &Place,
     track: TrackFile,
+    most: EntryLimit,
     tally: &'t Tally,
 ) -> Result<Kept<Recorded<Timed<'r, 't, R>>>, Failure>
     requires { IsLine track.digest }
     ensures { IfOk result (λ kept. IsReady (λ file. seen (past_of file)) (λ file. may_leave (past_of file)) kept) }
 {
-    opened(rt, place, track, Some(tally))
+    opened(rt, place, track, most, Some(tally))
 }
 
 /// What a file with these bytes is read as, beside the track with this digest.

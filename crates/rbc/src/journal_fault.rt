@@ -30,6 +30,9 @@ pub enum JournalFault {
     /// Its file can't be read.
     #[error("journal: Unreadable")]
     Unreadable,
+    /// It tells more entries than the history may have, which is this number.
+    #[error("journal: tells more than {0} entries; name more by --entries")]
+    Entries(u64),
     /// It tells only so many lines.
     #[error("journal: tells only {0} lines")]
     Few(u64),
@@ -57,6 +60,7 @@ impl JournalFault {
             JournalFault::OtherName
             | JournalFault::Read(_)
             | JournalFault::Foreign(_)
+            | JournalFault::Entries(_)
             | JournalFault::Few(_)
             | JournalFault::Renewed
             | JournalFault::Another => 3,

@@ -1,6 +1,7 @@
 //! The program `rbc`, the deciding part of an ETCS Level 2 radio block centre.
 #![tactic(auto)]
 
+mod beginning;
 mod end;
 mod failure;
 mod history;
@@ -8,7 +9,9 @@ mod journal;
 mod journal_fault;
 mod journal_follow;
 mod journal_report;
+mod limit;
 mod output;
+mod page;
 mod reason;
 mod serve;
 mod serve_kept;
@@ -19,17 +22,21 @@ mod track;
 mod version;
 mod watching;
 
+pub use beginning::BeginFault;
+use beginning::{Begun, begin};
 use failure::Failure;
 pub use history::HistoryFault;
 use history::history_of;
 use journal::{run_kept, serve_with, stay_with};
 pub use journal_fault::JournalFault;
 use journal_report::tell_journal;
+use limit::limit_of;
 use output::{ended, standard_output};
+use page::page_at;
 pub use rbc_certifier::steps;
 pub use rbc_checks::check;
-use rbc_command_line::{Centre, Listed, Printing, Service, Shown, Staying, Task};
-pub use rbc_fields::{Form, Json, Plain, decode};
+use rbc_command_line::{CentreOptions, Listed, Printing, Service, Shown, Staying, Task};
+pub use rbc_decode::{Form, Json, Plain, decode};
 use rbc_hints::Prompted;
 use rbc_model::Memory;
 use rbc_show::Stream;
@@ -50,7 +57,7 @@ use std::process::ExitCode;
 use std::sync::{Arc, Wait};
 use std::thread::Threads;
 use std::time::Clock;
-use terminal::{heard_output, terminal_of};
+use terminal::{heard_output, terminal_over};
 use track::{TrackFile, read_track};
 use version::VERSION;
 use watching::watch_on;
@@ -164,7 +171,7 @@ fn run_centre<I: BufRead + Drop + IsTerminal>(
         + Clock
         + Eprint
         + Sync),
-    centre: &Centre,
+    centre: &CentreOptions,
 ) -> Result<(), Failure> {
     let alloc = rt.alloc();
     let track = read_track(rt, centre.track)?;
@@ -172,8 +179,8 @@ fn run_centre<I: BufRead + Drop + IsTerminal>(
         return run_kept(rt, journal, centre, track);
     }
     let track = Arc::new(alloc, track.track).map_err(Memory::from)?;
-    let terminal = terminal_of(rt, &track)?;
-    let mut record = Record::new(alloc, track)?;
+    let Begun { mut record, scene } = begin(rt, track, centre.from, limit_of(centre.entries))?;
+    let terminal = terminal_over(rt, &record)?;
     let history = history_of(rt, centre)?;
     let mut output = heard_output(rt, terminal.as_ref())?;
     let reader = &mut Stream::reader(Prompted::new(rt.reader(), terminal.as_ref()));
@@ -182,7 +189,7 @@ fn run_centre<I: BufRead + Drop + IsTerminal>(
         terminal.end();
     }
     let kept = match history {
-        Some(file) => file.write(rt, &record),
+        Some(file) => file.write(rt, &record, scene),
         None => Ok(()),
     };
     ended(output, answered.map_err(Failure::from))?;
@@ -249,11 +256,13 @@ fn serve_centre(
         return serve_with(rt, journal, track, service);
     }
     let track = Arc::new(alloc, track.track).map_err(Memory::from)?;
-    let watch = watch_on(rt, service.terms)?;
+    let most = limit_of(service.entries);
+    let log = begin(rt, track, service.from, most)?.record;
+    let watch = watch_on(rt, service.terms, most)?;
     let mut output = standard_output(rt)?;
     let outcome = match open_port(rt, service, &watch, &mut output) {
         Ok(Opened { port, minutes }) => {
-            let outcome = serve(rt, alloc, port, track, service, &mut output);
+            let outcome = serve(rt, alloc, port, log, service, &mut output);
             minutes.end(rt);
             outcome
         }
@@ -284,8 +293,11 @@ fn stay_at_port<I: BufRead + Drop + Send + 'static>(
     if let Some(journal) = staying.journal {
         return stay_with(rt, journal, track, staying);
     }
+    let most = limit_of(staying.entries);
+    let watch = watch_on(rt, staying.terms, most)?;
+    let page = page_at(rt, staying.page, &track.track, &watch)?;
     let track = Arc::new(alloc, track.track).map_err(Memory::from)?;
-    let watch = watch_on(rt, staying.terms)?;
+    let log = begin(rt, track, staying.from, most)?.record;
     let mut output = standard_output(rt)?;
     let outcome = match open_entrance(rt, staying, &watch, &mut output) {
         Ok(
@@ -295,7 +307,7 @@ fn stay_at_port<I: BufRead + Drop + Send + 'static>(
                 minutes,
             },
         ) => {
-            let outcome = stay_up(rt, alloc, &*end, ports, track, &mut output);
+            let outcome = stay_up(rt, alloc, &*end, ports, page, log, &mut output);
             minutes.end(rt);
             outcome
         }

@@ -12,12 +12,11 @@ use rbc_show::kept::server::{
     self, Blank, Client, Clients, Desk, DeskName, NoJournal, Port, Record, Staff, no_pens,
 };
 use rbc_show::{Sink, Source, Word, WriteFailed, print_line};
-use rbc_trackfile::Track;
 use std::alloc::Global;
 use std::io::Eprint;
 use std::marker::Brand;
 use std::net::{Ipv4Addr, Net, TcpListener, TcpStream};
-use std::sync::{Arc, Wait};
+use std::sync::Wait;
 use std::thread::Threads;
 use std::time::Clock;
 
@@ -30,7 +29,20 @@ pub(crate) fn listener_of<N: Net<Listener = TcpListener, Stream = TcpStream> + A
     rt: &N,
     port: u16,
 ) -> Result<TcpListener, Failure> {
-    match TcpListener::bind(rt, (Ipv4Addr::LOCALHOST, port)) {
+    listener_at(rt, Ipv4Addr::LOCALHOST, port)
+}
+
+/// The listener of this port at an address of the machine.
+///
+/// # Errors
+///
+/// `NoPort`, where the port can't be had.
+pub(crate) fn listener_at<N: Net<Listener = TcpListener, Stream = TcpStream> + AllocGlobal>(
+    rt: &N,
+    address: Ipv4Addr,
+    port: u16,
+) -> Result<TcpListener, Failure> {
+    match TcpListener::bind(rt, (address, port)) {
         Ok(listener) => Ok(listener),
         Err(error) => Err(Failure::no_port(rt.alloc(), port, &error)),
     }
@@ -95,11 +107,11 @@ fn print_port<W: Sink>(port: u16, writer: &mut W) -> Result<(), WriteFailed>
     print_line(b"listening", &[Word::Number(u32::from(port))], writer)
 }
 
-/// Serves connections over a new record of the track.
+/// Serves connections over a record.
 ///
 /// # Errors
 ///
-/// `Memory` for the record or the desk, and those of [`server::serve`].
+/// `Memory`, where there is none for the desk; `Serve` with whatever [`server::serve`] answers.
 pub(crate) fn serve<
     I: Source + Send + Drop,
     O: Sink + Send + Drop,
@@ -112,13 +124,12 @@ pub(crate) fn serve<
     rt: &T,
     alloc: Global,
     port: P,
-    track: Arc<Track>,
+    log: Record,
     service: &Service,
     writer: &mut W,
 ) -> Result<(), Failure>
     requires { W.failed writer.old ≡ false }
 {
-    let log = Record::new(alloc, track)?;
     let opening = Opening::new(log, service);
     open::<Brand, I, O, G, C, P, W, T>(rt, alloc, port, opening, writer)
 }
@@ -154,18 +165,20 @@ impl<H> Opening<H> {
         }
     }
 
-    /// Over the history, with a seat for each of these places, and no worker.
-    pub(crate) fn for_places(history: H, places: usize) -> Opening<H>
+    /// Over the history, with a seat for each of these places and for whoever looks on, and no worker.
+    pub(crate) fn for_places(history: H, places: usize, lookers: usize) -> Opening<H>
+        requires { (places ≤ 64) × (lookers ≤ 1) }
         ensures history { result.history ≡ history }
         ensures parts { result.blank.ledger.parts ≡ result.seats }
-        ensures seats { result.seats ≡ places }
+        ensures seats { result.seats ≡ places + lookers }
         ensures connections { result.connections ≡ places }
     {
+        let seats = places + lookers;
         Opening {
             history,
-            seats: places,
+            seats,
             connections: places,
-            blank: Blank::new(places),
+            blank: Blank::new(seats),
         }
     }
 }

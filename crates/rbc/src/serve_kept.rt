@@ -26,7 +26,8 @@ use std::time::Clock;
 ///
 /// # Errors
 ///
-/// `Memory` for the desk, and those of [`serve`].
+/// `Memory`, where there is none for the desk; `Journal`, where the file has no room or fails; `Serve` with whatever else
+/// [`serve`] answers.
 pub(crate) fn serve_kept<
     S: Read + Write + OpenStream + Send + Sync + Drop,
     N: OpenListener<Stream = S> + Send + Drop,

@@ -1,20 +1,20 @@
 //! A centre that stays up: a desk is made for it, with a seat for each place at its port.
 
-ghost use Rattle.std.specs.Prelude.{◌≡◌, ◌≤◌, false, IfOk, OnOk, vec_len};
+ghost use Rattle.std.specs.Prelude.{◌≡◌, ◌+◌, ◌≤◌, false, length, option_to_list, IfOk, OnOk, vec_len};
 
 use crate::end::watch_input;
 use crate::failure::Failure;
+use crate::page::{Showing, lookers, onlooker_of};
 use crate::serve::{Opening, listener_of, print_listening};
 use crate::watching::MinuteLog;
 use rbc_command_line::Staying;
-use rbc_duty::{Post, stay};
+use rbc_duty::{Company, Post, stay};
 use rbc_model::OrMemory;
 use rbc_port::{Closing, Place, PortEnd, Watch, open_places};
 use rbc_show::kept::server::{
     Client, Clients, Desk, DeskName, NoJournal, Port, Record, ServeFault, no_pens,
 };
 use rbc_show::{Sink, Source};
-use rbc_trackfile::Track;
 use std::alloc::Global;
 use std::io::{BufRead, Eprint, Read, Write};
 use std::marker::Brand;
@@ -79,14 +79,16 @@ pub(crate) fn open_entrance<
     })
 }
 
-/// Serves clients that come and go over a new record of the track.
+/// Serves clients that come and go over a record, and shows its page, if there is one.
 ///
 /// # Errors
 ///
-/// `Memory` for the record or the desk, and those of [`stay`].
+/// `Memory`, where there is none for the desk; `Serve`, where the page can't be opened, or with whatever [`stay`] answers.
 pub(crate) fn stay_up<
     S: Read + Write + OpenStream + Send + Sync + Drop,
     N: OpenListener<Stream = S> + Send + Drop,
+    U: Read + Write + OpenStream + Drop,
+    M: OpenListener<Stream = U> + Drop,
     E: Closing + Sync,
     W: Sink,
     T: Threads + Wait + Clock + Eprint + Sync,
@@ -95,15 +97,17 @@ pub(crate) fn stay_up<
     alloc: Global,
     closing: &E,
     ports: Vec<Port<N>>,
-    track: Arc<Track>,
+    page: Option<Showing<M>>,
+    log: Record,
     writer: &mut W,
 ) -> Result<(), Failure>
     requires going { W.failed writer.old ≡ false }
     requires places { (1 ≤ vec_len ports) × (vec_len ports ≤ 64) }
 {
-    let log = Record::new(alloc, track)?;
-    let opening = Opening::for_places(log, ports.len());
-    open::<Brand, _, _, _, _, Port<N>, E, W, T>(rt, alloc, closing, ports, opening, writer)
+    let opening = Opening::for_places(log, ports.len(), lookers(&page));
+    open::<Brand, _, _, _, _, Port<N>, U, M, E, W, T>(
+        rt, alloc, closing, ports, page, opening, writer,
+    )
 }
 
 /// Serves clients that come and go at a desk over the record.
@@ -114,6 +118,8 @@ fn open<
     G: Send + Drop,
     C: Client<Reader = I, Writer = O, Gone = G> + Send + Drop,
     P: Clients<Each = C> + Send + Drop,
+    U: Read + Write + OpenStream + Drop,
+    M: OpenListener<Stream = U> + Drop,
     E: Closing + Sync,
     W: Sink,
     T: Threads + Wait + Clock + Eprint + Sync,
@@ -122,6 +128,7 @@ fn open<
     alloc: Global,
     closing: &E,
     ports: Vec<P>,
+    page: Option<Showing<M>>,
     opening: Opening<Record>,
     writer: &mut W,
 ) -> Result<(), Failure>
@@ -131,8 +138,8 @@ fn open<
     requires parts { opening.blank.ledger.parts ≡ L.parts }
     requires book { opening.blank.journal ≡ L.book }
     requires one_each { opening.seats ≡ L.parts }
-    requires places { vec_len ports ≡ opening.seats }
-    requires few { (1 ≤ opening.seats) × (opening.seats ≤ 64) }
+    requires places { vec_len ports + length (option_to_list page) ≡ opening.seats }
+    requires few { (1 ≤ vec_len ports) × (opening.seats ≤ 65) }
 {
     let Opening {
         history,
@@ -140,7 +147,14 @@ fn open<
         connections: _,
         blank,
     } = opening;
-    let (desk, seats) = Desk::<L>::new(rt, alloc, history, seats, blank)?;
+    let (desk, mut seats) = Desk::<L>::new(rt, alloc, history, seats, blank)?;
+    let onlooker = match onlooker_of(rt, alloc, &mut seats, page) {
+        Ok(onlooker) => onlooker,
+        Err(failure) => {
+            desk.end(rt);
+            return Err(failure);
+        }
+    };
     let Ok(pens) = no_pens(alloc, seats.len()) else {
         desk.end(rt);
         return Err(Failure::Memory);
@@ -149,6 +163,7 @@ fn open<
         desk.end(rt);
         return Err(Failure::Memory);
     };
-    let _stayed = stay(rt, alloc, &NoJournal, closing, desk, posts, writer)?;
+    let company = Company { posts, onlooker };
+    let _stayed = stay(rt, alloc, &NoJournal, closing, desk, company, writer)?;
     Ok(())
 }

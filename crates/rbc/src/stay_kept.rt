@@ -1,17 +1,19 @@
 //! A centre that stays up, and keeps its history in a journal.
 
-ghost use Rattle.std.specs.Prelude.{◌≡◌, ◌≤◌, false, vec_len};
+ghost use Rattle.std.specs.Prelude.{◌≡◌, ◌+◌, ◌≤◌, false, length, option_to_list, vec_len, IfOk};
 ghost use Rattle.rbc_journal_file.specs.Past.{may_leave, seen};
 ghost use Rattle.rbc_journal_file.specs.Recorded.{past_of};
 ghost use Rattle.rbc_show.specs.Kept.{IsReady};
 
 use crate::failure::{Failure, file_failed};
+use crate::page::{Showing, lookers, onlooker_of};
 use crate::serve::Opening;
-use rbc_duty::{Post, Stayed, stay};
+use rbc_duty::{Company, Onlooker, Post, Stayed, stay};
 use rbc_journal_file::{Calls, Recorded};
+use rbc_page::Reception;
 use rbc_port::Closing;
-use rbc_show::kept::scribe::{self, ScribeName};
-use rbc_show::kept::server::{Client, Clients, DeskName, Port, ServeFault};
+use rbc_show::kept::scribe::{self, Pen, Scribe, ScribeName};
+use rbc_show::kept::server::{Client, Clients, Desk, DeskName, Port, ServeFault};
 use rbc_show::kept::{self, DeskJournal, Kept, Opened, SeatTold, close};
 use rbc_show::{Sink, Source};
 use std::alloc::Global;
@@ -23,14 +25,17 @@ use std::thread::Threads;
 use std::time::Clock;
 
 /// Serves clients that come and go over the record that a journal tells, and keeps in the journal what led to each entry before
-/// its reply is written.
+/// its reply is written; and shows its page, if there is one.
 ///
 /// # Errors
 ///
-/// `Memory` for the desk, and those of [`stay`].
+/// `Memory`, where there is none for the desk; `Journal`, where the file has no room or fails; `Serve`, where the page can't be
+/// opened, or with whatever else [`stay`] answers.
 pub(crate) fn stay_kept<
     S: Read + Write + OpenStream + Send + Sync + Drop,
     N: OpenListener<Stream = S> + Send + Drop,
+    U: Read + Write + OpenStream + Drop,
+    M: OpenListener<Stream = U> + Drop,
     D: Calls + Send + Drop,
     E: Closing + Sync,
     W: Sink,
@@ -40,6 +45,7 @@ pub(crate) fn stay_kept<
     alloc: Global,
     closing: &E,
     ports: Vec<Port<N>>,
+    page: Option<Showing<M>>,
     kept: Kept<Recorded<D>>,
     writer: &mut W,
 ) -> Result<(), Failure>
@@ -47,13 +53,13 @@ pub(crate) fn stay_kept<
     requires ready { IsReady (λ file. seen (past_of file)) (λ file. may_leave (past_of file)) kept }
     requires places { (1 ≤ vec_len ports) × (vec_len ports ≤ 64) }
 {
-    let opening = Opening::for_places(kept, ports.len());
+    let opening = Opening::for_places(kept, ports.len(), lookers(&page));
     let journaled = Journaled {
         opening,
         stamps: scribe::Blank::new(),
     };
-    open::<Brand, Brand, _, _, _, _, Port<N>, D, E, W, T>(
-        rt, alloc, closing, ports, journaled, writer,
+    open::<Brand, Brand, _, _, _, _, Port<N>, U, M, D, E, W, T>(
+        rt, alloc, closing, ports, page, journaled, writer,
     )
 }
 
@@ -64,28 +70,32 @@ struct Journaled<D: Calls> {
     stamps: scribe::Blank,
 }
 
-/// Serves clients that come and go at a desk over the record, from seats with pens. At the end the journal is closed.
-fn open<
-    L: DeskName + Send + Sync,
-    N: ScribeName + Send + Sync,
-    I: Source + Send + Drop,
-    O: Sink + Send + Drop,
-    G: Send + Drop,
-    C: Client<Reader = I, Writer = O, Gone = G> + Send + Drop,
-    P: Clients<Each = C> + Send + Drop,
-    D: Calls + Send + Drop,
-    E: Closing + Sync,
-    W: Sink,
-    T: Threads + Wait + Clock + Eprint + Sync,
+/// A desk over the record, with its scribe and with seats that have pens, and who looks on from a seat of its own, if there is a
+/// page.
+///
+/// # Errors
+///
+/// `Memory`; `Journal`, where the file has no room; `Serve`, where the page's calls would wait, there is no clock, or no room for
+/// clients.
+fn open_desk<
+    L: DeskName,
+    N: ScribeName,
+    U: Read + Write + OpenStream + Drop,
+    M: OpenListener<Stream = U> + Drop,
+    D: Calls + Drop,
+    T: Wait + Clock,
 >(
     rt: &T,
     alloc: Global,
-    closing: &E,
-    ports: Vec<P>,
+    page: Option<Showing<M>>,
     journaled: Journaled<D>,
-    writer: &mut W,
-) -> Result<(), Failure>
-    requires going { W.failed writer.old ≡ false }
+) -> Result<
+    (
+        Opened<L, SeatTold<L>, Recorded<D>, N>,
+        Option<Reception<L, M, U>>,
+    ),
+    Failure,
+>
     requires ready { IsReady (λ file. seen (past_of file)) (λ file. may_leave (past_of file)) journaled.opening.history }
     requires opened { journaled.opening.history.history ≡ L.opened }
     requires name { journaled.opening.blank.ledger.name ≡ L.name }
@@ -93,8 +103,10 @@ fn open<
     requires book { journaled.opening.blank.journal ≡ L.book }
     requires stamps { journaled.stamps ≡ N.book }
     requires one_each { journaled.opening.seats ≡ L.parts }
-    requires places { vec_len ports ≡ journaled.opening.seats }
-    requires few { (1 ≤ journaled.opening.seats) × (journaled.opening.seats ≤ 64) }
+    requires looker { length (option_to_list page) ≤ journaled.opening.seats }
+    requires few { (1 ≤ journaled.opening.seats) × (journaled.opening.seats ≤ 65) }
+    ensures seats { IfOk result (λ made. vec_len made.0.seats + length (option_to_list page) ≡ journaled.opening.seats) }
+    ensures pens { IfOk result (λ made. vec_len made.0.pens ≡ vec_len made.0.seats) }
 {
     let Journaled { opening, stamps } = journaled;
     let Opening {
@@ -106,19 +118,66 @@ fn open<
     let opened = kept::open::<L, _, N, T>(rt, alloc, kept, seats, blank, stamps);
     let Opened {
         desk,
-        seats,
+        mut seats,
         scribe,
-        pens,
+        mut pens,
     } = match opened {
         Ok(opened) => opened,
         Err((fault, _)) => return Err(fault.into()),
     };
-    let Ok(posts) = Post::all(alloc, seats, pens, ports) else {
-        desk.end(rt);
-        return Err(Failure::Memory);
-    };
+    match onlooker_of(rt, alloc, &mut seats, page) {
+        Ok(onlooker) => {
+            // Who looks on keeps nothing.
+            pens.truncate(seats.len());
+            let opened = Opened {
+                desk,
+                seats,
+                scribe,
+                pens,
+            };
+            Ok((opened, onlooker))
+        }
+        Err(failure) => {
+            desk.end(rt);
+            Err(failure)
+        }
+    }
+}
+
+/// Serves the clients that come to the posts of this company, until the end is asked for, while its onlooker looks at the desk. At the
+/// end the journal is closed.
+///
+/// # Errors
+///
+/// `Journal` with the call on the file that failed, where a request could not be kept; else `Serve` with whatever [`stay`]
+/// answers.
+fn serve_company<
+    L: DeskName + Send + Sync,
+    N: ScribeName + Send + Sync,
+    I: Source + Send + Drop,
+    O: Sink + Send + Drop,
+    G: Send + Drop,
+    C: Client<Reader = I, Writer = O, Gone = G> + Send + Drop,
+    P: Clients<Each = C> + Send + Drop,
+    B: Onlooker<L> + Drop,
+    D: Calls + Send + Drop,
+    E: Closing + Sync,
+    W: Sink,
+    T: Threads + Wait + Clock + Eprint + Sync,
+>(
+    rt: &T,
+    alloc: Global,
+    closing: &E,
+    desk: Desk<L>,
+    scribe: Scribe<SeatTold<L>, Recorded<D>, N>,
+    company: Company<L, Pen<N>, P, B>,
+    writer: &mut W,
+) -> Result<(), Failure>
+    requires going { W.failed writer.old ≡ false }
+    requires some { 1 ≤ vec_len company.posts }
+{
     let journal = DeskJournal::over(&scribe);
-    match stay(rt, alloc, &journal, closing, desk, posts, writer) {
+    match stay(rt, alloc, &journal, closing, desk, company, writer) {
         Ok(Stayed { told, pens, .. }) => {
             let _page = close(rt, scribe, &SeatTold::<L>::seen(told), pens.as_slice());
             Ok(())
@@ -129,4 +188,54 @@ fn open<
         }
         Err(unstayed) => Err(unstayed.into()),
     }
+}
+
+/// Serves clients that come and go at a desk over the record, from seats with pens. At the end the journal is closed.
+fn open<
+    L: DeskName + Send + Sync,
+    N: ScribeName + Send + Sync,
+    I: Source + Send + Drop,
+    O: Sink + Send + Drop,
+    G: Send + Drop,
+    C: Client<Reader = I, Writer = O, Gone = G> + Send + Drop,
+    P: Clients<Each = C> + Send + Drop,
+    U: Read + Write + OpenStream + Drop,
+    M: OpenListener<Stream = U> + Drop,
+    D: Calls + Send + Drop,
+    E: Closing + Sync,
+    W: Sink,
+    T: Threads + Wait + Clock + Eprint + Sync,
+>(
+    rt: &T,
+    alloc: Global,
+    closing: &E,
+    ports: Vec<P>,
+    page: Option<Showing<M>>,
+    journaled: Journaled<D>,
+    writer: &mut W,
+) -> Result<(), Failure>
+    requires going { W.failed writer.old ≡ false }
+    requires ready { IsReady (λ file. seen (past_of file)) (λ file. may_leave (past_of file)) journaled.opening.history }
+    requires opened { journaled.opening.history.history ≡ L.opened }
+    requires name { journaled.opening.blank.ledger.name ≡ L.name }
+    requires parts { journaled.opening.blank.ledger.parts ≡ L.parts }
+    requires book { journaled.opening.blank.journal ≡ L.book }
+    requires stamps { journaled.stamps ≡ N.book }
+    requires one_each { journaled.opening.seats ≡ L.parts }
+    requires places { vec_len ports + length (option_to_list page) ≡ journaled.opening.seats }
+    requires few { (1 ≤ vec_len ports) × (journaled.opening.seats ≤ 65) }
+{
+    let (opened, onlooker) = open_desk::<L, N, U, M, D, T>(rt, alloc, page, journaled)?;
+    let Opened {
+        desk,
+        seats,
+        scribe,
+        pens,
+    } = opened;
+    let Ok(posts) = Post::all(alloc, seats, pens, ports) else {
+        desk.end(rt);
+        return Err(Failure::Memory);
+    };
+    let company = Company { posts, onlooker };
+    serve_company(rt, alloc, closing, desk, scribe, company, writer)
 }

@@ -46,7 +46,8 @@ fn is_terminal<I: BufRead + Drop + IsTerminal>(rt: &(impl Files + Input<Reader =
     }
 }
 
-/// The same for a session that goes on from a history, which has locked sections.
+/// The terminal, where the standard input and the standard error are one, for a session that goes on from a history, which has
+/// locked sections.
 ///
 /// # Errors
 ///

@@ -3,9 +3,8 @@
 use crate::failure::Failure;
 use rbc_command_line::Terms;
 use rbc_model::Memory;
-use rbc_model::limits::MOST_ENTRIES;
 use rbc_port::{Minutes, Watch};
-use rbc_show::kept::server::ServeFault;
+use rbc_show::kept::server::{EntryLimit, ServeFault};
 use std::io::Eprint;
 use std::sync::{Arc, Mutex, Wait};
 use std::thread;
@@ -15,14 +14,17 @@ use std::time::{Clock, Duration};
 /// How long the thread that tells minutes rests between two looks, in milliseconds.
 const REST: u64 = 500;
 
-/// The watch of a centre that serves on these terms.
+/// The watch of a centre that serves on these terms, and whose history may have so many entries.
 ///
 /// # Errors
 ///
 /// `Memory`.
-pub(crate) fn watch_on<T: Clock + AllocGlobal>(rt: &T, terms: Terms) -> Result<Watch, Failure> {
-    let most = MOST_ENTRIES as u64;
-    Ok(Watch::new(rt, rt.alloc(), terms.is_logged, most)?)
+pub(crate) fn watch_on<T: Clock + AllocGlobal>(
+    rt: &T,
+    terms: Terms,
+    most: EntryLimit,
+) -> Result<Watch, Failure> {
+    Ok(Watch::new(rt, rt.alloc(), terms.is_logged, most.entries() as u64)?)
 }
 
 /// The lines of the log that tell of minutes, if a log is kept.

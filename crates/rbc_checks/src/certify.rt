@@ -53,11 +53,12 @@ pub(crate) fn certify_speeds(
     certified
 }
 
-/// The same of a profile of gradients.
+/// Whether the rows are prices that show that the profile of gradients is a best one for the track, and that it loses
+/// what is told.
 ///
 /// # Errors
 ///
-/// As there.
+/// Those of [`certify_speeds`].
 pub(crate) fn certify_grades(
     spare: &mut Spare,
     request: StepsRequest<Grade>,

@@ -4,7 +4,7 @@ use crate::locks::Locks;
 use crate::names::{Named, unknown};
 use crate::refused_lines::{command_of, no_command, no_text, text, too_long, word, words};
 use crate::refused_reports::{offline, too_far, unknown_group, unplaced};
-use rbc_model::limits::{MOST_ENTRIES, MOST_TRAINS};
+use rbc_model::limits::MOST_TRAINS;
 use rbc_model::{Memory, Report};
 use rbc_track::{LegName, Name, Track};
 use rbc_words::{Request, next_word, parse};
@@ -70,7 +70,7 @@ impl Refused<'_> {
         }
     }
 
-    /// The same, where this is the report.
+    /// What was expected where this is the report that was refused.
     fn of_report(&self, refusal: &[u8], report: &Report) -> Result<Option<String>, Memory> {
         let (alloc, track) = (self.alloc, self.track);
         match refusal {
@@ -133,7 +133,7 @@ impl Refused<'_> {
                 "{MOST_TRAINS} other trains are there, and no more can be: one has to leave"
             )?,
             b"Full" => format!(in alloc;
-                "the history has {MOST_ENTRIES} entries, and no more can be: a new one has to begin"
+                "the history has as many entries as it may have (--entries): a new one has to begin"
             )?,
             b"Memory" => format!(in alloc; "no memory for it: nothing has changed")?,
             _ => return Ok(None),

@@ -59,7 +59,7 @@ pub(crate) fn too_long(alloc: Global) -> Result<String, Memory> {
     Ok(format!(in alloc; "{LONGEST_LINE} bytes at most expected; the session ends")?)
 }
 
-/// The same where a byte may not stand in a line.
+/// The line behind the refusal of a line in which a byte stands that may not.
 pub(crate) fn no_text(alloc: Global, line: &[u8]) -> Result<Option<String>, Memory> {
     let text = without_return(line);
     let Some(place) = text.iter().position(|byte| *byte < 0x20 || *byte > 0x7e) else {

@@ -66,7 +66,7 @@ impl Authority {
         })
     }
 
-    /// The same authority once more. It takes no memory.
+    /// A copy of the authority, which takes no memory.
     pub fn copy(&self) -> Authority
         ensures { result ≡ self.now }
     {

@@ -56,7 +56,7 @@ pub fn read_message(bytes: &[u8]) -> Result<Authority, Fault>
     read_fields(bytes)
 }
 
-/// The same, field by field.
+/// Reads a message in metres field by field.
 fn read_fields(bytes: &[u8]) -> Result<Authority, Fault>
     ensures { result ≡ read_message Far bytes.now }
 {

@@ -146,7 +146,7 @@ fn filled<V: Level, N: Total>(
     Ok(rows)
 }
 
-/// The same of few stretches.
+/// `count` rows of prices up to each break but the first, where there are few stretches.
 fn filled_of_few<V: Level>(
     alloc: Global,
     track: &Runs<V>,

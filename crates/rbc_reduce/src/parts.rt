@@ -107,7 +107,7 @@ fn cut_column<N: Total>(alloc: Global, costs: &[N], cut: usize) -> Result<Vec<N>
     Ok(kept)
 }
 
-/// The same of each column but the first.
+/// Of each column but the first the part from break 0, and from each one behind `cut`.
 fn cut_columns<N: Total>(
     alloc: Global,
     columns: &[Vec<N>],

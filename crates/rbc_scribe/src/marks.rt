@@ -41,7 +41,7 @@ impl<N: ScribeName> Model for Mark<N> {
 }
 
 impl<N: ScribeName> Mark<N> {
-    /// The same once more.
+    /// A copy of the mark.
     pub(crate) fn again(&self) -> Mark<N>
         ensures { result ≡ self.now }
     {

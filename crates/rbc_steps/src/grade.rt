@@ -45,7 +45,7 @@ impl Grade {
         self.per_mille
     }
 
-    /// The same metre run the other way: uphill is downhill.
+    /// The gradient of the metre where it is run the other way: uphill is downhill.
     pub fn negated(self) -> Grade
         ensures { result ≡ neg_ℤ self }
     {

@@ -78,7 +78,7 @@ impl<V: Level> Profile<V> {
         self.end
     }
 
-    /// The same profile once more. It takes no memory.
+    /// A copy of the profile, which takes no memory.
     pub fn copy(&self) -> Profile<V>
         ensures { result ≡ self.now }
     {

@@ -8,6 +8,7 @@ mod retried;
 mod session;
 mod stream;
 mod streams;
+mod text;
 mod whole;
 
 pub use answers::Answers;
@@ -17,4 +18,5 @@ pub use retried::{LastCall, Retried};
 pub use session::{answer_lines, converse, next_line};
 pub use stream::{Buffered, Stream};
 pub use streams::{ReadFailed, Sink, Source, WriteFailed, put};
+pub use text::Text;
 pub use whole::{WholeFault, read_whole};

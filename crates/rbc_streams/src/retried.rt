@@ -114,7 +114,7 @@ impl<T: Write> Retried<T> {
         outcome
     }
 
-    // The same of a call that hands on what was written. It takes no byte.
+    // Has the writer hand on once what it holds, and notes what it answers. It takes no byte.
     fn flush_once(&mut self) -> io::Result<()>
         ensures bytes { Keeps (T.contents self.old.inner) (T.contents self.new.inner) }
         ensures noted { self.new.last ≡ noted_flush result }

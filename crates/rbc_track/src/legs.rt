@@ -5,7 +5,7 @@ ghost use Rattle.rbc_model.specs.Tracks.{leg_eq, reverse_leg};
 
 use rbc_model::{Direction, Leg};
 
-/// The same section run the other way.
+/// The leg that runs the section the other way.
 pub fn reverse(leg: Leg) -> Leg
     ensures { result ≡ reverse_leg leg }
 {

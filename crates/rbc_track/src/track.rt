@@ -103,7 +103,7 @@ impl Track {
         Track::made(alloc, parts)
     }
 
-    /// The same, table by table.
+    /// Makes the track table by table.
     #[tactic(auto, unfolding(crate::specs::Making::made_of))]
     fn made(alloc: Global, parts: Parts) -> Result<Track, OrMemory<TrackRefusal>>
         ensures made { AnswersOrMemory result (made_of (parts_view parts)) }

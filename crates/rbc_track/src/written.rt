@@ -15,7 +15,7 @@ fn is_same_leg(a: &LegName, b: &LegName) -> bool
     a.section() == b.section() && a.direction() == b.direction()
 }
 
-/// The same section run the other way.
+/// The name of the leg that runs the section the other way.
 fn reverse(leg: &LegName) -> LegName
     ensures { result ≡ written_reverse leg.now }
 {

@@ -9,7 +9,7 @@ pub(crate) fn section_of(sections: &[Section], name: Name) -> Option<usize> {
     sections.iter().position(|section| section.name() == name)
 }
 
-/// The same section run the other way.
+/// The name of the leg that runs the section the other way.
 fn reverse(leg: LegName) -> LegName {
     let direction = match leg.direction() {
         Direction::Rising => Direction::Falling,

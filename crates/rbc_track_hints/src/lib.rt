@@ -37,7 +37,7 @@ pub fn hints(alloc: Global, bytes: &[u8], fault: &FileFault) -> Result<String, M
     Ok(lines.into_text())
 }
 
-/// What was read once more, which had no fault of its own before.
+/// What a part is read as that had no fault of its own when it was read first.
 fn known<T: Drop>(read: Result<T, OrMemory<FileFault>>) -> Result<Option<T>, Memory> {
     match read {
         Ok(value) => Ok(Some(value)),

@@ -169,7 +169,7 @@ pub fn read(alloc: Global, text: &[u8]) -> Result<Track, OrMemory<FileFault>>
     track_in(alloc, text)
 }
 
-/// The same, step by step.
+/// Reads the text step by step: as TOML, as parts, and as a track.
 #[tactic(auto, unfolding(crate::specs::Told::file_told))]
 fn track_in(alloc: Global, text: &[u8]) -> Result<Track, OrMemory<FileFault>>
     ensures told { AnswersOrMemory result (file_told text.now) }

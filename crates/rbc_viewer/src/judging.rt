@@ -1,6 +1,6 @@
 //! The blocks of certificates in a text, judged line by line, and what is said of them, kept in memory.
 
-ghost use Rattle.std.specs.Prelude.{◌≡◌, ◌++◌, ◌∷◌, ◌||◌, [], ℕ, Some, false, IfOk, OnOk};
+ghost use Rattle.std.specs.Prelude.{◌≡◌, ◌++◌, ◌∷◌, ◌||◌, [], ℕ, false, IfOk, OnOk};
 ghost use Rattle.rbc_model.specs.declared.places.Format.TheVariants.{Far};
 ghost use Rattle.rbc_model.specs.CheckText.{CheckLine as Said, check_line, goes_on};
 ghost use Rattle.rbc_checks.specs.Blocks.{block_lines};
@@ -12,39 +12,10 @@ use rbc_checks::{
     Block, CheckLine, Part, Spare, Verdict, is_head, judge, parse_check, part_read, print_said,
 };
 use rbc_model::Memory;
-use rbc_streams::{Sink, WriteFailed};
+use rbc_streams::{Text, WriteFailed};
 use std::alloc::Global;
 use std::marker::Model;
 use std::mem;
-
-/// A text that grows in memory. It fails where there is none for more of it.
-#[derive(Drop)]
-struct Text {
-    bytes: Vec<u8>,
-    failed: bool,
-}
-
-impl Sink for Text {
-    ghost written = { λ text. Some text.bytes.items };
-
-    ghost held_back = { λ _. [] };
-
-    ghost failed = { λ text. text.failed };
-
-    fn write(&mut self, bytes: &[u8]) -> Result<usize, WriteFailed> {
-        match self.bytes.extend_from_slice(bytes) {
-            Ok(()) => Ok(bytes.len()),
-            Err(_) => {
-                self.failed = true;
-                Err(WriteFailed)
-            }
-        }
-    }
-
-    fn flush(&mut self) -> Result<(), WriteFailed> {
-        Ok(())
-    }
-}
 
 /// The verdicts with what is said of one block more.
 ///

@@ -18,7 +18,7 @@ pub use printing::{print_hex, print_number, print_signed};
 pub use rbc_model::{LineFault, OrMemory, StepsRefusal};
 pub use rbc_streams::{Advance, LineReader, SessionFault, Sink, Source, Stream, WriteFailed};
 pub use session_line::{print_report, print_request, told_request};
-pub use session_request::{Request, parse};
+pub use session_request::{Request, parse, report_in};
 pub use spelled::Spelled;
 pub use steps_reply::{
     Basis, print_certificate, print_certified, print_last, print_refusal, print_runs,

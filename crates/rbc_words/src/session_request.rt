@@ -158,8 +158,13 @@ fn report_words(words: &[u8]) -> Result<ReportWords<'_>, LineFault>
     })
 }
 
-/// The report in the words behind its command.
-fn report_in(words: &[u8]) -> Result<Report, LineFault>
+/// The report in the words behind the first one of a line.
+///
+/// # Errors
+///
+/// The first fault: `Words`, where there are not just eight; `Number` or `Name` with the place of the first word that is not what
+/// stands there, the first word of the line being 1.
+pub fn report_in(words: &[u8]) -> Result<Report, LineFault>
     ensures { result ≡ report_in (words_of words.now) }
 {
     let words = report_words(words)?;

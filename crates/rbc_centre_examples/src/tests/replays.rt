@@ -1,4 +1,4 @@
-//! The same history once more.
+//! A history that is made again of its entries.
 
 ghost use Rattle.std.specs.Prelude.{◌≡◌};
 ghost use Rattle.rbc_sweep.specs.Steps.{IsOfTrack};
@@ -10,7 +10,7 @@ use rbc_track::Track;
 use std::process::Abort;
 use std::thread::Threads;
 
-/// The same, if it is told of a route of the track.
+/// What was told, which has to be of a route of the track.
 fn of_track(rt: &impl Abort, track: &Track, told: Told) -> Told
     ensures same { result ≡ told }
     ensures of_track { IsOfTrack track.now result }
@@ -21,7 +21,7 @@ fn of_track(rt: &impl Abort, track: &Track, told: Told) -> Told
     told
 }
 
-/// Enters the same once more.
+/// Enters an entry of a history in another one.
 fn enter<R: Threads + Abort + AllocGlobal + Sync>(
     rt: &R,
     history: &mut Record,

@@ -5,7 +5,7 @@ ghost use Rattle.std.specs.Prelude.{◌≡◌};
 use super::telling::{closed, record_of};
 use super::{BRANCH, PLAIN};
 use rbc_model::limits::LONGEST_LINE;
-use rbc_server::{Counter, NoJournal, SessionFault, Sitting, run, session};
+use rbc_server::{NoJournal, SessionContext, SessionFault, Sitting, run, session};
 use rbc_streams::{LineReader, Stream};
 use rbc_sweep::{Blank, Desk, DeskName, OpenGate, Record};
 use std::io::{Read, Write};
@@ -175,7 +175,7 @@ where
         lines,
         &mut reader,
         &mut writer,
-        &Counter::new(&desk, &NoJournal, &OpenGate, rt),
+        &SessionContext::new(&desk, &NoJournal, &OpenGate, rt),
         sitting,
     );
     assert_eq!(rt; left.ended, Ok(()));

@@ -38,7 +38,7 @@ fn made(alloc: Global, file: &str) -> Option<Record> {
     Record::new(alloc, shared).ok()
 }
 
-/// The same. It is made a second time where memory is refused.
+/// An empty record, which is made a second time where memory is refused.
 fn empty_record(rt: &impl Abort, alloc: Global, file: &str) -> Record {
     match made(alloc, file) {
         Some(history) => history,

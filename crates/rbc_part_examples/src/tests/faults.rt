@@ -61,7 +61,8 @@ const ONE_BIT: [(usize, usize, Option<Fault>); 45] = [
     (305, 312, Some(Fault::Padding)),
 ];
 
-/// The same for the message in tens of metres.
+/// What comes of the message in tens of metres where one bit is another, any from the first to below the second: a fault,
+/// or another authority.
 const ONE_BIT_IN_TENS: [(usize, usize, Option<Fault>); 56] = [
     // The header.
     (0, 8, Some(Fault::Number)),

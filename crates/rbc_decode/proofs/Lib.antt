@@ -1,0 +1,16 @@
+pub mod DigitLemmas
+pub mod PositionLemmas
+pub mod SpellingLemmas
+pub mod RestLemmas
+pub mod SheetLemmas
+pub mod ListLemmas
+pub mod PartsLemmas
+pub mod JsonLemmas
+pub mod ElementLemmas
+pub mod GrantedLemmas
+pub mod LineLemmas
+pub mod DecodedLemmas
+pub mod AgreementLemmas
+pub mod MessageAgreementLemmas
+pub mod SpeltLemmas
+pub mod MessageFieldsLemmas

@@ -1,0 +1,13 @@
+pub mod Spelling
+pub mod Rows
+pub mod Walks
+pub mod Readings
+pub mod Said
+pub mod Meanings
+pub mod Texts
+pub mod GrantedLines
+pub mod JsonText
+pub mod Parts
+pub mod JsonParts
+pub mod DecodeText
+pub mod Laws

@@ -1,0 +1,73 @@
+//! The fields of a message, printed one after another.
+
+ghost use Rattle.std.specs.Prelude.{◌≡◌, ◌+◌, ◌≤◌, ◌++◌, ◌||◌, ℕ, List, Bool, false, length, OnOk};
+ghost use Rattle.rbc_model.specs.Sessions.{Prints};
+ghost use Rattle.rbc_decode.specs.declared.parts.TheConstants.{LONGEST_PART};
+ghost use Rattle.rbc_decode.specs.declared.sheet.TheConstants.{ROOM};
+ghost use Rattle.rbc_decode.specs.declared.fields.Item.{Item};
+ghost use Rattle.rbc_decode.specs.Parts.{parts_text, Hands};
+
+use crate::fields::Item;
+use crate::sheet::{ROOM, Sheet};
+use rbc_streams::{Sink, WriteFailed, put};
+
+/// How many bytes may be printed of a field.
+pub(crate) const LONGEST_PART: usize = 256;
+
+/// What is printed of a field.
+pub(crate) trait TextPart {
+    /// Whether a field is told.
+    ghost told: { Item → Bool };
+
+    /// What is printed of it, by whether one before it was told.
+    ghost text: { Bool → Item → List ℕ };
+
+    /// Whether a field is told.
+    fn is_told(item: &Item) -> bool
+        ensures { result ≡ told item.now };
+
+    /// Puts what is printed of a field behind a text, by whether one before it was told.
+    fn gather(item: &Item, later: bool, sheet: &mut Sheet)
+        requires { length sheet.old + LONGEST_PART ≤ ROOM }
+        ensures { sheet.new ≡ sheet.old ++ text later item.now };
+}
+
+/// Writes of each field what is printed of it.
+pub(crate) fn print_parts<P: TextPart, W: Sink>(
+    items: &[Item],
+    writer: &mut W,
+) -> Result<(), WriteFailed>
+    requires { W.failed writer.old ≡ false }
+    ensures { Prints (W.written writer.old) (W.written writer.new) (W.failed writer.new)
+        (parts_text P.told P.text false items.now) result }
+{
+    let mut later = false;
+    let mut sheet = Sheet::new();
+    for item in items {
+        make_room(&mut sheet, writer)?;
+        P::gather(item, later, &mut sheet);
+        later = either(later, P::is_told(item));
+    }
+    put(writer, sheet.bytes())
+}
+
+/// Writes what was gathered, where there is no room for a further part.
+#[inline(always)]
+fn make_room<W: Sink>(sheet: &mut Sheet, writer: &mut W) -> Result<(), WriteFailed>
+    requires { W.failed writer.old ≡ false }
+    ensures room { OnOk result (length sheet.new + LONGEST_PART ≤ ROOM) }
+    ensures handed { Hands (W.written writer.old) (W.written writer.new) (W.failed writer.new)
+        sheet.old sheet.new result }
+{
+    if sheet.len() > ROOM - LONGEST_PART {
+        put(writer, sheet.bytes())?;
+        sheet.clear();
+    }
+    Ok(())
+}
+
+fn either(before: bool, now: bool) -> bool
+    ensures { result ≡ (before || now) }
+{
+    before || now
+}

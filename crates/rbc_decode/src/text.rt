@@ -1,0 +1,397 @@
+//! What is printed of the fields of a message.
+
+ghost use Rattle.std.specs.Prelude.{◌≡◌, ◌+◌, ◌≤◌, ◌++◌, ◌∷◌, ◌&&◌, ◌==◌, [], false, decimal, codes, length};
+ghost use Rattle.rbc_model.specs.Sessions.{Prints};
+ghost use Rattle.rbc_decode.specs.declared.parts.TheConstants.{LONGEST_PART};
+ghost use Rattle.rbc_decode.specs.declared.sheet.TheConstants.{ROOM};
+ghost use Rattle.rbc_decode.specs.declared.said.Said.TheVariants.{Nominal, Grade, Speed};
+ghost use Rattle.rbc_decode.specs.Readings.{read_as};
+ghost use Rattle.rbc_model.specs.declared.messages.FieldName.TheVariants.{N_ITER};
+ghost use Rattle.rbc_decode.specs.Texts.{field_line, head_text, row_text, said_text, begins, mark_text, packet_start, lead_text, is_inner};
+ghost use Rattle.rbc_decode.specs.Texts.{fault_text, place_text, measure_text, found_line, said_line};
+ghost use Rattle.rbc_decode.specs.Texts.{line_text, outcome_text, reading_text, told_text, wrong_line, wrong_text};
+
+use crate::fields::{FieldPlace, Found, Item};
+use crate::meaning::gather_meaning;
+use crate::names::{field_start, name_text};
+use crate::parts::{TextPart, print_parts};
+use crate::row::Row;
+use crate::said::{Said, said_in};
+use crate::sheet::Sheet;
+use crate::spelling::Wrong;
+use rbc_model::limits::{AUTHORITY_PACKET, GRADIENT_PACKET, SPEED_PACKET};
+use rbc_model::{Fault, FieldName};
+use rbc_streams::{Sink, WriteFailed, put};
+use rbc_words::{Word, print_line};
+
+/// The fields, a line each.
+struct FieldLines;
+
+impl TextPart for FieldLines {
+    ghost use Rattle.rbc_decode.specs.Parts.{always};
+    ghost use Rattle.rbc_decode.specs.Texts.{item_text};
+
+    ghost told = { always };
+
+    ghost text = { λ later field. item_text field };
+
+    fn is_told(_item: &Item) -> bool {
+        true
+    }
+
+    fn gather(item: &Item, _later: bool, sheet: &mut Sheet) {
+        gather_head(item, sheet);
+        gather_field(item, sheet);
+    }
+}
+
+/// What the fields say in words.
+struct Words;
+
+impl TextPart for Words {
+    ghost use Rattle.rbc_decode.specs.Parts.{always};
+    ghost use Rattle.rbc_decode.specs.Said.{said_in};
+    ghost use Rattle.rbc_decode.specs.Texts.{said_line};
+
+    ghost told = { always };
+
+    ghost text = { λ later field. said_line (said_in field) };
+
+    fn is_told(_item: &Item) -> bool {
+        true
+    }
+
+    fn gather(item: &Item, _later: bool, sheet: &mut Sheet) {
+        if let Some(said) = said_in(item) {
+            gather_said(&said, sheet);
+        }
+    }
+}
+
+/// Writes what stands behind the fields: their words, or the first fault that was found.
+fn print_outcome<W: Sink>(
+    items: &[Item],
+    found: Option<Found>,
+    writer: &mut W,
+) -> Result<(), WriteFailed>
+    requires { W.failed writer.old ≡ false }
+    ensures { Prints (W.written writer.old) (W.written writer.new) (W.failed writer.new)
+        (outcome_text items.now found) result }
+{
+    match found {
+        None => {
+            print_parts::<Words, W>(items, writer)?;
+            put(writer, b"done\n")
+        }
+        Some(found) => print_found(&found, writer),
+    }
+}
+
+/// Writes what was read: these fields, and the first fault that was found.
+fn print_reading<W: Sink>(
+    items: &[Item],
+    found: Option<Found>,
+    writer: &mut W,
+) -> Result<(), WriteFailed>
+    requires { W.failed writer.old ≡ false }
+    ensures { Prints (W.written writer.old) (W.written writer.new) (W.failed writer.new)
+        (reading_text (read_as items.now found)) result }
+{
+    print_parts::<FieldLines, W>(items, writer)?;
+    print_outcome(items, found, writer)
+}
+
+/// Writes which line of the input is answered, unless it is the first one.
+fn print_place<W: Sink>(line: u32, writer: &mut W) -> Result<(), WriteFailed>
+    requires { W.failed writer.old ≡ false }
+    ensures { Prints (W.written writer.old) (W.written writer.new) (W.failed writer.new) (line_text line) result }
+{
+    if line == 1 {
+        return Ok(());
+    }
+    print_line(b"line", &[Word::Number(line)], writer)
+}
+
+/// Writes what was read in the line of this number: these fields, and the first fault that was found.
+pub(crate) fn print_told<W: Sink>(
+    line: u32,
+    items: &[Item],
+    found: Option<Found>,
+    writer: &mut W,
+) -> Result<(), WriteFailed>
+    requires { W.failed writer.old ≡ false }
+    ensures { Prints (W.written writer.old) (W.written writer.new) (W.failed writer.new)
+        (told_text line (read_as items.now found)) result }
+{
+    print_place(line, writer)?;
+    print_reading(items, found, writer)
+}
+
+/// Writes what is wrong with digits in the line of this number.
+pub(crate) fn print_wrong<W: Sink>(
+    line: u32,
+    wrong: Wrong,
+    writer: &mut W,
+) -> Result<(), WriteFailed>
+    requires { W.failed writer.old ≡ false }
+    ensures { Prints (W.written writer.old) (W.written writer.new) (W.failed writer.new) (wrong_text line wrong) result }
+{
+    print_place(line, writer)?;
+    print_wrong_line(wrong, writer)
+}
+
+/// Puts the line of the message or packet that begins with the field behind a text, if one does.
+fn gather_head(item: &Item, sheet: &mut Sheet)
+    requires { length sheet.old + LONGEST_PART ≤ ROOM }
+    ensures text { sheet.new ≡ sheet.old ++ head_text item.now }
+    ensures length { length sheet.new ≤ length sheet.old + 50 }
+{
+    if is_first(item) {
+        gather_begun(item, sheet);
+    }
+}
+
+/// Whether a message or packet begins with the field.
+fn is_first(item: &Item) -> bool
+    ensures { result ≡ (begins item.now.row && (item.now.walk.index == 0)) }
+{
+    begins(item.row) && item.walk.index == 0
+}
+
+/// Puts the line of what begins with the field behind a text.
+fn gather_begun(item: &Item, sheet: &mut Sheet)
+    requires { length sheet.old + 50 ≤ ROOM }
+    ensures text { sheet.new ≡ sheet.old ++ (mark_text item.now.is_late ++ row_text item.now.row item.now.value) }
+    ensures length { length sheet.new ≤ length sheet.old + 50 }
+{
+    sheet.text(mark_text(item.is_late));
+    gather_row(item.row, item.value, sheet);
+}
+
+/// Whether a message or packet begins with the row.
+fn begins(row: Row) -> bool
+    ensures { result ≡ begins row }
+{
+    match row {
+        Row::Header | Row::Authority | Row::GradientHead | Row::SpeedHead => true,
+        _ => false,
+    }
+}
+
+/// The mark of what stands behind a fault.
+fn mark_text(is_late: bool) -> &'static [u8]
+    ensures text { result.now ≡ mark_text is_late }
+    ensures short { length result.now ≤ 2 }
+{
+    if is_late { b"? " } else { b"" }
+}
+
+/// Puts the line of the message or packet that begins with this row behind a text, by the number that was found.
+fn gather_row(row: Row, number: u32, sheet: &mut Sheet)
+    requires { length sheet.old + 45 ≤ ROOM }
+    ensures text { sheet.new ≡ sheet.old ++ row_text row number }
+    ensures length { length sheet.new ≤ length sheet.old + 45 }
+{
+    match row {
+        Row::Header => sheet.text(b"message\n"),
+        _ => gather_last(packet_start(number), u64::from(number), sheet),
+    }
+}
+
+/// What stands before the number of a packet.
+fn packet_start(number: u32) -> &'static [u8]
+    ensures text { result.now ≡ packet_start number }
+    ensures short { length result.now ≤ 20 }
+{
+    if number == AUTHORITY_PACKET || number == GRADIENT_PACKET || number == SPEED_PACKET {
+        b"packet "
+    } else {
+        b"packet ? "
+    }
+}
+
+/// Puts the line of a field behind a text: its name and its width in bits, in at most 24 bytes, among others.
+fn gather_field(item: &Item, sheet: &mut Sheet)
+    requires { length sheet.old + 170 ≤ ROOM }
+    ensures { sheet.new ≡ sheet.old ++ field_line item.now }
+{
+    let (start, count) = field_start(item.name);
+    sheet.text(lead_text(item));
+    sheet.number(u64::from(item.bit));
+    sheet.front(start, count);
+    sheet.number(u64::from(item.value));
+    sheet.text(b"  ");
+    gather_meaning(item, sheet);
+    sheet.byte(b'\n');
+}
+
+/// What the line of a field begins with.
+fn lead_text(item: &Item) -> &'static [u8]
+    ensures text { result.now ≡ lead_text item.now.is_late (is_inner item.now.name item.now.row item.now.walk.index) }
+    ensures short { length result.now ≤ 4 }
+{
+    match (item.is_late, is_inner(item.name, item.row, item.walk.index)) {
+        (true, true) => b"?   ",
+        (true, false) => b"? ",
+        (false, true) => b"    ",
+        (false, false) => b"  ",
+    }
+}
+
+/// Whether a field says what there is at the place of the distance before it.
+fn is_inner(name: FieldName, row: Row, index: usize) -> bool
+    ensures { result ≡ is_inner name row index }
+{
+    match name {
+        FieldName::Q_GDIR | FieldName::G_A | FieldName::V_STATIC | FieldName::Q_FRONT => true,
+        FieldName::N_ITER => is_inner_count(row, index),
+        _ => false,
+    }
+}
+
+/// Whether a number of iterations does.
+fn is_inner_count(row: Row, index: usize) -> bool
+    ensures { result ≡ is_inner N_ITER row index }
+{
+    match row {
+        Row::SpeedHead => index == 7,
+        Row::SpeedStep | Row::SpeedEnd => true,
+        _ => false,
+    }
+}
+
+/// Puts a name and the number at its end behind a text, as the end of a line.
+fn gather_last(name: &[u8], number: u64, sheet: &mut Sheet)
+    requires short { length name.now ≤ 20 }
+    requires room { length sheet.old + 41 ≤ ROOM }
+    ensures text { sheet.new ≡ sheet.old ++ (name.now ++ (decimal number ++ 10 ∷ [])) }
+    ensures length { length sheet.new ≤ length sheet.old + 41 }
+{
+    sheet.text(name);
+    sheet.number(number);
+    sheet.byte(b'\n');
+}
+
+/// Puts what is said, in words, behind a text.
+fn gather_said(said: &Said, sheet: &mut Sheet)
+    requires { length sheet.old + LONGEST_PART ≤ ROOM }
+    ensures { sheet.new ≡ sheet.old ++ said_text said.now }
+{
+    match *said {
+        Said::Time(time) => gather_last(b"time ", u64::from(time), sheet),
+        Said::Country(country) => gather_country(country, sheet),
+        Said::Group(number) => gather_last(b"/", u64::from(number), sheet),
+        Said::Nominal(nominal) => sheet.text(direction_line(nominal)),
+        Said::End(metres) => gather_last(b"end ", metres, sheet),
+        Said::Grade(from, per_mille) => gather_grade(from, per_mille, sheet),
+        Said::Speed(from, kmh) => gather_speed(from, kmh, sheet),
+    }
+}
+
+fn gather_country(country: u32, sheet: &mut Sheet)
+    requires { length sheet.old + LONGEST_PART ≤ ROOM }
+    ensures { sheet.new ≡ sheet.old ++ (codes "group " ++ decimal country) }
+{
+    sheet.text(b"group ");
+    sheet.number(u64::from(country));
+}
+
+fn direction_line(nominal: bool) -> &'static [u8]
+    ensures text { result.now ≡ said_text (Nominal nominal) }
+    ensures short { length result.now ≤ 20 }
+{
+    if nominal {
+        b"direction nominal\n"
+    } else {
+        b"direction reverse\n"
+    }
+}
+
+fn gather_grade(from: u64, per_mille: i64, sheet: &mut Sheet)
+    requires { length sheet.old + LONGEST_PART ≤ ROOM }
+    ensures { sheet.new ≡ sheet.old ++ said_text (Grade from per_mille) }
+{
+    sheet.text(b"grade ");
+    sheet.number(from);
+    sheet.byte(b' ');
+    sheet.signed(per_mille);
+    sheet.byte(b'\n');
+}
+
+fn gather_speed(from: u64, kmh: u64, sheet: &mut Sheet)
+    requires { length sheet.old + LONGEST_PART ≤ ROOM }
+    ensures { sheet.new ≡ sheet.old ++ said_text (Speed from kmh) }
+{
+    sheet.text(b"speed ");
+    sheet.number(from);
+    sheet.byte(b' ');
+    sheet.number(kmh);
+    sheet.byte(b'\n');
+}
+
+/// Writes what was found where the fields ended.
+fn print_found<W: Sink>(found: &Found, writer: &mut W) -> Result<(), WriteFailed>
+    requires { W.failed writer.old ≡ false }
+    ensures { Prints (W.written writer.old) (W.written writer.new) (W.failed writer.new) (found_line found.now) result }
+{
+    let words = [
+        Word::Text(fault_text(found.fault)),
+        Word::Text(place_text(found.place)),
+        Word::Text(b"bit"),
+        Word::Number(found.bit),
+        Word::Text(measure_text(found.place)),
+        Word::Number(found.value),
+    ];
+    print_line(b"refused", &words, writer)
+}
+
+/// Writes what is wrong with digits.
+fn print_wrong_line<W: Sink>(wrong: Wrong, writer: &mut W) -> Result<(), WriteFailed>
+    requires { W.failed writer.old ≡ false }
+    ensures { Prints (W.written writer.old) (W.written writer.new) (W.failed writer.new) (wrong_line wrong) result }
+{
+    match wrong {
+        Wrong::Digits(place) => {
+            let words = [
+                Word::Text(b"Digits"),
+                Word::Text(b"at"),
+                Word::Number(place),
+            ];
+            print_line(b"refused", &words, writer)
+        }
+        Wrong::Overlong => put(writer, b"refused Overlong\n"),
+    }
+}
+
+/// What stands at a fault.
+pub(crate) fn place_text(place: FieldPlace) -> &'static [u8]
+    ensures { result.now ≡ place_text place }
+{
+    match place {
+        FieldPlace::Field(name) | FieldPlace::Missing(name) => name_text(name),
+        FieldPlace::Filling | FieldPlace::Behind => b"filling",
+    }
+}
+
+/// Whether the value there is told, or how many bits are left.
+pub(crate) fn measure_text(place: FieldPlace) -> &'static [u8]
+    ensures { result.now ≡ measure_text place }
+{
+    match place {
+        FieldPlace::Field(_) | FieldPlace::Filling => b"value",
+        FieldPlace::Missing(_) | FieldPlace::Behind => b"left",
+    }
+}
+
+pub(crate) fn fault_text(fault: Fault) -> &'static [u8]
+    ensures { result.now ≡ fault_text fault }
+{
+    match fault {
+        Fault::Short => b"Short",
+        Fault::Number => b"Number",
+        Fault::Length => b"Length",
+        Fault::Field(_) => b"Field",
+        Fault::Padding => b"Padding",
+        Fault::Extra => b"Extra",
+    }
+}

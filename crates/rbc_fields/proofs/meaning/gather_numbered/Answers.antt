@@ -1,7 +1,0 @@
-use Rattle.std.proofs.Common.{decimal}
-use Rattle.rbc_fields.proofs.SheetLemmas.{behind_3}
-use Rattle.rbc_fields.proofs.meaning.gather_numbered.Goals as goal
-
-pub returns-clause-text : goal.returns-clause-text
-returns-clause-text c =
-    behind_3 c.args.sheet.now c.args.before.now (decimal c.args.number) c.args.after.now c.text.ensures.text c.number.ensures.text c.text-2.ensures.text

@@ -1,4 +1,0 @@
-use Rattle.rbc_powers.proofs.tests.metres.+least_loss.Given as goal
-
-abbrev pub decreases-least_loss : goal.decreases-least_loss
-decreases-least_loss g l = l.steps
