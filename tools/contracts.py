@@ -7,7 +7,7 @@ import re
 
 from crates_txt import ROOT, read_listed
 
-NO_PRODUCT = re.compile(r"rbc_(\w+_)?examples|rbc_powers")  # worked examples and tests
+NO_PRODUCT = re.compile(r"rbc_(\w+_)?examples|rbc_test_levels")  # worked examples and tests
 BLOCK = re.compile(r"(?:pub(?:\(crate\))? )?(impl|trait|struct|enum)\b(.*)")
 FUNCTION = re.compile(r"( *)(pub )?(?:pub\(crate\) )?(?:const )?fn (\w+)")
 CLAUSE = re.compile(r" +(requires|ensures)(?: (\w+))? \{")
