@@ -32,6 +32,7 @@ class Browser:
         self.number = 0
         self.faults = []
         self.requests = []
+        self.served = {}
         try:
             self.connect()
         except BaseException:
@@ -91,8 +92,8 @@ class Browser:
             if head[0] & 0x80:
                 return json.loads(data)
 
-    def call(self, method, **params):
-        """What the browser answers to a call of the protocol."""
+    def send(self, method, **params):
+        """Makes a call of the protocol, and waits for nothing."""
         self.number += 1
         data = json.dumps({"id": self.number, "method": method, "params": params}).encode()
         mask, size = os.urandom(4), len(data)
@@ -104,9 +105,14 @@ class Browser:
             head = bytes([0x81, 0xFF]) + struct.pack(">Q", size)
         key = int.from_bytes((mask * (size // 4 + 1))[:size], "big")
         self.socket.sendall(head + mask + (int.from_bytes(data, "big") ^ key).to_bytes(size, "big"))
+        return self.number
+
+    def call(self, method, **params):
+        """What the browser answers to a call of the protocol."""
+        number = self.send(method, **params)
         while True:
             reply = self.receive()
-            if reply.get("id") == self.number:
+            if reply.get("id") == number:
                 if "error" in reply:
                     raise OSError(f"{method}: {reply['error']['message']}")
                 return reply["result"]
@@ -121,6 +127,10 @@ class Browser:
             self.faults.append(f"console: {what['args']}")
         elif method == "Log.entryAdded" and what["entry"]["level"] in ("error", "warning"):
             self.faults.append(f"log: {what['entry']['text']}")
+        elif method == "Fetch.requestPaused":
+            body = base64.b64encode(self.served[what["request"]["url"]]).decode()
+            head = [{"name": "Content-Type", "value": "text/html; charset=utf-8"}]
+            self.send("Fetch.fulfillRequest", requestId=what["requestId"], responseCode=200, responseHeaders=head, body=body)
         elif method == "Network.requestWillBeSent" and not what["request"]["url"].startswith(OWN_SCHEMES):
             self.requests.append(what["request"]["url"])
 
@@ -131,6 +141,11 @@ class Browser:
         """The medium, and what its reader prefers: prefer(color_scheme="dark")."""
         told = [{"name": f"prefers-{name.replace('_', '-')}", "value": value} for name, value in features.items()]
         self.call("Emulation.setEmulatedMedia", media=medium, features=told)
+
+    def serve(self, url, page):
+        """Has the browser open this page at an address, whatever a server would answer there."""
+        self.served = {url: page}
+        self.call("Fetch.enable", patterns=[{"urlPattern": url}])
 
     def open(self, url):
         """Goes to a page and waits until it is complete. The seconds of a processor that its thread took for that, which other work

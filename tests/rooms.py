@@ -35,10 +35,14 @@ def encoded(lines):
     return [line.encode() for line in lines]
 
 
+def reading_of(path, track):
+    with open(path, "rb") as file:
+        return journals.read(file.read(), journals.digest_of(track))
+
+
 def lines_at(path, track):
     """The lines that a journal tells that is whole, or none where it is not."""
-    with open(path, "rb") as file:
-        reading = journals.read(file.read(), journals.digest_of(track))
+    reading = reading_of(path, track)
     return [line.decode() for line in reading.lines] if isinstance(reading, Whole) else None
 
 
