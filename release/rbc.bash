@@ -15,10 +15,10 @@ _rbc() {
     check) COMPREPLY=($(compgen -W "--help" -- "$word")) ;;
     decode) COMPREPLY=($(compgen -W "--json --help" -- "$word")) ;;
     draw) COMPREPLY=($(compgen -W "--help" -- "$word")) ;;
-    run) COMPREPLY=($(compgen -W "--history --journal --help" -- "$word")); compopt -o default ;;
+    run) COMPREPLY=($(compgen -W "--history --from --journal --entries --help" -- "$word")); compopt -o default ;;
     show) COMPREPLY=($(compgen -W "--each --page --help" -- "$word")); compopt -o default ;;
     track) COMPREPLY=($(compgen -W "--lines --help" -- "$word")); compopt -o default ;;
-    serve) COMPREPLY=($(compgen -W "--port --stay --connections --workers --sweep --patience --log --journal --help" -- "$word")); compopt -o default ;;
+    serve) COMPREPLY=($(compgen -W "--port --stay --connections --workers --sweep --patience --log --from --journal --entries --page --page-address --help" -- "$word")); compopt -o default ;;
     journal) COMPREPLY=($(compgen -W "--lines --follow --first --renew --help" -- "$word")); compopt -o default ;;
     help) COMPREPLY=($(compgen -W "steps check decode draw run show track serve journal help" -- "$word")) ;;
   esac
