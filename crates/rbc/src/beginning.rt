@@ -1,16 +1,23 @@
-//! What a centre begins with: no trains and no locks, or the scene that a file tells.
+//! What a centre begins with: no trains and no locks, or the scene that a file or its journal tells.
 
 ghost use Rattle.std.specs.Prelude.{◌≡◌, [], IfOk};
+ghost use Rattle.std.specs.Arc.{arc_value};
+ghost use Rattle.rbc_journal_file.specs.Beginnings.{beginning_of, joined};
+ghost use Rattle.rbc_journal_file.specs.Gates.{counted};
+ghost use Rattle.rbc_model.specs.SceneLines.{scene_lines};
 ghost use Rattle.rbc_show.specs.Records.{begin_of};
 ghost use Rattle.rbc_show.specs.Retelling.{IsRetold};
+ghost use Rattle.rbc.specs.Beginnings.{Begins};
 
 use crate::failure::Failure;
+use crate::journal_fault::JournalFault;
 use crate::reason::Reason;
+use rbc_journal_file::beginning_in;
 use rbc_model::limits::LONGEST_FILE;
 use rbc_model::{Memory, OrMemory};
-use rbc_scene_reading::{FaultyLine, SceneFault, explain, read};
+use rbc_scene_reading::{FaultyLine, Scene, SceneFault, explain, read};
 use rbc_show::kept::server::{EntryLimit, Record};
-use rbc_show::{Stream, WholeFault, list, read_whole};
+use rbc_show::{Stream, WholeFault, list, print_scene, read_whole};
 use rbc_streams::Text;
 use rbc_trackfile::Track;
 use std::alloc::Global;
@@ -74,18 +81,98 @@ pub(crate) fn begin(
             scene: None,
         });
     };
-    let bytes = bytes_of(rt, path)?;
-    let Some(text) = scene_in(alloc, &track, bytes.as_slice())? else {
-        return Err(Failure::Begin(BeginFault::OtherTrack, Reason::none()));
-    };
-    let shared = Arc::try_clone(&track).map_err(Memory::from)?;
-    match read(alloc, shared, text.lines) {
+    let (version, scene) = scene_at(rt, &track, path)?;
+    Ok(Begun {
+        record: Record::from(alloc, scene, most)?,
+        scene: Some(version),
+    })
+}
+
+/// The record that begins as the text of a journal says, in which nothing was told yet.
+///
+/// # Errors
+///
+/// `Journal`, where what the journal begins with is no scene of the track; `Memory`.
+pub(crate) fn begin_in(
+    alloc: Global,
+    track: Arc<Track>,
+    text: &[u8],
+    most: EntryLimit,
+) -> Result<Begun, Failure>
+    ensures none { IfOk result (λ begun. begun.record.entries ≡ []) }
+    ensures retold { IfOk result (λ begun. IsRetold (begin_of begun.record) begun.record.entries) }
+    ensures begins { IfOk result (λ begun. Begins (arc_value track) (joined (beginning_of (counted text.now))) begun.record.begin) }
+{
+    let lines = beginning_in(alloc, text)?;
+    if lines.is_empty() {
+        let record = Record::with_limit(alloc, track, most)?;
+        return Ok(Begun {
+            record,
+            scene: None,
+        });
+    }
+    match read(alloc, track, lines.as_slice()) {
         Ok((version, scene)) => Ok(Begun {
             record: Record::from(alloc, scene, most)?,
             scene: Some(version),
         }),
         Err(OrMemory::Memory) => Err(Failure::Memory),
-        Err(OrMemory::Refused(faulty)) => Err(refused(alloc, path, &track, faulty, text.before)),
+        Err(OrMemory::Refused(faulty)) => Err(JournalFault::Beginning(
+            faulty.line,
+            faulty.fault,
+        ).into()),
+    }
+}
+
+/// The lines of the scene that the file of this path tells, if one is named, as a centre writes them.
+///
+/// # Errors
+///
+/// `Begin`, where the file can't be read, or tells no scene of the track; `Memory`.
+pub(crate) fn lines_at(
+    rt: &(impl Files + AllocGlobal),
+    track: &Arc<Track>,
+    from: Option<&str>,
+) -> Result<Vec<u8>, Failure> {
+    let alloc = rt.alloc();
+    let Some(path) = from else {
+        return Ok(Vec::new(alloc));
+    };
+    let (version, scene) = scene_at(rt, track, path)?;
+    Ok(lines_of(alloc, version, &scene)?)
+}
+
+/// The lines of a scene of this version.
+pub(crate) fn lines_of(alloc: Global, version: u64, scene: &Scene) -> Result<Vec<u8>, Memory>
+    ensures { IfOk result (λ lines. lines.items ≡ scene_lines scene.now.track version scene.now.scene) }
+{
+    let mut lines = Text::new(alloc);
+    match print_scene(alloc, version, scene, &mut lines) {
+        Ok(()) => Ok(lines.bytes),
+        Err(_) => Err(Memory),
+    }
+}
+
+/// The scene that the file of this path tells, and its version.
+///
+/// # Errors
+///
+/// `Begin`, where the file can't be read, or tells no scene of the track; `Memory`.
+fn scene_at(
+    rt: &(impl Files + AllocGlobal),
+    track: &Arc<Track>,
+    path: &str,
+) -> Result<(u64, Scene), Failure> {
+    let alloc = rt.alloc();
+    let bytes = bytes_of(rt, path)?;
+    let Some(text) = scene_in(alloc, track, bytes.as_slice())? else {
+        return Err(Failure::Begin(BeginFault::OtherTrack, Reason::none()));
+    };
+    let shared = Arc::try_clone(track).map_err(Memory::from)?;
+    match read(alloc, shared, text.lines) {
+        Ok(told) => Ok(told),
+        Err(OrMemory::Memory) => Err(Failure::Memory),
+        Err(OrMemory::Refused(faulty)) => Err(refused(alloc, path, track, faulty, text.before)),
     }
 }
 

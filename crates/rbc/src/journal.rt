@@ -7,8 +7,10 @@ ghost use Rattle.rbc_journal_file.specs.Recorded.{past_of};
 ghost use Rattle.rbc_journal_file.specs.Seals.{IsWholeText};
 ghost use Rattle.rbc_show.specs.Kept.{IsReady};
 
+use crate::beginning::{Begun, begin_in, lines_at};
 use crate::failure::{Failure, at_place, file_failed};
 use crate::history::history_of;
+use crate::journal_fault::JournalFault;
 use crate::limit::limit_of;
 use crate::output::{ended, standard_output};
 use crate::page::page_at;
@@ -21,12 +23,15 @@ use crate::track::TrackFile;
 use crate::watching::watch_on;
 use rbc_command_line::{CentreOptions, Service, Staying};
 use rbc_hints::Prompted;
-use rbc_journal_file::{Found, Place, Readable, Recorded, Timed, new_file, read};
+use rbc_journal_file::{
+    Found, Place, Readable, Recorded, Timed, beginning_in, begun_file, next_told, read,
+};
 use rbc_model::Memory;
 use rbc_port::tally::Tally;
 use rbc_show::Stream;
 use rbc_show::kept::server::{EntryLimit, Record};
 use rbc_show::kept::{self, Kept, KeptFault, RunFault, replay};
+use rbc_trackfile::Track;
 use std::fs::{File, Files};
 use std::io::{BufRead, Eprint, IsTerminal};
 use std::net::{Net, TcpListener, TcpStream};
@@ -34,8 +39,8 @@ use std::sync::{Arc, Wait};
 use std::thread::Threads;
 use std::time::Clock;
 
-/// Runs a centre over the standard input, from what a journal tells on: an empty record gains that first. The history
-/// that this leads to is written, if a file is named for it, unless the journal fails.
+/// Runs a centre over the standard input, from what a journal tells on: the record that begins as the journal does gains
+/// that first. The history that this leads to is written, if a file is named for it, unless the journal fails.
 ///
 /// # Errors
 ///
@@ -77,7 +82,11 @@ fn run_at<I: BufRead + Drop + IsTerminal>(
     requires { IsLine track.digest }
 {
     let alloc = rt.alloc();
-    let mut kept = uncounted(rt, place, track, limit_of(centre.entries))?;
+    let wanted = Wanted {
+        from: centre.from,
+        most: limit_of(centre.entries),
+    };
+    let (mut kept, scene) = uncounted(rt, place, track, wanted)?;
     let terminal = match kept.history() {
         Some(history) => terminal_over(rt, history)?,
         None => None,
@@ -90,7 +99,7 @@ fn run_at<I: BufRead + Drop + IsTerminal>(
         terminal.end();
     }
     let written = match (history, kept.history()) {
-        (Some(file), Some(history)) => file.write(rt, history, None),
+        (Some(file), Some(history)) => file.write(rt, history, scene),
         (Some(file), None) => {
             file.give_up(rt);
             Ok(())
@@ -156,9 +165,12 @@ fn serve_at(
     requires { IsLine track.digest }
 {
     let alloc = rt.alloc();
-    let most = limit_of(service.entries);
-    let watch = watch_on(rt, service.terms, most)?;
-    let kept = counted(rt, place, track, most, watch.tally())?;
+    let wanted = Wanted {
+        from: service.from,
+        most: limit_of(service.entries),
+    };
+    let watch = watch_on(rt, service.terms, wanted.most)?;
+    let kept = counted(rt, place, track, wanted, watch.tally())?;
     let mut output = standard_output(rt)?;
     let outcome = match open_port(rt, service, &watch, &mut output) {
         Ok(Opened { port, minutes }) => {
@@ -223,10 +235,13 @@ fn stay_at<I: BufRead + Drop + Send + 'static>(
     requires { IsLine track.digest }
 {
     let alloc = rt.alloc();
-    let most = limit_of(staying.entries);
-    let watch = watch_on(rt, staying.terms, most)?;
+    let wanted = Wanted {
+        from: staying.from,
+        most: limit_of(staying.entries),
+    };
+    let watch = watch_on(rt, staying.terms, wanted.most)?;
     let page = page_at(rt, staying.page, &track.track, &watch)?;
-    let kept = counted(rt, place, track, most, watch.tally())?;
+    let kept = counted(rt, place, track, wanted, watch.tally())?;
     let mut output = standard_output(rt)?;
     let outcome = match open_entrance(rt, staying, &watch, &mut output) {
         Ok(
@@ -245,79 +260,136 @@ fn stay_at<I: BufRead + Drop + Send + 'static>(
     ended(output, outcome)
 }
 
-/// The record that a journal tells, with its journal, whose commits are counted, if a tally is kept. A missing file is made. What
-/// a crash left behind the last line is kept beside the file, and told.
+/// What is wanted of the history that a journal tells.
+#[derive(Clone, Copy)]
+struct Wanted<'a> {
+    /// The file that tells the scene that it begins with, if one is named: the journal is new then, or tells no entries.
+    from: Option<&'a str>,
+    /// How many entries it may have.
+    most: EntryLimit,
+}
+
+/// The record that a journal tells, with its journal, whose commits are counted, if a tally is kept; and the version of the scene
+/// that it begins with, if that isn't empty. A missing file is made. What a crash left behind the last line is kept beside the
+/// file, and told.
 ///
 /// # Errors
 ///
-/// `Journal`, where the file is no journal of this track, is damaged, tells more entries than the history may have, or fails;
-/// `Memory`.
+/// `Journal`, where the file is no journal of this track, is damaged, begins with another scene than is wanted or tells entries
+/// then, tells more entries than the history may have, or fails; `Begin`, where the scene that is wanted can't be had; `Memory`.
 fn opened<'r, 't, R: Files<File = File> + AllocGlobal + Threads + Clock + Eprint + Sync>(
     rt: &'r R,
     place: &Place,
     track: TrackFile,
-    most: EntryLimit,
+    wanted: Wanted<'_>,
     tally: Option<&'t Tally>,
-) -> Result<Kept<Recorded<Timed<'r, 't, R>>>, Failure>
+) -> Result<(Kept<Recorded<Timed<'r, 't, R>>>, Option<u64>), Failure>
     requires { IsLine track.digest }
-    ensures { IfOk result (λ kept. IsReady (λ file. seen (past_of file)) (λ file. may_leave (past_of file)) kept) }
+    ensures { IfOk result (λ opened. IsReady (λ file. seen (past_of file)) (λ file. may_leave (past_of file)) opened.0) }
 {
     let alloc = rt.alloc();
     let TrackFile { track, digest } = track;
     let track = Arc::new(alloc, track).map_err(Memory::from)?;
-    let empty = Record::with_limit(alloc, track, most)?;
     let found = rbc_journal_file::open(rt, place)?;
     let Some(bytes) = found.bytes() else {
-        let bytes = new_file(alloc, &digest)?;
+        let lines = lines_at(rt, &track, wanted.from)?;
+        let bytes = begun_file(alloc, &digest, lines.as_slice())?;
         let read = readable(bytes.as_slice(), &digest)?;
-        return recovered(rt, empty, &read, &found, tally);
+        return resumed(rt, track, wanted.most, &read, &found, tally);
     };
     let read = readable(bytes, &digest)?;
-    let kept = recovered(rt, empty, &read, &found, tally)?;
+    check_beginning(rt, &track, wanted.from, &read)?;
+    let opened = resumed(rt, track, wanted.most, &read, &found, tally)?;
     if !read.dropped.is_empty() {
         let _ = eprintln!(rt;
             "rbc: journal: {} bytes behind the last line dropped",
             read.dropped.len()
         );
     }
-    Ok(kept)
+    Ok(opened)
 }
 
-/// The record that a journal tells, with its journal, whose commits are not counted.
+/// Looks whether a journal that was found begins with the scene that is wanted, if one is, and tells no entries then.
 ///
 /// # Errors
 ///
-/// `Journal`, where the file is no journal of this track, is damaged, tells more entries than the history may have, or fails;
-/// `Memory`.
+/// `Journal`, where it doesn't; `Begin`, where the scene can't be had; `Memory`.
+fn check_beginning(
+    rt: &(impl Files + AllocGlobal),
+    track: &Arc<Track>,
+    from: Option<&str>,
+    read: &Readable<'_>,
+) -> Result<(), Failure> {
+    if from.is_none() {
+        return Ok(());
+    }
+    if next_told(read.text).is_some() {
+        return Err(JournalFault::Begun.into());
+    }
+    let lines = lines_at(rt, track, from)?;
+    if beginning_in(rt.alloc(), read.text)?.as_slice() != lines.as_slice() {
+        return Err(JournalFault::OtherBeginning.into());
+    }
+    Ok(())
+}
+
+/// The record that begins as a journal does, once it has gained what was read of that, with the version of the scene that it
+/// begins with.
+///
+/// # Errors
+///
+/// `Journal`, where the journal begins with no scene of the track, a line adds nothing, or the file fails; `Memory`.
+fn resumed<'r, 't, R: Files<File = File> + AllocGlobal + Threads + Clock + Sync>(
+    rt: &'r R,
+    track: Arc<Track>,
+    most: EntryLimit,
+    read: &Readable<'_>,
+    found: &Found<'_>,
+    tally: Option<&'t Tally>,
+) -> Result<(Kept<Recorded<Timed<'r, 't, R>>>, Option<u64>), Failure>
+    requires whole { IsWholeText read.now.text.now read.now.seal }
+    ensures { IfOk result (λ opened. IsReady (λ file. seen (past_of file)) (λ file. may_leave (past_of file)) opened.0) }
+{
+    let Begun { record, scene } = begin_in(rt.alloc(), track, read.text, most)?;
+    let kept = recovered(rt, record, read, found, tally)?;
+    Ok((kept, scene))
+}
+
+/// The record that a journal tells, with its journal, whose commits are not counted, and the version of the scene that it begins
+/// with.
+///
+/// # Errors
+///
+/// Those of [`opened`].
 fn uncounted<'r, R: Files<File = File> + AllocGlobal + Threads + Clock + Eprint + Sync>(
     rt: &'r R,
     place: &Place,
     track: TrackFile,
-    most: EntryLimit,
-) -> Result<Kept<Recorded<Timed<'r, 'r, R>>>, Failure>
+    wanted: Wanted<'_>,
+) -> Result<(Kept<Recorded<Timed<'r, 'r, R>>>, Option<u64>), Failure>
     requires { IsLine track.digest }
-    ensures { IfOk result (λ kept. IsReady (λ file. seen (past_of file)) (λ file. may_leave (past_of file)) kept) }
+    ensures { IfOk result (λ opened. IsReady (λ file. seen (past_of file)) (λ file. may_leave (past_of file)) opened.0) }
 {
-    opened(rt, place, track, most, None)
+    opened(rt, place, track, wanted, None)
 }
 
 /// The record that a journal tells, with its journal, whose commits are counted.
 ///
 /// # Errors
 ///
-/// `Journal`, where the file is no journal of this track, is damaged, tells more entries than the history may have, or fails;
-/// `Memory`.
+/// Those of [`opened`].
 fn counted<'r, 't, R: Files<File = File> + AllocGlobal + Threads + Clock + Eprint + Sync>(
     rt: &'r R,
     place: &Place,
     track: TrackFile,
-    most: EntryLimit,
+    wanted: Wanted<'_>,
     tally: &'t Tally,
 ) -> Result<Kept<Recorded<Timed<'r, 't, R>>>, Failure>
     requires { IsLine track.digest }
     ensures { IfOk result (λ kept. IsReady (λ file. seen (past_of file)) (λ file. may_leave (past_of file)) kept) }
 {
-    opened(rt, place, track, most, Some(tally))
+    let (kept, _scene) = opened(rt, place, track, wanted, Some(tally))?;
+    Ok(kept)
 }
 
 /// What a file with these bytes is read as, beside the track with this digest.
@@ -325,7 +397,7 @@ fn counted<'r, 't, R: Files<File = File> + AllocGlobal + Threads + Clock + Eprin
 /// # Errors
 ///
 /// `Journal`.
-fn readable<'a>(bytes: &'a [u8], digest: &[u8; 64]) -> Result<Readable<'a>, Failure>
+pub(crate) fn readable<'a>(bytes: &'a [u8], digest: &[u8; 64]) -> Result<Readable<'a>, Failure>
     ensures { IfOk result (λ file. IsWholeText file.text.now file.seal) }
 {
     match read(bytes, digest) {

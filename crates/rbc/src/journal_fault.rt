@@ -4,6 +4,7 @@ ghost use Rattle.std.specs.Prelude.{◌≡◌};
 ghost use Rattle.rbc.specs.Statuses.{status_of_journal};
 
 use rbc_journal_file::{CallFailed, ReadFault};
+use rbc_scene_reading::SceneFault;
 use std::fmt;
 use std::fmt::Display;
 use thiserror::Error;
@@ -24,6 +25,15 @@ pub enum JournalFault {
     /// another program.
     #[error("journal: Foreign {0}")]
     Foreign(u64),
+    /// It tells entries, and a scene is named to begin with.
+    #[error("journal: tells entries already; --from begins a new one")]
+    Begun,
+    /// It begins with another scene than the one that is named to begin with, or with none.
+    #[error("journal: begins with another scene")]
+    OtherBeginning,
+    /// What it begins with is no scene of the track: the line of this number, counted from 1, can't stand where it stands.
+    #[error("journal: beginning: line {0}: {1}")]
+    Beginning(u64, SceneFault),
     /// Its file failed in this call, or takes no more.
     #[error("journal fault")]
     Failed(Option<CallFailed>),
@@ -60,6 +70,9 @@ impl JournalFault {
             JournalFault::OtherName
             | JournalFault::Read(_)
             | JournalFault::Foreign(_)
+            | JournalFault::Begun
+            | JournalFault::OtherBeginning
+            | JournalFault::Beginning(_, _)
             | JournalFault::Entries(_)
             | JournalFault::Few(_)
             | JournalFault::Renewed

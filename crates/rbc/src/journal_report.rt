@@ -107,8 +107,11 @@ fn write_lines(
     checked(bytes, given)
 }
 
-/// Makes the file of a new journal.
-fn created(rt: &impl Files<File = File>, place: &Place) -> Result<Recorded<SystemFile>, Failure>
+/// Makes a new file, which has nothing.
+pub(crate) fn created(
+    rt: &impl Files<File = File>,
+    place: &Place,
+) -> Result<Recorded<SystemFile>, Failure>
     ensures seen { IfOk result (λ file. seen (past_of file) ≡ []) }
     ensures durable { IfOk result (λ file. Only (seen (past_of file)) (may_leave (past_of file))) }
 {
@@ -159,8 +162,8 @@ fn take_all(
     }
 }
 
-/// Takes away the new file, which was made for lines that are not taken over.
-fn remove(rt: &impl Files, place: &Place) {
+/// Takes away a new file, which was made for lines that it does not have.
+pub(crate) fn remove(rt: &impl Files, place: &Place) {
     let _ = fs::remove_file(rt, place.of(Role::Journal));
 }
 

@@ -6,6 +6,7 @@ mod end;
 mod failure;
 mod history;
 mod journal;
+mod journal_close;
 mod journal_fault;
 mod journal_follow;
 mod journal_report;
@@ -28,6 +29,7 @@ use failure::Failure;
 pub use history::HistoryFault;
 use history::history_of;
 use journal::{run_kept, serve_with, stay_with};
+use journal_close::close_journal;
 pub use journal_fault::JournalFault;
 use journal_report::tell_journal;
 use limit::limit_of;
@@ -103,6 +105,7 @@ fn run<I: BufRead + Drop + IsTerminal + Send + 'static>(
         Task::Serve(service) => serve_centre(rt, &service),
         Task::Stay(staying) => stay_at_port(rt, &staying),
         Task::Journal(asked) => tell_journal(rt, &asked),
+        Task::Close(closing) => close_journal(rt, &closing),
     }
 }
 

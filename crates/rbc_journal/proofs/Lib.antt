@@ -13,4 +13,6 @@ mod HeaderLemmas
 mod ReadingLemmas
 mod ToldLemmas
 mod ReadingLawLemmas
+mod BeginningLemmas
+mod LastingLemmas
 mod ChangeLemmas

@@ -265,15 +265,13 @@ new_tells digest size is =
     ap (λ (l : List (List ℕ)). told_of (chain_of l).whole) (counted-at_rest (header digest) begins.lines)
     ∙ ap (λ (c : Chain). told_of c.whole) (header_chain digest size)
 
--- it is written line by line
-pub laid_out : (digest nothing one second two seal third three file : List ℕ) → nothing ≡ [] → one ≡ nothing ++ (32 ∷ (title ++ codes "2") ++ 10 ∷ []) → second ≡ track_mark ++ digest
-    → two ≡ one ++ (32 ∷ second ++ 10 ∷ []) → seal ≡ seal_of_bytes [] two → third ≡ seal_line seal → three ≡ two ++ (32 ∷ third ++ 10 ∷ []) → file ≡ three ++ 35 ∷ [] → file ≡ new_file digest
-laid_out digest nothing one second two seal third three file e0 e1 es e2 eseal et e3 e4 =
+-- its header is written line by line
+pub laid_out : (digest nothing one second two seal third three : List ℕ) → nothing ≡ [] → one ≡ nothing ++ (32 ∷ (title ++ codes "2") ++ 10 ∷ []) → second ≡ track_mark ++ digest
+    → two ≡ one ++ (32 ∷ second ++ 10 ∷ []) → seal ≡ seal_of_bytes [] two → third ≡ seal_line seal → three ≡ two ++ (32 ∷ third ++ 10 ∷ []) → three ≡ text (header digest)
+laid_out digest nothing one second two seal third three e0 e1 es e2 eseal et e3 =
     let first : one ≡ (32 ∷ (title ++ codes "2") ++ 10 ∷ []) = e1 ∙ ap (λ (l : List ℕ). l ++ (32 ∷ (title ++ codes "2") ++ 10 ∷ [])) e0 in
     let both : two ≡ text (named_in_header digest) =
     e2 ∙ ap (λ (l : List ℕ). l ++ (32 ∷ second ++ 10 ∷ [])) first ∙ ap (λ (l : List ℕ). (32 ∷ (title ++ codes "2") ++ 10 ∷ []) ++ (32 ∷ l ++ 10 ∷ [])) es in
     let last : third ≡ seal_line (seal_in digest) = et ∙ ap seal_line (eseal ∙ ap (seal_of_bytes []) both) in
-    let lines : three ≡ text (header digest) =
     e3 ∙ ap (λ (l : List ℕ). l ++ (32 ∷ third ++ 10 ∷ [])) both ∙ ap (λ (l : List ℕ). text (named_in_header digest) ++ (32 ∷ l ++ 10 ∷ [])) last
-    ∙ sym (text-append (named_in_header digest) (seal_line (seal_in digest) ∷ [])) in
-    e4 ∙ ap (λ (l : List ℕ). l ++ 35 ∷ []) lines
+    ∙ sym (text-append (named_in_header digest) (seal_line (seal_in digest) ∷ []))

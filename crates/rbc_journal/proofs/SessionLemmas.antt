@@ -8,10 +8,10 @@ use Rattle.rbc_journal.specs.Sessions.{with_front, lines_of}
 abbrev NotFeed : ℕ → Type 0
 NotFeed byte = byte ≢ 10
 
-no_feed : (byte : ℕ) (bytes : List ℕ) → byte ≢ 10 → lines_of (byte ∷ bytes) ≡ with_front byte (lines_of bytes)
+pub no_feed : (byte : ℕ) (bytes : List ℕ) → byte ≢ 10 → lines_of (byte ∷ bytes) ≡ with_front byte (lines_of bytes)
 no_feed byte bytes differs = grind (arith, nat_tests)
 
-first_line : (line rest : List ℕ) → IsLine line → lines_of (line ++ 10 ∷ rest) ≡ line ∷ lines_of rest
+pub first_line : (line rest : List ℕ) → IsLine line → lines_of (line ++ 10 ∷ rest) ≡ line ∷ lines_of rest
 first_line [] rest is = refl
 first_line (byte ∷ line) rest is = no_feed byte (line ++ 10 ∷ rest) (All-head NotFeed byte line is) ∙ ap (with_front byte) (first_line line rest (All-tail NotFeed byte line is))
 

@@ -9,7 +9,7 @@ ghost use Rattle.rbc_journal.specs.Reading.{reading};
 ghost use Rattle.rbc_journal.specs.Journal.{recovered};
 
 use crate::lines::next_line;
-use crate::seal::{line_of, seal_of};
+use crate::seal::{DIGITS, line_of, seal_of};
 use sha2::{Digest, Sha256};
 use std::alloc::{AllocError, Global};
 
@@ -41,17 +41,29 @@ pub fn new_file(alloc: Global, track: &[u8; TRACK_DIGITS]) -> Result<Vec<u8>, Al
         ≡ Ok (record { text = text (header track.now); seal = seal_of [] (named_in_header track.now); dropped = [] })) }
     ensures none { IfOk result (λ file. recovered file.items ≡ []) }
 {
-    let mut file = Vec::new(alloc);
-    push_line(&mut file, b"# rbc journal 2")?;
-    push_line(&mut file, &track_line(track))?;
-    let seal = seal_of(b"", b"", file.as_slice());
-    push_line(&mut file, &line_of(&seal))?;
+    let (mut file, _seal) = header_text(alloc, track)?;
     file.push(b'#')?;
     Ok(file)
 }
 
+/// The text of a header that names the track's digest, and its seal.
+pub(crate) fn header_text(
+    alloc: Global,
+    track: &[u8; TRACK_DIGITS],
+) -> Result<(Vec<u8>, [u8; DIGITS]), AllocError>
+    ensures bytes { IfOk result (λ made. made.0.items ≡ text (header track.now)) }
+    ensures seal { IfOk result (λ made. made.1 ≡ seal_of [] (named_in_header track.now)) }
+{
+    let mut lines = Vec::new(alloc);
+    push_line(&mut lines, b"# rbc journal 2")?;
+    push_line(&mut lines, &track_line(track))?;
+    let seal = seal_of(b"", b"", lines.as_slice());
+    push_line(&mut lines, &line_of(&seal))?;
+    Ok((lines, seal))
+}
+
 /// Adds a line behind an open gate.
-fn push_line(file: &mut Vec<u8>, line: &[u8]) -> Result<(), AllocError>
+pub(crate) fn push_line(file: &mut Vec<u8>, line: &[u8]) -> Result<(), AllocError>
     ensures { OnOk result (file.new.items ≡ file.old.items ++ (32 ∷ line.now ++ 10 ∷ [])) }
 {
     file.push(b' ')?;

@@ -5,6 +5,7 @@
 ghost use Rattle.std.specs.Prelude.{◌≡◌, ◌+◌, ◌-◌, ◌^◌, ◌<◌, ◌≤◌, ◌++◌, [], ◌∷◌, length, take, OnOk, OnErr, IfOk, IfErr, IsErrOf, vec_len, vec_capacity};
 ghost use Rattle.rbc_journal.specs.Device.{Only, LeavesOnly};
 ghost use Rattle.rbc_journal.specs.Gates.{IsLine, at_rest, behind, counted, staged_in, CountsBeforeOrAfter};
+ghost use Rattle.rbc_journal.specs.Beginnings.{beginning_of};
 ghost use Rattle.rbc_journal.specs.Journal.{recovered, IsTold, IsBeforeOrAfter};
 ghost use Rattle.rbc_journal.specs.Seals.{IsWholeText};
 ghost use Rattle.rbc_journal.specs.Settled.{staged, IsSettled, HasRoom, HasCause, Waits};
@@ -49,6 +50,8 @@ impl<D: Device> Journal<D> {
         requires durable { Only (D.seen device) (D.may_leave device) }
         ensures settled { IfOk result (λ journal. IsSettled D.seen D.may_leave journal) }
         ensures same { IfOk result (λ journal. recovered (D.seen journal.device) ≡ recovered text.now) }
+        ensures begins { IfOk result (λ journal. beginning_of (counted (D.seen journal.device))
+            ≡ beginning_of (counted text.now)) }
         ensures staged { IfOk result (λ journal. staged journal ≡ []) }
 
         // A crash at any moment leaves the same lines.
@@ -94,6 +97,10 @@ impl<D: Device> Journal<D> {
         ensures acknowledged { OnOk result (IsSettled D.seen D.may_leave self.new
             × (recovered (D.seen self.new.device) ≡ recovered (D.seen self.old.device) ++ line.now ∷ [])
             × (staged self.new ≡ [])) }
+
+        // What it begins with stays as it is.
+        ensures begins { OnOk result (beginning_of (counted (D.seen self.new.device))
+            ≡ beginning_of (counted (D.seen self.old.device))) }
 
         // A crash at any moment of the call leaves the lines from before it, with the new one or without.
         ensures any_moment { LeavesOnly D.moment D.left_since self.old.device self.new.device
@@ -159,6 +166,10 @@ impl<D: Device> Journal<D> {
         ensures acknowledged { OnOk result (IsSettled D.seen D.may_leave self.new
             × (recovered (D.seen self.new.device) ≡ recovered (D.seen self.old.device) ++ staged self.old)
             × (staged self.new ≡ [])) }
+
+        // What it begins with stays as it is.
+        ensures begins { OnOk result (beginning_of (counted (D.seen self.new.device))
+            ≡ beginning_of (counted (D.seen self.old.device))) }
 
         // A crash at any moment of the call leaves the lines from before it, with all the staged ones or with none.
         ensures any_moment { LeavesOnly D.moment D.left_since self.old.device self.new.device

@@ -1,6 +1,7 @@
 //! What journal files are, whatever program wrote them.
 
 ghost use Rattle.rbc_journal.specs.Sessions.{FilesAtRestAreSessions};
+ghost use Rattle.rbc_journal.specs.Beginnings.{BeginningStays};
 ghost use Rattle.rbc_journal.specs.ReadingLaws.{ChangeIsTold, CrashIsRead, CutIsTold, LastSealVouches, LinesAreOne};
 
 /// A file at rest is the input of a session: its lines are those that it stands for, each behind a space, and a comment.
@@ -37,4 +38,9 @@ pub fn last_seals_vouch()
 /// put of each has one seal that was made of different bytes. Nothing here runs.
 pub fn changes_are_told()
     ensures { ChangeIsTold }
+{}
+
+/// A journal begins with the lines that it was begun with, whatever is put behind them that is not marked. Nothing here runs.
+pub fn beginnings_stay()
+    ensures { BeginningStays }
 {}

@@ -40,7 +40,7 @@ pub fn is_told(bytes: &[u8]) -> bool
 }
 
 /// Where the first line feed stands.
-fn end_of_line(bytes: &[u8]) -> Option<usize>
+pub(crate) fn end_of_line(bytes: &[u8]) -> Option<usize>
     ensures within { IfSome result (λ at. at < length bytes.now) }
     ensures line { IfSome result (λ at. IsLine (take at bytes.now)) }
     ensures feed { IfSome result (λ at. slice_index bytes.now at ≡ 10) }

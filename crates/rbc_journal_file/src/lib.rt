@@ -15,6 +15,8 @@ pub use calls::{Calls, SystemFile};
 pub use opening::{Found, OpenFault, create, open};
 pub use past::{Bytes, Past};
 pub use place::Place;
-pub use rbc_journal::{ReadFault, Readable, new_file, read, track_digest};
+pub use rbc_journal::{
+    ReadFault, Readable, beginning_in, begun_file, next_told, read, track_digest,
+};
 pub use recorded::Recorded;
 pub use timed::Timed;

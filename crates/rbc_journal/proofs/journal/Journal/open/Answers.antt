@@ -2,6 +2,7 @@ use Rattle.std.proofs.Common.{◌≡◌, ◌++◌, List, ℕ, [], ◌∷◌, All
 use Rattle.std.proofs.lemmas.List.Elements.{All-nil}
 use Rattle.rbc_journal.specs.Device.{Only}
 use Rattle.rbc_journal.specs.Gates.{text, at_rest, behind, counted, staged_in}
+use Rattle.rbc_journal.specs.Beginnings.{beginning_of}
 use Rattle.rbc_journal.specs.Journal.{IsTold, recovered}
 use Rattle.rbc_journal.specs.Seals.{AreSealed}
 use Rattle.rbc_journal.proofs.OpenLemmas.{after_replace, is_at_rest, same_lines, same_told}
@@ -37,6 +38,12 @@ returns-clause-same g c =
     let d = g.D.Device in
     let is : d.seen c.replace.new.self ≡ c.args.text.now ++ 35 ∷ [] = search rules in
     ap recovered is ∙ same_told _ _ c.requires.whole
+
+pub returns-clause-begins : goal.returns-clause-begins
+returns-clause-begins g c =
+    let d = g.D.Device in
+    let is : d.seen c.replace.new.self ≡ c.args.text.now ++ 35 ∷ [] = search rules in
+    ap (λ (l : List ℕ). beginning_of (counted l)) is ∙ ap beginning_of (same_lines _ _ c.requires.whole)
 
 pub returns-clause-any_moment : goal.returns-clause-any_moment
 returns-clause-any_moment g c =
