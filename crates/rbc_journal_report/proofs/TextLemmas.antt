@@ -7,7 +7,7 @@ use Rattle.std.proofs.lemmas.Bool.Decides.{nat_tests}
 use Rattle.rbc_journal.specs.Gates.{lines_from, counted, text, IsLine}
 use Rattle.rbc_journal_report.specs.Telling.{IsText}
 
-abbrev NotFeed : ℕ → Type 0
+abbrev pub NotFeed : ℕ → Type 0
 NotFeed byte = byte ≢ 10
 
 text-append : (a b : List (List ℕ)) → text (a ++ b) ≡ text a ++ text b

@@ -5,6 +5,7 @@ use Rattle.std.specs.Option.{unwrap_or}
 use Rattle.rbc_model.specs.Words.{line_of}
 use Rattle.rbc_journal.specs.Gates.{counted, text}
 use Rattle.rbc_journal.specs.Headers.{track_mark, behind_mark, sized}
+use Rattle.rbc_journal.specs.Beginnings.{beginning_of}
 use Rattle.rbc_journal.specs.Journal.{told_of}
 use Rattle.rbc_journal.specs.Reading.{Parts, reading}
 use Rattle.rbc_journal.specs.declared.reading.ReadFault.{ReadFault}
@@ -95,6 +96,11 @@ abbrev pub told_digest : Result Telling ReadFault → Option (List ℕ)
 told_digest (Ok told) = named_in told.lines
 told_digest (Err fault) = None
 
+-- what it begins with
+abbrev pub told_beginning : Result Telling ReadFault → List (List ℕ)
+told_beginning (Ok told) = beginning_of told.lines
+told_beginning (Err fault) = []
+
 -- ---- its report
 
 -- a kind, and how many lines are of it
@@ -121,6 +127,19 @@ state_text (DamagedAt line) = line_of (codes "damaged" ∷ decimal line ∷ [])
 abbrev pub head_text : Option (List ℕ) → Option (List ℕ) → List ℕ
 head_text given own = codes "format 2\n" ++ (line_of (codes "track" ∷ digest_word own ∷ []) ++ given_text given own)
 
+abbrev pub first_of : List (List ℕ) → Option (List ℕ)
+first_of [] = None
+first_of (line ∷ lines) = Some line
+
+-- the first line of what lines begin with, if they begin with anything
+abbrev pub first_begun : List (List ℕ) → Option (List ℕ)
+first_begun lines = first_of (beginning_of lines)
+
+-- that line
+abbrev pub begins_text : Option (List ℕ) → List ℕ
+begins_text None = []
+begins_text (Some line) = line_of (codes "begins" ∷ line ∷ [])
+
 -- how many lines are told
 abbrev pub total_text : List (List ℕ) → List ℕ
 total_text lines = line_of (codes "lines" ∷ decimal (length lines) ∷ [])
@@ -133,7 +152,8 @@ counts_text lines =
 
 abbrev pub told_text : Option (List ℕ) → Telling → List ℕ
 told_text given told =
-    head_text given (named_in told.lines) ++ (counts_text (told_of told.lines) ++ (state_text told.state ++ codes "done\n"))
+    head_text given (named_in told.lines)
+    ++ (begins_text (first_begun told.lines) ++ (counts_text (told_of told.lines) ++ (state_text told.state ++ codes "done\n")))
 
 -- what is written of a file, beside the digest of a track that is given: nothing, where it is no journal of format 2
 abbrev pub report_text : Option (List ℕ) → Result Telling ReadFault → List ℕ

@@ -1,24 +1,31 @@
-//! New journals with lines of an old one.
+//! New journals with the beginning and lines of an old one.
 
-ghost use Rattle.std.specs.Prelude.{◌≡◌, ◌≢◌, ◌⊎◌, ◌<◌, ◌≤◌, ◌++◌, ℕ, ◌∷◌, [], length, take, Some, Err, IfOk, IfErr, IfSome, IsTrue, OnOk};
+ghost use Rattle.std.specs.Prelude.{◌≡◌, ◌≢◌, ◌⊎◌, ◌<◌, ◌≤◌, ◌++◌, ℕ, ◌∷◌, [], length, take, Some, None, Err, IfOk, IfErr, IfSome, IsTrue, OnOk};
 ghost use Rattle.rbc_journal.specs.Device.{Only};
 ghost use Rattle.rbc_journal.specs.Gates.{IsLine, counted};
 ghost use Rattle.rbc_journal.specs.Journal.{told_of, recovered, IsTold};
 ghost use Rattle.rbc_journal.specs.Reading.{reading};
+ghost use Rattle.rbc_journal.specs.Sessions.{lines_of};
 ghost use Rattle.rbc_journal.specs.Settled.{IsSettled, staged};
 ghost use Rattle.rbc_journal.specs.declared.fault.JournalFault.{JournalFault};
+ghost use Rattle.rbc_journal.specs.declared.reading.ReadFault.{ReadFault};
 ghost use Rattle.rbc_journal.specs.declared.reading.ReadFault.TheVariants.{FirstFormat};
-ghost use Rattle.rbc_journal_report.specs.Copying.{Tells, all_lines};
-ghost use Rattle.rbc_journal_report.specs.Telling.{named_in, telling, told_lines, told_digest};
-ghost use Rattle.rbc_journal_report.specs.declared.copying.CopyFault.TheVariants.{Few, New};
+ghost use Rattle.rbc_journal_report.specs.Copying.{Tells, all_lines, begins_with, damage_in_front, is_of, refusal_by, refusal};
+ghost use Rattle.rbc_journal_report.specs.Telling.{named_in, telling, told_lines, told_digest, told_beginning};
+ghost use Rattle.rbc_journal_report.specs.declared.copying.CopyFault.TheVariants.{Read, Few, New};
 
 use crate::counting::count;
-use crate::telling::{named, tell};
-use rbc_journal::{Device, Journal, JournalFault, ReadFault, is_told, new_file, next_told, read};
+use crate::telling::{State, Told, named, tell};
+use rbc_journal::{
+    Device, Journal, JournalFault, ReadFault, beginning_in, begun_file, next_told, read,
+};
 use std::alloc::Global;
 
 /// How many lines a put of a new journal has at most.
 const MOST_LINES: u64 = 64;
+
+/// The first line behind a header, counted from 1.
+const BEHIND_HEADER: u64 = 4;
 
 /// Why a new journal does not have the lines of an old one.
 #[derive(Debug, PartialEq, Eq)]
@@ -33,12 +40,12 @@ pub enum CopyFault {
     New(JournalFault),
 }
 
-/// A new journal, in a file that has nothing, with the first lines that a file tells, and with the digest of its track,
-/// which has to be the one that is given, if one is. Of a damaged file only the lines before the damage are told.
+/// A new journal, in a file that has nothing, with what a file begins with, the first lines that it tells, and the digest of
+/// its track, which has to be the one that is given, if one is. Of a damaged file only the lines before the damage are told.
 ///
 /// # Errors
-/// In this order: `Read`, where the file is no journal of format 2, its header is damaged, or it is of another track;
-/// `Few`; `New`. Before that nothing is asked of the new file.
+/// In this order: `Read`, where the file is no journal of format 2, its header or the put behind it is damaged, or it is of
+/// another track; `Few`; `New`. Before that nothing is asked of the new file.
 pub fn copy_first<D: Device>(
     alloc: Global,
     bytes: &[u8],
@@ -49,8 +56,12 @@ pub fn copy_first<D: Device>(
     requires new { D.seen device ≡ [] }
     requires durable { Only (D.seen device) (D.may_leave device) }
     ensures copied { IfOk result (λ journal. Tells D.seen D.may_leave journal (take lines (told_lines (telling bytes.now)))) }
+    ensures begins { IfOk result (λ journal. begins_with D.seen journal ≡ told_beginning (telling bytes.now)) }
+    ensures taken { IfOk result (λ journal. refusal given (telling bytes.now) ≡ None) }
     ensures track { IfOk result (λ journal. IfSome given (λ digest. told_digest (telling bytes.now) ≡ Some digest)) }
     ensures enough { IfOk result (λ journal. lines ≤ length (told_lines (telling bytes.now))) }
+    ensures read { IfErr result (λ e. (fault : ReadFault) → e.0 ≡ Read fault
+        → refusal given (telling bytes.now) ≡ Some fault) }
     ensures few { IfErr result (λ e. (count : ℕ) → e.0 ≡ Few count
         → (count ≡ length (told_lines (telling bytes.now))) × (count < lines)) }
     ensures untouched { IfErr result (λ e. ((fault : JournalFault) → e.0 ≢ New fault) → e.1 ≡ device) }
@@ -59,20 +70,29 @@ pub fn copy_first<D: Device>(
         Ok(told) => told,
         Err(fault) => return Err((CopyFault::Read(fault), device)),
     };
-    let Some(track) = track_of(told.text) else {
-        return Err((CopyFault::Read(ReadFault::Damaged(1)), device));
+    let track = match track_of(&told, given) {
+        Ok(track) => track,
+        Err(fault) => return Err((CopyFault::Read(fault), device)),
     };
-    if !is_of(&track, given) {
-        return Err((CopyFault::Read(ReadFault::OtherTrack(track)), device));
-    }
     let count = count(told.text);
     if count < lines {
         return Err((CopyFault::Few(count), device));
     }
-    copy_lines(alloc, &track, told.text, lines, device)
+    let Ok(beginning) = beginning_in(alloc, told.text) else {
+        return Err((CopyFault::New(JournalFault::Memory), device));
+    };
+    copy_lines(
+        alloc,
+        &track,
+        beginning.as_slice(),
+        told.text,
+        lines,
+        device,
+    )
 }
 
-/// A new journal of a track, in a file that has nothing, with the lines of a journal of the format before this.
+/// A new journal of a track, in a file that has nothing, with the lines of a journal of the format before this. It begins
+/// with nothing.
 ///
 /// # Errors
 /// In this order: `Renewed`, where the file is a journal of this format; `Read`, where it is no journal of the format before
@@ -87,31 +107,55 @@ pub fn renew<D: Device>(
     requires new { D.seen device ≡ [] }
     requires durable { Only (D.seen device) (D.may_leave device) }
     ensures renewed { IfOk result (λ journal. Tells D.seen D.may_leave journal (counted bytes.now)) }
+    ensures begins { IfOk result (λ journal. begins_with D.seen journal ≡ []) }
     ensures first { IfOk result (λ journal. reading bytes.now track.now ≡ Err FirstFormat) }
     ensures untouched { IfErr result (λ e. ((fault : JournalFault) → e.0 ≢ New fault) → e.1 ≡ device) }
 {
     match read(bytes, track) {
-        Err(ReadFault::FirstFormat) => copy_lines(alloc, track, bytes, count(bytes), device),
+        Err(ReadFault::FirstFormat) => copy_lines(alloc, track, b"", bytes, count(bytes), device),
         Ok(_) => Err((CopyFault::Renewed, device)),
         Err(fault) => Err((CopyFault::Read(fault), device)),
     }
 }
 
-/// The digest that a header names, if it may stand in one.
-fn track_of(text: &[u8]) -> Option<[u8; 64]>
-    ensures line { IfSome result (λ track. IsLine track) }
-    ensures named { IfSome result (λ track. named_in (counted text.now) ≡ Some track) }
+/// The digest that a file names of its track, if something can be taken over from it beside the one that is given.
+///
+/// # Errors
+/// As `refusal_by` of `specs/Copying.antt` tells them.
+fn track_of(told: &Told, given: Option<[u8; 64]>) -> Result<[u8; 64], ReadFault>
+    ensures ok { IfOk result (λ track. named_in (counted told.now.text.now) ≡ Some track) }
+    ensures same { IfOk result (λ track. IfSome given (λ digest. digest ≡ track)) }
+    ensures taken { IfOk result (λ track. refusal_by given (named_in (counted told.now.text.now)) (damage_in_front told.now.state)
+        ≡ None) }
+    ensures err { IfErr result (λ fault. refusal_by given (named_in (counted told.now.text.now)) (damage_in_front told.now.state)
+        ≡ Some fault) }
 {
-    let track = named(text)?;
-    if !is_told(&track) {
-        return None;
+    let Some(track) = named(told.text) else {
+        return Err(ReadFault::Damaged(1));
+    };
+    if let Some(line) = damage_in_front(told.state) {
+        return Err(ReadFault::Damaged(line));
     }
-    Some(track)
+    if !is_of(&track, given) {
+        return Err(ReadFault::OtherTrack(track));
+    }
+    Ok(track)
+}
+
+/// The first damaged line, where it stands in the header or in the put behind it.
+fn damage_in_front(state: State) -> Option<u64>
+    ensures { result ≡ damage_in_front state }
+{
+    match state {
+        State::Damaged(line) if line <= BEHIND_HEADER => Some(line),
+        _ => None,
+    }
 }
 
 /// Whether this is the digest that is given, if one is.
 fn is_of(track: &[u8; 64], given: Option<[u8; 64]>) -> bool
-    ensures { IsTrue result → IfSome given (λ digest. digest ≡ track.now) }
+    ensures same { IsTrue result → IfSome given (λ digest. digest ≡ track.now) }
+    ensures test { result ≡ is_of track.now given }
 {
     match given {
         Some(digest) => digest == *track,
@@ -119,10 +163,11 @@ fn is_of(track: &[u8; 64], given: Option<[u8; 64]>) -> bool
     }
 }
 
-/// A new journal of a track with the first lines that a text tells.
+/// A new journal of a track that begins with the lines of one text, with the first lines that another tells.
 fn copy_lines<D: Device>(
     alloc: Global,
     track: &[u8; 64],
+    beginning: &[u8],
     text: &[u8],
     lines: u64,
     device: D,
@@ -131,10 +176,11 @@ fn copy_lines<D: Device>(
     requires new { D.seen device ≡ [] }
     requires durable { Only (D.seen device) (D.may_leave device) }
     ensures copied { IfOk result (λ journal. Tells D.seen D.may_leave journal (take lines (told_of (counted text.now)))) }
+    ensures begins { IfOk result (λ journal. begins_with D.seen journal ≡ lines_of beginning.now) }
     ensures new { IfErr result (λ e. (fault : JournalFault) × (e.0 ≡ New fault)) }
     ensures fault { IfErr result (λ e. (e.1 ≡ device) ⊎ ((fault : JournalFault) × (e.0 ≡ New fault))) }
 {
-    let mut journal = match new_journal(alloc, track, device) {
+    let mut journal = match new_journal(alloc, track, beginning, device) {
         Ok(journal) => journal,
         Err((fault, device)) => return Err((CopyFault::New(fault), device)),
     };
@@ -144,21 +190,23 @@ fn copy_lines<D: Device>(
     }
 }
 
-/// A new journal of a track, which tells no line.
+/// A new journal of a track, which begins with the lines of a text, and tells no line.
 ///
 /// # Errors
 /// `Memory`, `Full` or `Device`.
 fn new_journal<D: Device>(
     alloc: Global,
     track: &[u8; 64],
+    beginning: &[u8],
     device: D,
 ) -> Result<Journal<D>, (JournalFault, D)>
     requires track { IsLine track.now }
     requires new { D.seen device ≡ [] }
     requires durable { Only (D.seen device) (D.may_leave device) }
-    ensures { IfOk result (λ journal. Tells D.seen D.may_leave journal []) }
+    ensures tells { IfOk result (λ journal. Tells D.seen D.may_leave journal []) }
+    ensures begins { IfOk result (λ journal. begins_with D.seen journal ≡ lines_of beginning.now) }
 {
-    let Ok(file) = new_file(alloc, track) else {
+    let Ok(file) = begun_file(alloc, track, beginning) else {
         return Err((JournalFault::Memory, device));
     };
     let Ok(start) = read(file.as_slice(), track) else {
@@ -174,7 +222,8 @@ fn add_lines<D: Device>(
     lines: u64,
 ) -> Result<(), JournalFault>
     requires { Tells D.seen D.may_leave journal.old [] }
-    ensures { OnOk result (Tells D.seen D.may_leave journal.new (take lines (told_of (counted text.now)))) }
+    ensures tells { OnOk result (Tells D.seen D.may_leave journal.new (take lines (told_of (counted text.now)))) }
+    ensures begins { OnOk result (begins_with D.seen journal.new ≡ begins_with D.seen journal.old) }
 {
     let mut rest = text;
     let mut count = 0;
@@ -192,7 +241,8 @@ fn add_lines<D: Device>(
 /// Puts the lines that are staged.
 fn finish<D: Device>(journal: &mut Journal<D>) -> Result<(), JournalFault>
     requires { IsSettled D.seen D.may_leave journal.old }
-    ensures { OnOk result (Tells D.seen D.may_leave journal.new (all_lines D.seen journal.old)) }
+    ensures tells { OnOk result (Tells D.seen D.may_leave journal.new (all_lines D.seen journal.old)) }
+    ensures begins { OnOk result (begins_with D.seen journal.new ≡ begins_with D.seen journal.old) }
 {
     journal.commit()?;
     Ok(())
@@ -208,6 +258,7 @@ fn add_line<D: Device>(
     requires line { IsTold line.now }
     ensures settled { OnOk result (IsSettled D.seen D.may_leave journal.new) }
     ensures lines { OnOk result (all_lines D.seen journal.new ≡ all_lines D.seen journal.old ++ line.now ∷ []) }
+    ensures begins { OnOk result (begins_with D.seen journal.new ≡ begins_with D.seen journal.old) }
 {
     journal.reserve(line.len())?;
     journal.stage(line);

@@ -5,10 +5,10 @@ ghost use Rattle.rbc_model.specs.Sessions.{Prints};
 ghost use Rattle.rbc_model.specs.Words.{line_of};
 ghost use Rattle.rbc_journal.specs.Gates.{counted};
 ghost use Rattle.rbc_journal.specs.Journal.{told_of};
-ghost use Rattle.rbc_journal_report.specs.Telling.{telling, text_of, told_lines, kind_text, digest_word, given_text, state_text, head_text, total_text, counts_text, told_text, report_text};
+ghost use Rattle.rbc_journal_report.specs.Telling.{telling, text_of, told_lines, kind_text, digest_word, given_text, state_text, head_text, first_begun, begins_text, total_text, counts_text, told_text, report_text};
 
 use crate::counting::{count, count_of};
-use crate::telling::{State, Told, named, tell};
+use crate::telling::{State, Told, first_begun, named, tell};
 use rbc_journal::next_told;
 use rbc_streams::put;
 use rbc_words::{Sink, Word, WriteFailed, print_line};
@@ -110,6 +110,7 @@ fn print_told<W: Sink>(
         (told_text given (record { lines = counted told.now.text.now; state = told.now.state })) result }
 {
     print_head(given, named(told.text), writer)?;
+    print_begins(told.text, writer)?;
     print_counts(told.text, writer)?;
     print_state(told.state, writer)?;
     put(writer, b"done\n")
@@ -138,6 +139,18 @@ fn print_digest<W: Sink>(own: Option<[u8; 64]>, writer: &mut W) -> Result<(), Wr
     match own {
         Some(digest) => print_line(b"track", &[Word::Text(&digest)], writer),
         None => print_line(b"track", &[Word::Text(b"-")], writer),
+    }
+}
+
+/// Writes the first line of what a text begins with, if it begins with anything.
+fn print_begins<W: Sink>(text: &[u8], writer: &mut W) -> Result<(), WriteFailed>
+    requires { W.failed writer.old ≡ false }
+    ensures { Prints (W.written writer.old) (W.written writer.new) (W.failed writer.new)
+        (begins_text (first_begun (counted text.now))) result }
+{
+    match first_begun(text) {
+        Some(line) => print_line(b"begins", &[Word::Text(line)], writer),
+        None => Ok(()),
     }
 }
 

@@ -1,12 +1,12 @@
 //! Which lines of a file stand, and how it ends.
 
-ghost use Rattle.std.specs.Prelude.{◌≡◌, ◌≤◌, ◌-◌, ℕ, List, false, Ok, Err, length, take, IfOk, IfErr};
+ghost use Rattle.std.specs.Prelude.{◌≡◌, ◌≤◌, ◌-◌, ℕ, List, false, Some, None, Ok, Err, length, take, MatchOption, IfOk, IfErr};
 ghost use Rattle.std.specs.Io.KnownBytes.{Consumes, IsAtEnd};
 ghost use Rattle.std.specs.Option.{unwrap_or};
 ghost use Rattle.rbc_journal.specs.Gates.{IsLine, counted};
 ghost use Rattle.rbc_journal.specs.Headers.{track_mark, behind_mark, sized, digest_of_track};
 ghost use Rattle.rbc_journal.specs.Reading.{reading};
-ghost use Rattle.rbc_journal_report.specs.Telling.{IsText, named_in, own_digest, state_of, damage_of, telling_by, telling, telling_beside, checked};
+ghost use Rattle.rbc_journal_report.specs.Telling.{IsText, named_in, own_digest, state_of, damage_of, telling_by, telling, telling_beside, checked, first_begun};
 
 use rbc_journal::{ReadFault, next_line, read, track_digest};
 use rbc_model::limits::LONGEST_FILE;
@@ -150,6 +150,17 @@ fn digest_of_line(line: &[u8]) -> Option<[u8; 64]>
     let mut digest = [0; 64];
     digest.copy_from_slice(named);
     Some(digest)
+}
+
+/// The first line of what a text begins with behind its header, if it begins with anything.
+pub(crate) fn first_begun(text: &[u8]) -> Option<&[u8]>
+    ensures { MatchOption result (first_begun (counted text.now) ≡ None) (λ line. first_begun (counted text.now) ≡ Some line.now) }
+{
+    let (_, behind) = next_line(text)?;
+    let (_, behind) = next_line(behind)?;
+    let (_, behind) = next_line(behind)?;
+    let (line, _) = next_line(behind)?;
+    line.strip_prefix(b"##")
 }
 
 /// So many of the first lines of a file, each with its gate and its line feed; all, where there are no more.
