@@ -17,6 +17,10 @@ abbrev pub Begins : Track → List ℕ → Scene → Type 0
 Begins track [] scene = scene ≡ empty_scene track
 Begins track (byte ∷ bytes) scene = (version : ℕ) × (read_scene track (lines_of (byte ∷ bytes)) ≡ Ok (version, scene))
 
+-- a history begins with the scene that the file of its journal begins with
+abbrev pub BeginsAsFile : HistoryOnTrack → List ℕ → Type 0
+BeginsAsFile history file = Begins history.track (joined (beginning_of (counted file))) history.begin
+
 -- These bytes are the lines of the scene that the text of a journal leads to: its history begins as the journal does, and each line that the text tells adds an
 -- entry to it.
 pub record Closes (track : Track) (text bytes : List ℕ) : Type 0 where

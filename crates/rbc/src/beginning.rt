@@ -101,6 +101,7 @@ pub(crate) fn begin_in(
 ) -> Result<Begun, Failure>
     ensures none { IfOk result (λ begun. begun.record.entries ≡ []) }
     ensures retold { IfOk result (λ begun. IsRetold (begin_of begun.record) begun.record.entries) }
+    ensures track { IfOk result (λ begun. begun.record.track ≡ arc_value track) }
     ensures begins { IfOk result (λ begun. Begins (arc_value track) (joined (beginning_of (counted text.now))) begun.record.begin) }
 {
     let lines = beginning_in(alloc, text)?;

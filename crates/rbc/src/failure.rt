@@ -170,10 +170,18 @@ pub(crate) fn file_failed<C: Calls>(file: &Recorded<C>) -> Failure {
 }
 
 /// An outcome with the place of the journal's files, if it is a fault of them.
-pub(crate) fn at_place<T: Drop>(outcome: Result<T, Failure>, place: Place) -> Result<T, Failure> {
+pub(crate) fn at_place(outcome: Result<(), Failure>, place: Place) -> Result<(), Failure> {
     match outcome {
-        Err(Failure::Journal(fault, _)) => Err(Failure::Journal(fault, Some(place))),
-        outcome => outcome,
+        Ok(()) => Ok(()),
+        Err(failure) => Err(failed_at(failure, place)),
+    }
+}
+
+/// A failure with the place of the journal's files, if it is a fault of them.
+pub(crate) fn failed_at(failure: Failure, place: Place) -> Failure {
+    match &failure {
+        Failure::Journal(fault, _) => Failure::Journal(*fault, Some(place)),
+        _ => failure,
     }
 }
 

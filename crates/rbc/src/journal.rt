@@ -1,11 +1,14 @@
 //! Centres whose history is kept in a journal.
 
 ghost use Rattle.std.specs.Prelude.{◌≡◌, [], IfOk};
-ghost use Rattle.rbc_journal_file.specs.Gates.{IsLine};
+ghost use Rattle.rbc_journal_file.specs.Beginnings.{beginning_of};
+ghost use Rattle.rbc_journal_file.specs.Gates.{IsLine, counted};
 ghost use Rattle.rbc_journal_file.specs.Past.{may_leave, seen};
 ghost use Rattle.rbc_journal_file.specs.Recorded.{past_of};
 ghost use Rattle.rbc_journal_file.specs.Seals.{IsWholeText};
 ghost use Rattle.rbc_show.specs.Kept.{IsReady};
+ghost use Rattle.rbc_show.specs.Records.{begin_of};
+ghost use Rattle.rbc.specs.Beginnings.{BeginsAsFile};
 
 use crate::beginning::{Begun, begin_in, lines_at};
 use crate::failure::{Failure, at_place, file_failed};
@@ -86,7 +89,7 @@ fn run_at<I: BufRead + Drop + IsTerminal>(
         from: centre.from,
         most: limit_of(centre.entries),
     };
-    let (mut kept, scene) = uncounted(rt, place, track, wanted)?;
+    let (mut kept, scene) = untallied(rt, place, track, &wanted)?;
     let terminal = match kept.history() {
         Some(history) => terminal_over(rt, history)?,
         None => None,
@@ -170,7 +173,7 @@ fn serve_at(
         most: limit_of(service.entries),
     };
     let watch = watch_on(rt, service.terms, wanted.most)?;
-    let kept = counted(rt, place, track, wanted, watch.tally())?;
+    let kept = tallied(rt, place, track, &wanted, watch.tally())?;
     let mut output = standard_output(rt)?;
     let outcome = match open_port(rt, service, &watch, &mut output) {
         Ok(Opened { port, minutes }) => {
@@ -241,7 +244,7 @@ fn stay_at<I: BufRead + Drop + Send + 'static>(
     };
     let watch = watch_on(rt, staying.terms, wanted.most)?;
     let page = page_at(rt, staying.page, &track.track, &watch)?;
-    let kept = counted(rt, place, track, wanted, watch.tally())?;
+    let kept = tallied(rt, place, track, &wanted, watch.tally())?;
     let mut output = standard_output(rt)?;
     let outcome = match open_entrance(rt, staying, &watch, &mut output) {
         Ok(
@@ -281,11 +284,12 @@ fn opened<'r, 't, R: Files<File = File> + AllocGlobal + Threads + Clock + Eprint
     rt: &'r R,
     place: &Place,
     track: TrackFile,
-    wanted: Wanted<'_>,
+    wanted: &Wanted<'_>,
     tally: Option<&'t Tally>,
 ) -> Result<(Kept<Recorded<Timed<'r, 't, R>>>, Option<u64>), Failure>
     requires { IsLine track.digest }
-    ensures { IfOk result (λ opened. IsReady (λ file. seen (past_of file)) (λ file. may_leave (past_of file)) opened.0) }
+    ensures ready { IfOk result (λ opened. IsReady (λ file. seen (past_of file)) (λ file. may_leave (past_of file)) opened.0) }
+    ensures begins { IfOk result (λ opened. BeginsAsFile opened.0.history (seen (past_of opened.0.journal.device))) }
 {
     let alloc = rt.alloc();
     let TrackFile { track, digest } = track;
@@ -348,7 +352,8 @@ fn resumed<'r, 't, R: Files<File = File> + AllocGlobal + Threads + Clock + Sync>
     tally: Option<&'t Tally>,
 ) -> Result<(Kept<Recorded<Timed<'r, 't, R>>>, Option<u64>), Failure>
     requires whole { IsWholeText read.now.text.now read.now.seal }
-    ensures { IfOk result (λ opened. IsReady (λ file. seen (past_of file)) (λ file. may_leave (past_of file)) opened.0) }
+    ensures ready { IfOk result (λ opened. IsReady (λ file. seen (past_of file)) (λ file. may_leave (past_of file)) opened.0) }
+    ensures begins { IfOk result (λ opened. BeginsAsFile opened.0.history (seen (past_of opened.0.journal.device))) }
 {
     let Begun { record, scene } = begin_in(rt.alloc(), track, read.text, most)?;
     let kept = recovered(rt, record, read, found, tally)?;
@@ -361,14 +366,15 @@ fn resumed<'r, 't, R: Files<File = File> + AllocGlobal + Threads + Clock + Sync>
 /// # Errors
 ///
 /// Those of [`opened`].
-fn uncounted<'r, R: Files<File = File> + AllocGlobal + Threads + Clock + Eprint + Sync>(
+fn untallied<'r, R: Files<File = File> + AllocGlobal + Threads + Clock + Eprint + Sync>(
     rt: &'r R,
     place: &Place,
     track: TrackFile,
-    wanted: Wanted<'_>,
+    wanted: &Wanted<'_>,
 ) -> Result<(Kept<Recorded<Timed<'r, 'r, R>>>, Option<u64>), Failure>
     requires { IsLine track.digest }
-    ensures { IfOk result (λ opened. IsReady (λ file. seen (past_of file)) (λ file. may_leave (past_of file)) opened.0) }
+    ensures ready { IfOk result (λ opened. IsReady (λ file. seen (past_of file)) (λ file. may_leave (past_of file)) opened.0) }
+    ensures begins { IfOk result (λ opened. BeginsAsFile opened.0.history (seen (past_of opened.0.journal.device))) }
 {
     opened(rt, place, track, wanted, None)
 }
@@ -378,15 +384,16 @@ fn uncounted<'r, R: Files<File = File> + AllocGlobal + Threads + Clock + Eprint 
 /// # Errors
 ///
 /// Those of [`opened`].
-fn counted<'r, 't, R: Files<File = File> + AllocGlobal + Threads + Clock + Eprint + Sync>(
+fn tallied<'r, 't, R: Files<File = File> + AllocGlobal + Threads + Clock + Eprint + Sync>(
     rt: &'r R,
     place: &Place,
     track: TrackFile,
-    wanted: Wanted<'_>,
+    wanted: &Wanted<'_>,
     tally: &'t Tally,
 ) -> Result<Kept<Recorded<Timed<'r, 't, R>>>, Failure>
     requires { IsLine track.digest }
-    ensures { IfOk result (λ kept. IsReady (λ file. seen (past_of file)) (λ file. may_leave (past_of file)) kept) }
+    ensures ready { IfOk result (λ kept. IsReady (λ file. seen (past_of file)) (λ file. may_leave (past_of file)) kept) }
+    ensures begins { IfOk result (λ kept. BeginsAsFile kept.history (seen (past_of kept.journal.device))) }
 {
     let (kept, _scene) = opened(rt, place, track, wanted, Some(tally))?;
     Ok(kept)
@@ -421,7 +428,9 @@ fn recovered<'r, 't, R: Files<File = File> + AllocGlobal + Threads + Clock + Syn
 ) -> Result<Kept<Recorded<Timed<'r, 't, R>>>, Failure>
     requires empty { empty.entries ≡ [] }
     requires whole { IsWholeText read.now.text.now read.now.seal }
-    ensures { IfOk result (λ kept. IsReady (λ file. seen (past_of file)) (λ file. may_leave (past_of file)) kept) }
+    ensures ready { IfOk result (λ kept. IsReady (λ file. seen (past_of file)) (λ file. may_leave (past_of file)) kept) }
+    ensures begin { IfOk result (λ kept. begin_of kept.history ≡ begin_of empty) }
+    ensures beginning { IfOk result (λ kept. beginning_of (counted (seen (past_of kept.journal.device))) ≡ beginning_of (counted read.now.text.now)) }
 {
     let mut history = empty;
     replay(rt, rt.alloc(), &mut history, read.text)?;

@@ -6,7 +6,7 @@ ghost use Rattle.rbc_journal_file.specs.Gates.{IsLine};
 ghost use Rattle.rbc.specs.Beginnings.{Closes};
 
 use crate::beginning::{begin_in, lines_of};
-use crate::failure::{Failure, at_place, file_failed};
+use crate::failure::{Failure, at_place, failed_at, file_failed};
 use crate::journal::readable;
 use crate::journal_fault::JournalFault;
 use crate::journal_report::{created, remove};
@@ -35,8 +35,10 @@ pub(crate) fn close_journal(
 ) -> Result<(), Failure> {
     let track = read_track(rt, closing.track)?;
     let place = Place::at(rt, closing.journal)?;
-    let closed = last_lines(rt, &place, track);
-    let lines = at_place(closed, place)?;
+    let lines = match last_lines(rt, &place, track) {
+        Ok(lines) => lines,
+        Err(failure) => return Err(failed_at(failure, place)),
+    };
     let place = Place::at(rt, closing.out)?;
     let written = write_new(rt, lines.as_slice(), &place);
     at_place(written, place)

@@ -9,7 +9,7 @@ use crate::watching::MinuteLog;
 use rbc_command_line::Service;
 use rbc_port::Watch;
 use rbc_show::kept::server::{
-    self, Blank, Client, Clients, Desk, DeskName, NoJournal, Port, Record, Staff, no_pens,
+    self, Blank, Client, Clients, Desk, DeskName, NoJournal, Port, Record, Staff, no_committers,
 };
 use rbc_show::{Sink, Source, Word, WriteFailed, print_line};
 use std::alloc::Global;
@@ -211,11 +211,11 @@ fn open<
         blank,
     } = opening;
     let (desk, seats) = Desk::<L>::new(rt, alloc, history, seats, blank)?;
-    let Ok(pens) = no_pens(alloc, connections) else {
+    let Ok(committers) = no_committers(alloc, connections) else {
         desk.end(rt);
         return Err(Failure::Memory);
     };
-    let Ok(staff) = Staff::new(alloc, seats, pens) else {
+    let Ok(staff) = Staff::new(alloc, seats, committers) else {
         desk.end(rt);
         return Err(Failure::Memory);
     };

@@ -9,7 +9,7 @@ use crate::failure::{Failure, file_failed};
 use crate::serve::Opening;
 use rbc_command_line::Service;
 use rbc_journal_file::{Calls, Recorded};
-use rbc_show::kept::scribe::{self, ScribeName};
+use rbc_show::kept::group_commit::{self, CommitName};
 use rbc_show::kept::server::{Client, Clients, DeskName, Port, ServeFault, Served, Staff, serve};
 use rbc_show::kept::{self, DeskJournal, Kept, Opened, SeatTold, close};
 use rbc_show::{Sink, Source};
@@ -46,14 +46,14 @@ pub(crate) fn serve_kept<
     requires ready { IsReady (λ file. seen (past_of file)) (λ file. may_leave (past_of file)) kept }
 {
     let opening = Opening::new(kept, service);
-    let stamps = scribe::Blank::new();
+    let stamps = group_commit::Blank::new();
     open::<Brand, Brand, _, _, _, _, Port<N>, D, W, T>(rt, alloc, port, opening, stamps, writer)
 }
 
-/// Serves connections at a desk over the record, each from a seat with its pen. At the end the journal is closed.
+/// Serves connections at a desk over the record, each from a seat with its committer. At the end the journal is closed.
 fn open<
     L: DeskName + Send + Sync,
-    N: ScribeName + Send + Sync,
+    N: CommitName + Send + Sync,
     I: Source + Send + Drop,
     O: Sink + Send + Drop,
     G: Send + Drop,
@@ -67,7 +67,7 @@ fn open<
     alloc: Global,
     port: P,
     opening: Opening<Kept<Recorded<D>>>,
-    stamps: scribe::Blank,
+    stamps: group_commit::Blank,
     writer: &mut W,
 ) -> Result<(), Failure>
     requires going { W.failed writer.old ≡ false }
@@ -92,25 +92,36 @@ fn open<
     let Opened {
         desk,
         seats,
-        scribe,
-        mut pens,
+        group_commit,
+        mut committers,
     } = match opened {
         Ok(opened) => opened,
         Err((fault, _)) => return Err(fault.into()),
     };
-    pens.truncate(connections);
-    let Ok(staff) = Staff::new(alloc, seats, pens) else {
+    committers.truncate(connections);
+    let Ok(staff) = Staff::new(alloc, seats, committers) else {
         desk.end(rt);
         return Err(Failure::Memory);
     };
-    let journal = DeskJournal::over(&scribe);
+    let journal = DeskJournal::over(&group_commit);
     match serve(rt, alloc, port, &journal, desk, staff, writer) {
-        Ok(Served { told, pens, .. }) => {
-            let _page = close(rt, scribe, &SeatTold::<L>::seen(told), pens.as_slice());
+        Ok(
+            Served {
+                told,
+                committers,
+                ..
+            },
+        ) => {
+            let _page = close(
+                rt,
+                group_commit,
+                &SeatTold::<L>::seen(told),
+                committers.as_slice(),
+            );
             Ok(())
         }
         Err(unserved) if matches!(unserved.fault, ServeFault::Journal) => {
-            let (file, _) = scribe.close().into_parts();
+            let (file, _) = group_commit.close().into_parts();
             Err(file_failed(&file))
         }
         Err(unserved) => Err(unserved.into()),

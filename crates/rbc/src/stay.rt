@@ -12,7 +12,7 @@ use rbc_duty::{Company, Post, stay};
 use rbc_model::OrMemory;
 use rbc_port::{Closing, Place, PortEnd, Watch, open_places};
 use rbc_show::kept::server::{
-    Client, Clients, Desk, DeskName, NoJournal, Port, Record, ServeFault, no_pens,
+    Client, Clients, Desk, DeskName, NoJournal, Port, Record, ServeFault, no_committers,
 };
 use rbc_show::{Sink, Source};
 use std::alloc::Global;
@@ -155,11 +155,11 @@ fn open<
             return Err(failure);
         }
     };
-    let Ok(pens) = no_pens(alloc, seats.len()) else {
+    let Ok(committers) = no_committers(alloc, seats.len()) else {
         desk.end(rt);
         return Err(Failure::Memory);
     };
-    let Ok(posts) = Post::all(alloc, seats, pens, ports) else {
+    let Ok(posts) = Post::all(alloc, seats, committers, ports) else {
         desk.end(rt);
         return Err(Failure::Memory);
     };

@@ -12,7 +12,7 @@ use rbc_duty::{Company, Onlooker, Post, Stayed, stay};
 use rbc_journal_file::{Calls, Recorded};
 use rbc_page::Reception;
 use rbc_port::Closing;
-use rbc_show::kept::scribe::{self, Pen, Scribe, ScribeName};
+use rbc_show::kept::group_commit::{self, CommitName, Committer, GroupCommit};
 use rbc_show::kept::server::{Client, Clients, Desk, DeskName, Port, ServeFault};
 use rbc_show::kept::{self, DeskJournal, Kept, Opened, SeatTold, close};
 use rbc_show::{Sink, Source};
@@ -56,7 +56,7 @@ pub(crate) fn stay_kept<
     let opening = Opening::for_places(kept, ports.len(), lookers(&page));
     let journaled = Journaled {
         opening,
-        stamps: scribe::Blank::new(),
+        stamps: group_commit::Blank::new(),
     };
     open::<Brand, Brand, _, _, _, _, Port<N>, U, M, D, E, W, T>(
         rt, alloc, closing, ports, page, journaled, writer,
@@ -66,11 +66,11 @@ pub(crate) fn stay_kept<
 /// What a desk with a journal is opened with.
 struct Journaled<D: Calls> {
     opening: Opening<Kept<Recorded<D>>>,
-    /// The blank of the stamps that its pens are given.
-    stamps: scribe::Blank,
+    /// The blank of the stamps that its committers are given.
+    stamps: group_commit::Blank,
 }
 
-/// A desk over the record, with its scribe and with seats that have pens, and who looks on from a seat of its own, if there is a
+/// A desk over the record, with its group commit and with seats that have committers, and who looks on from a seat of its own, if there is a
 /// page.
 ///
 /// # Errors
@@ -79,7 +79,7 @@ struct Journaled<D: Calls> {
 /// clients.
 fn open_desk<
     L: DeskName,
-    N: ScribeName,
+    N: CommitName,
     U: Read + Write + OpenStream + Drop,
     M: OpenListener<Stream = U> + Drop,
     D: Calls + Drop,
@@ -106,7 +106,7 @@ fn open_desk<
     requires looker { length (option_to_list page) ≤ journaled.opening.seats }
     requires few { (1 ≤ journaled.opening.seats) × (journaled.opening.seats ≤ 65) }
     ensures seats { IfOk result (λ made. vec_len made.0.seats + length (option_to_list page) ≡ journaled.opening.seats) }
-    ensures pens { IfOk result (λ made. vec_len made.0.pens ≡ vec_len made.0.seats) }
+    ensures committers { IfOk result (λ made. vec_len made.0.committers ≡ vec_len made.0.seats) }
 {
     let Journaled { opening, stamps } = journaled;
     let Opening {
@@ -119,8 +119,8 @@ fn open_desk<
     let Opened {
         desk,
         mut seats,
-        scribe,
-        mut pens,
+        group_commit,
+        mut committers,
     } = match opened {
         Ok(opened) => opened,
         Err((fault, _)) => return Err(fault.into()),
@@ -128,12 +128,12 @@ fn open_desk<
     match onlooker_of(rt, alloc, &mut seats, page) {
         Ok(onlooker) => {
             // Who looks on keeps nothing.
-            pens.truncate(seats.len());
+            committers.truncate(seats.len());
             let opened = Opened {
                 desk,
                 seats,
-                scribe,
-                pens,
+                group_commit,
+                committers,
             };
             Ok((opened, onlooker))
         }
@@ -153,7 +153,7 @@ fn open_desk<
 /// answers.
 fn serve_company<
     L: DeskName + Send + Sync,
-    N: ScribeName + Send + Sync,
+    N: CommitName + Send + Sync,
     I: Source + Send + Drop,
     O: Sink + Send + Drop,
     G: Send + Drop,
@@ -169,31 +169,42 @@ fn serve_company<
     alloc: Global,
     closing: &E,
     desk: Desk<L>,
-    scribe: Scribe<SeatTold<L>, Recorded<D>, N>,
-    company: Company<L, Pen<N>, P, B>,
+    group_commit: GroupCommit<SeatTold<L>, Recorded<D>, N>,
+    company: Company<L, Committer<N>, P, B>,
     writer: &mut W,
 ) -> Result<(), Failure>
     requires going { W.failed writer.old ≡ false }
     requires some { 1 ≤ vec_len company.posts }
 {
-    let journal = DeskJournal::over(&scribe);
+    let journal = DeskJournal::over(&group_commit);
     match stay(rt, alloc, &journal, closing, desk, company, writer) {
-        Ok(Stayed { told, pens, .. }) => {
-            let _page = close(rt, scribe, &SeatTold::<L>::seen(told), pens.as_slice());
+        Ok(
+            Stayed {
+                told,
+                committers,
+                ..
+            },
+        ) => {
+            let _page = close(
+                rt,
+                group_commit,
+                &SeatTold::<L>::seen(told),
+                committers.as_slice(),
+            );
             Ok(())
         }
         Err(unstayed) if matches!(unstayed.fault, ServeFault::Journal) => {
-            let (file, _) = scribe.close().into_parts();
+            let (file, _) = group_commit.close().into_parts();
             Err(file_failed(&file))
         }
         Err(unstayed) => Err(unstayed.into()),
     }
 }
 
-/// Serves clients that come and go at a desk over the record, from seats with pens. At the end the journal is closed.
+/// Serves clients that come and go at a desk over the record, from seats with committers. At the end the journal is closed.
 fn open<
     L: DeskName + Send + Sync,
-    N: ScribeName + Send + Sync,
+    N: CommitName + Send + Sync,
     I: Source + Send + Drop,
     O: Sink + Send + Drop,
     G: Send + Drop,
@@ -229,13 +240,13 @@ fn open<
     let Opened {
         desk,
         seats,
-        scribe,
-        pens,
+        group_commit,
+        committers,
     } = opened;
-    let Ok(posts) = Post::all(alloc, seats, pens, ports) else {
+    let Ok(posts) = Post::all(alloc, seats, committers, ports) else {
         desk.end(rt);
         return Err(Failure::Memory);
     };
     let company = Company { posts, onlooker };
-    serve_company(rt, alloc, closing, desk, scribe, company, writer)
+    serve_company(rt, alloc, closing, desk, group_commit, company, writer)
 }

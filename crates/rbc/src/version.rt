@@ -4,5 +4,5 @@
 /// of the logic that proves them.
 pub(crate) const VERSION: &str = "\
 0.7.0
-sources 0a6141f928949229d32198793491432f797649a4b9aab939f5ac981931944920
+sources f4acae039ff47aad11de22f6fc4c95a8fc6eff57acc276eef390703a372c5f31
 logic dac8208d650f15bf";

@@ -53,7 +53,7 @@ pub(crate) fn run<'a>(alloc: Global) -> Result<Command<'a>, AllocError> {
         .after_help(RUN)
         .arg(track_file(alloc))?
         .arg(history_file(alloc))?
-        .arg(scene_file(alloc)?)?
+        .arg(scene_file(alloc))?
         .arg(journal_file(alloc))?
         .arg(entries(alloc))
 }
@@ -110,7 +110,8 @@ pub(crate) fn journal<'a>(alloc: Global) -> Result<Command<'a>, AllocError> {
         .arg(journal_lines(alloc)?)?
         .arg(followed(alloc)?)?
         .arg(first_lines(alloc)?)?
-        .arg(renewed(alloc)?)
+        .arg(renewed(alloc)?)?
+        .arg(closed(alloc)?)
 }
 
 /// Whether the lines of a journal are written.
@@ -157,6 +158,22 @@ fn renewed<'a>(alloc: Global) -> Result<Arg<'a>, AllocError> {
         .requires_arg("TRACK")
 }
 
+/// Where the lines of the scene that a journal leads to are written.
+fn closed<'a>(alloc: Global) -> Result<Arg<'a>, AllocError> {
+    Arg::new(alloc, "close")
+        .long("close")
+        .value_name("OUT")
+        .help(
+            "Writes the lines of the scene that it leads to into a new file, OUT, for the next journal to begin with",
+        )
+        .action(ArgAction::Set)
+        .requires_arg("TRACK")?
+        .conflicts_with("lines")?
+        .conflicts_with("follow")?
+        .conflicts_with("first")?
+        .conflicts_with("renew")
+}
+
 /// The track file of a centre.
 pub(crate) fn track_file<'a>(alloc: Global) -> Arg<'a> {
     Arg::new(alloc, "TRACK")
@@ -174,14 +191,15 @@ fn history_file<'a>(alloc: Global) -> Arg<'a> {
         .action(ArgAction::Set)
 }
 
-/// The file that tells the scene that a centre begins with. A journal tells what is entered from the empty scene on.
-pub(crate) fn scene_file<'a>(alloc: Global) -> Result<Arg<'a>, AllocError> {
+/// The file that tells the scene that a centre begins with. A new journal keeps that scene in front of its lines.
+pub(crate) fn scene_file<'a>(alloc: Global) -> Arg<'a> {
     Arg::new(alloc, "from")
         .long("from")
         .value_name("FILE")
-        .help("Begins with the scene that this file tells in the lines of a scene")
+        .help(
+            "Begins with the scene that this file tells in the lines of a scene, and so does a journal that is new",
+        )
         .action(ArgAction::Set)
-        .conflicts_with("journal")
 }
 
 /// The journal of a centre.

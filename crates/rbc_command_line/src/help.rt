@@ -71,13 +71,14 @@ Exit status:
 
 /// What stands behind the help of `journal`.
 pub(crate) const JOURNAL: &str = "\
-Example:
+Examples:
   rbc journal day.journal station.toml
+  rbc journal day.journal station.toml --close evening.lines
 
 Exit status:
   0  The file is a journal, whole or cut by a crash, and of the track, if one is named; or OUT has the lines
   3  It is no journal, is damaged, or is of another track or format; or it tells fewer than N lines; or another journal
-     took its place
+     took its place; or, where it is closed, the track is refused, or it begins with no scene of the track
   4  A file can't be read, or OUT is there already, or fails; or a write fault
   5  No memory";
 
@@ -97,11 +98,12 @@ Requests, one a line:
 
 Examples:
   rbc run station.toml --journal day.journal < morning.txt
-  rbc run station.toml --from evening.lines < night.txt
+  rbc run station.toml --journal night.journal --from evening.lines < night.txt
 
 Exit status:
   0  Each line was answered
-  3  The track file can't be read, or is refused; or the journal is not one of this track, or FILE tells no scene of it
+  3  The track file can't be read, or is refused; or the journal is not one of this track, or FILE tells no scene of it;
+     or FILE and the journal begin with different scenes, or the journal tells entries already
   4  A read or write fault, a line over 4,096 bytes, or more than 1,000,000 lines; or the journal, or the file of the
      history, can't be had or fails
   5  No memory";
@@ -127,7 +129,8 @@ Examples:
 
 Exit status:
   0  All connections have ended, and each train was served once more, if there is a sweep; with --stay the end was asked for
-  3  The track file can't be read, or is refused; or the journal is not one of this track, or FILE tells no scene of it
+  3  The track file can't be read, or is refused; or the journal is not one of this track, or FILE tells no scene of it;
+     or FILE and the journal begin with different scenes, or the journal tells entries already
   4  The port can't be opened, or accepts no connection; a write fault; or the journal can't be had or fails
   5  No memory, or no thread for a connection
   6  The receipts of the connections and the sweep are not the history";

@@ -41,6 +41,8 @@ pub enum Task<'a> {
     Stay(Staying<'a>),
     /// Tell of a journal, or take lines over from one.
     Journal(Journaled<'a>),
+    /// Write the scene that a journal leads to.
+    Close(Closing<'a>),
 }
 
 /// How messages are printed.
@@ -59,7 +61,7 @@ pub struct CentreOptions<'a> {
     pub track: &'a str,
     /// The file that its history is written to, if there is one.
     pub history: Option<&'a str>,
-    /// The file that tells the scene that it begins with, if there is one. It has no journal then.
+    /// The file that tells the scene that it begins with, if one is named. A journal that is new begins with it too.
     pub from: Option<&'a str>,
     /// The file of its journal, if it has one.
     pub journal: Option<&'a str>,
@@ -113,6 +115,17 @@ pub enum JournalWork<'a> {
     Renew(&'a str),
 }
 
+/// What is asked where a journal is closed.
+#[derive(Clone, Copy, Debug, PartialEq, Eq)]
+pub struct Closing<'a> {
+    /// The file of the journal.
+    pub journal: &'a str,
+    /// The track file.
+    pub track: &'a str,
+    /// The file that the lines of the scene are written into, which is new.
+    pub out: &'a str,
+}
+
 /// How a centre serves.
 #[derive(Clone, Copy, Debug, PartialEq, Eq)]
 pub struct Service<'a> {
@@ -124,7 +137,7 @@ pub struct Service<'a> {
     pub connections: usize,
     /// How many workers the sweep has, up to 8. Where there are none, there is no sweep.
     pub workers: usize,
-    /// The file that tells the scene that it begins with, if there is one. It has no journal then.
+    /// The file that tells the scene that it begins with, if one is named. A journal that is new begins with it too.
     pub from: Option<&'a str>,
     /// The file of its journal, if it has one.
     pub journal: Option<&'a str>,
@@ -145,7 +158,7 @@ pub struct Staying<'a> {
     pub port: u16,
     /// How many clients are served at once, 1 to 64.
     pub places: usize,
-    /// The file that tells the scene that it begins with, if there is one. It has no journal then.
+    /// The file that tells the scene that it begins with, if one is named. A journal that is new begins with it too.
     pub from: Option<&'a str>,
     /// The file of its journal, if it has one.
     pub journal: Option<&'a str>,

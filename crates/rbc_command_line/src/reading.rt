@@ -4,8 +4,8 @@ ghost use Rattle.std.specs.Prelude.{◌≤◌};
 
 use crate::serving::NO_SWEEP;
 use crate::{
-    CentreOptions, JournalWork, Journaled, Listed, PagePlace, Printing, Service, Shown, Staying,
-    Task, Terms,
+    CentreOptions, Closing, JournalWork, Journaled, Listed, PagePlace, Printing, Service, Shown,
+    Staying, Task, Terms,
 };
 use clap::ArgMatches;
 use std::net::Ipv4Addr;
@@ -40,7 +40,7 @@ impl Misread {
 /// The first word that is not what its option wants.
 pub(crate) fn task_in<'a>(matches: &ArgMatches<'a>) -> Result<Task<'a>, Misread> {
     if let Some(journal) = matches.subcommand_matches("journal") {
-        return Ok(Task::Journal(journaled_in(journal)?));
+        return journal_task_in(journal);
     }
     if let Some(serve) = matches.subcommand_matches("serve") {
         return if serve.get_flag("stay") {
@@ -85,6 +85,27 @@ fn input_task_in<'a>(matches: &ArgMatches<'a>) -> Task<'a> {
     match matches.subcommand_matches("check") {
         Some(_) => Task::Check,
         None => Task::Steps,
+    }
+}
+
+/// What is asked of a journal: that it is closed, or something of its file.
+///
+/// # Errors
+///
+/// `FirstLines`.
+fn journal_task_in<'a>(matches: &ArgMatches<'a>) -> Result<Task<'a>, Misread> {
+    match matches.get_str("close") {
+        Some(out) => Ok(Task::Close(closing_in(matches, out))),
+        None => Ok(Task::Journal(journaled_in(matches)?)),
+    }
+}
+
+/// What is asked where a journal is closed, and its last scene is written here.
+fn closing_in<'a>(matches: &ArgMatches<'a>, out: &'a str) -> Closing<'a> {
+    Closing {
+        journal: matches.get_str("FILE").unwrap_or(""),
+        track: matches.get_str("TRACK").unwrap_or(""),
+        out,
     }
 }
 

@@ -70,7 +70,7 @@ pub(crate) fn serve<'a>(alloc: Global, ending: Ending) -> Result<Command<'a>, Al
         .arg(sweep(alloc, ending)?)?
         .arg(patience(alloc))?
         .arg(log(alloc))?
-        .arg(scene_file(alloc)?)?
+        .arg(scene_file(alloc))?
         .arg(journal_file(alloc))?
         .arg(entries(alloc))?
         .arg(page(alloc)?)?

@@ -2,7 +2,7 @@ pub mod DigitLemmas
 pub mod PositionLemmas
 pub mod SpellingLemmas
 pub mod RestLemmas
-pub mod SheetLemmas
+pub mod OutBufferLemmas
 pub mod ListLemmas
 pub mod PartsLemmas
 pub mod JsonLemmas

@@ -40,11 +40,11 @@ parts_text-next told text later items index item inside =
     ∙ ap (λ i. text later first ++ parts_text told text (later || told first) (drop i items)) (sym (add-one index))
 
 -- what is gathered and what is left, where a part of it is handed on and the next one is gathered
-pub gathered_next : (told : Item → Bool) (text : Bool → Item → List ℕ) (later next : Bool) (items : List Item) (index : ℕ) (item : Item) (sheet part rest room new : List ℕ)
-    → index < length items → sheet ≡ part ++ rest → room ≡ rest
+pub gathered_next : (told : Item → Bool) (text : Bool → Item → List ℕ) (later next : Bool) (items : List Item) (index : ℕ) (item : Item) (buffer part rest room new : List ℕ)
+    → index < length items → buffer ≡ part ++ rest → room ≡ rest
     → new ≡ room ++ text later (get_or items index item) → next ≡ (later || told (get_or items index item))
-    → sheet ++ parts_text told text later (drop index items) ≡ part ++ (new ++ parts_text told text next (drop (index + 1) items))
-gathered_next told text later next items index item sheet part rest room new inside whole kept gathered is =
+    → buffer ++ parts_text told text later (drop index items) ≡ part ++ (new ++ parts_text told text next (drop (index + 1) items))
+gathered_next told text later next items index item buffer part rest room new inside whole kept gathered is =
     let first : List ℕ = text later (get_or items index item) in
     let left : Bool → List ℕ = λ b. parts_text told text b (drop (index + 1) items) in
     let behind : List ℕ = left (later || told (get_or items index item)) in

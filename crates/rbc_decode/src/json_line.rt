@@ -4,7 +4,7 @@ ghost use Rattle.std.specs.Prelude.{◌≡◌, ◌+◌, ◌^◌, ◌<◌, ◌≤
 ghost use Rattle.std.specs.Fmt.{signed_decimal};
 ghost use Rattle.rbc_model.specs.Sessions.{Prints};
 ghost use Rattle.rbc_decode.specs.declared.parts.TheConstants.{LONGEST_PART};
-ghost use Rattle.rbc_decode.specs.declared.sheet.TheConstants.{ROOM};
+ghost use Rattle.rbc_decode.specs.declared.out_buffer.TheConstants.{ROOM};
 ghost use Rattle.rbc_decode.specs.declared.spelling.Wrong.TheVariants.{Digits, Overlong};
 ghost use Rattle.rbc_decode.specs.JsonParts.{piece_text, pieces_text, field_front, field_rest, field_end, member_part, other_part, start_text};
 ghost use Rattle.rbc_decode.specs.JsonParts.{outcome_part, words_part, array_part};
@@ -21,10 +21,10 @@ use crate::fields::{Found, Item};
 use crate::granted_member::granted_member;
 use crate::meaning::gather_meaning;
 use crate::names::name_members;
+use crate::out_buffer::OutBuffer;
 use crate::parts::{TextPart, print_parts};
 use crate::row::{Row, packet_number};
 use crate::said::{Said, said_in};
-use crate::sheet::Sheet;
 use crate::spelling::Wrong;
 use crate::text::{fault_text, measure_text, place_text};
 use rbc_model::FieldName;
@@ -111,13 +111,13 @@ fn print_piece<W: Sink>(piece: &Piece, writer: &mut W) -> Result<(), WriteFailed
 
 /// Puts what stands between an element and the one before it, if there is one, behind a text.
 #[inline(always)]
-fn gather_comma(later: bool, sheet: &mut Sheet)
-    requires { length sheet.old + LONGEST_PART ≤ ROOM }
-    ensures text { sheet.new ≡ sheet.old ++ comma_if later }
-    ensures length { length sheet.new ≤ length sheet.old + 1 }
+fn gather_comma(later: bool, buffer: &mut OutBuffer)
+    requires { length buffer.old + LONGEST_PART ≤ ROOM }
+    ensures text { buffer.new ≡ buffer.old ++ comma_if later }
+    ensures length { length buffer.new ≤ length buffer.old + 1 }
 {
     if later {
-        sheet.byte(b',');
+        buffer.byte(b',');
     }
 }
 
@@ -136,34 +136,34 @@ impl TextPart for FieldElements {
         true
     }
 
-    fn gather(item: &Item, later: bool, sheet: &mut Sheet) {
-        gather_comma(later, sheet);
-        gather_front(item, sheet);
-        gather_rest(item, sheet);
+    fn gather(item: &Item, later: bool, buffer: &mut OutBuffer) {
+        gather_comma(later, buffer);
+        gather_front(item, buffer);
+        gather_rest(item, buffer);
     }
 }
 
 /// Puts a field up to its first bit behind a text.
-fn gather_front(item: &Item, sheet: &mut Sheet)
-    requires { length sheet.old + 60 ≤ ROOM }
-    ensures text { sheet.new ≡ sheet.old ++ field_front item.now }
-    ensures length { length sheet.new ≤ length sheet.old + 60 }
+fn gather_front(item: &Item, buffer: &mut OutBuffer)
+    requires { length buffer.old + 60 ≤ ROOM }
+    ensures text { buffer.new ≡ buffer.old ++ field_front item.now }
+    ensures length { length buffer.new ≤ length buffer.old + 60 }
 {
-    sheet.text(b"{\"packet\":");
-    gather_packet(item.row, packet_of(item), sheet);
-    sheet.text(b",\"bit\":");
-    sheet.number(u64::from(item.bit));
+    buffer.text(b"{\"packet\":");
+    gather_packet(item.row, packet_of(item), buffer);
+    buffer.text(b",\"bit\":");
+    buffer.number(u64::from(item.bit));
 }
 
 /// Puts the number of the packet that a field stands in behind a text, none for the header.
-fn gather_packet(row: Row, number: u32, sheet: &mut Sheet)
-    requires { length sheet.old + 20 ≤ ROOM }
-    ensures text { sheet.new ≡ sheet.old ++ compact_text (packet_data row number) }
-    ensures length { length sheet.new ≤ length sheet.old + 20 }
+fn gather_packet(row: Row, number: u32, buffer: &mut OutBuffer)
+    requires { length buffer.old + 20 ≤ ROOM }
+    ensures text { buffer.new ≡ buffer.old ++ compact_text (packet_data row number) }
+    ensures length { length buffer.new ≤ length buffer.old + 20 }
 {
     match row {
-        Row::Header => sheet.text(b"null"),
-        _ => sheet.number(u64::from(number)),
+        Row::Header => buffer.text(b"null"),
+        _ => buffer.number(u64::from(number)),
     }
 }
 
@@ -178,15 +178,15 @@ fn packet_of(item: &Item) -> u32
 }
 
 /// Puts a field from its name on behind a text.
-fn gather_rest(item: &Item, sheet: &mut Sheet)
-    requires { length sheet.old + 195 ≤ ROOM }
-    ensures { sheet.new ≡ sheet.old ++ field_rest item.now }
+fn gather_rest(item: &Item, buffer: &mut OutBuffer)
+    requires { length buffer.old + 195 ≤ ROOM }
+    ensures { buffer.new ≡ buffer.old ++ field_rest item.now }
 {
-    sheet.text(name_members(item.name));
-    sheet.number(u64::from(item.value));
-    sheet.text(b",\"meaning\":\"");
-    gather_meaning(item, sheet);
-    sheet.text(field_end(item.is_late));
+    buffer.text(name_members(item.name));
+    buffer.number(u64::from(item.value));
+    buffer.text(b",\"meaning\":\"");
+    gather_meaning(item, buffer);
+    buffer.text(field_end(item.is_late));
 }
 
 /// What stands behind the meaning of a field: the mark of what stands behind a fault.
@@ -217,25 +217,25 @@ impl TextPart for OtherMembers {
         true
     }
 
-    fn gather(item: &Item, _later: bool, sheet: &mut Sheet) {
+    fn gather(item: &Item, _later: bool, buffer: &mut OutBuffer) {
         if let Some(said) = said_in(item) {
-            gather_other(&said, sheet);
+            gather_other(&said, buffer);
         }
     }
 }
 
 /// Puts what is said behind a text, as a member behind others, unless it is a gradient or a speed.
 #[tactic(auto, unfolding(json::specs::Print::escape_byte))]
-fn gather_other(said: &Said, sheet: &mut Sheet)
-    requires { length sheet.old + LONGEST_PART ≤ ROOM }
-    ensures { sheet.new ≡ sheet.old ++ other_part said.now }
+fn gather_other(said: &Said, buffer: &mut OutBuffer)
+    requires { length buffer.old + LONGEST_PART ≤ ROOM }
+    ensures { buffer.new ≡ buffer.old ++ other_part said.now }
 {
     match *said {
-        Said::Time(time) => gather_named(b",\"time\":", u64::from(time), sheet),
-        Said::Country(country) => gather_named(b",\"country\":", u64::from(country), sheet),
-        Said::Group(number) => gather_named(b",\"group\":", u64::from(number), sheet),
-        Said::Nominal(nominal) => sheet.text(direction_member(nominal)),
-        Said::End(metres) => gather_named(b",\"end\":", metres, sheet),
+        Said::Time(time) => gather_named(b",\"time\":", u64::from(time), buffer),
+        Said::Country(country) => gather_named(b",\"country\":", u64::from(country), buffer),
+        Said::Group(number) => gather_named(b",\"group\":", u64::from(number), buffer),
+        Said::Nominal(nominal) => buffer.text(direction_member(nominal)),
+        Said::End(metres) => gather_named(b",\"end\":", metres, buffer),
         Said::Grade(_, _) | Said::Speed(_, _) => (),
     }
 }
@@ -254,13 +254,13 @@ fn direction_member(nominal: bool) -> &'static [u8]
 }
 
 /// Puts a number behind its name, and both behind a text.
-fn gather_named(name: &[u8], number: u64, sheet: &mut Sheet)
+fn gather_named(name: &[u8], number: u64, buffer: &mut OutBuffer)
     requires short { length name.now ≤ 20 }
-    requires room { length sheet.old + LONGEST_PART ≤ ROOM }
-    ensures { sheet.new ≡ sheet.old ++ (name.now ++ decimal number) }
+    requires room { length buffer.old + LONGEST_PART ≤ ROOM }
+    ensures { buffer.new ≡ buffer.old ++ (name.now ++ decimal number) }
 {
-    sheet.text(name);
-    sheet.number(number);
+    buffer.text(name);
+    buffer.number(number);
 }
 
 /// The gradients that are said, as elements.
@@ -278,24 +278,24 @@ impl TextPart for GradeElements {
         matches!(said_in(item), Some(Said::Grade(_, _)))
     }
 
-    fn gather(item: &Item, later: bool, sheet: &mut Sheet) {
+    fn gather(item: &Item, later: bool, buffer: &mut OutBuffer) {
         if let Some(Said::Grade(from, per_mille)) = said_in(item) {
-            gather_grade(later, from, per_mille, sheet);
+            gather_grade(later, from, per_mille, buffer);
         }
     }
 }
 
 /// Puts a gradient behind a text, as an element.
-fn gather_grade(later: bool, from: u64, per_mille: i64, sheet: &mut Sheet)
-    requires { length sheet.old + LONGEST_PART ≤ ROOM }
-    ensures { sheet.new ≡ sheet.old ++ (comma_if later ++ compact_text (grade_data from per_mille)) }
+fn gather_grade(later: bool, from: u64, per_mille: i64, buffer: &mut OutBuffer)
+    requires { length buffer.old + LONGEST_PART ≤ ROOM }
+    ensures { buffer.new ≡ buffer.old ++ (comma_if later ++ compact_text (grade_data from per_mille)) }
 {
-    gather_comma(later, sheet);
-    sheet.text(b"{\"from\":");
-    sheet.number(from);
-    sheet.text(b",\"per_mille\":");
-    sheet.signed(per_mille);
-    sheet.byte(b'}');
+    gather_comma(later, buffer);
+    buffer.text(b"{\"from\":");
+    buffer.number(from);
+    buffer.text(b",\"per_mille\":");
+    buffer.signed(per_mille);
+    buffer.byte(b'}');
 }
 
 /// The speeds that are said, as elements.
@@ -313,24 +313,24 @@ impl TextPart for SpeedElements {
         matches!(said_in(item), Some(Said::Speed(_, _)))
     }
 
-    fn gather(item: &Item, later: bool, sheet: &mut Sheet) {
+    fn gather(item: &Item, later: bool, buffer: &mut OutBuffer) {
         if let Some(Said::Speed(from, kmh)) = said_in(item) {
-            gather_speed(later, from, kmh, sheet);
+            gather_speed(later, from, kmh, buffer);
         }
     }
 }
 
 /// Puts a speed behind a text, as an element.
-fn gather_speed(later: bool, from: u64, kmh: u64, sheet: &mut Sheet)
-    requires { length sheet.old + LONGEST_PART ≤ ROOM }
-    ensures { sheet.new ≡ sheet.old ++ (comma_if later ++ compact_text (speed_data from kmh)) }
+fn gather_speed(later: bool, from: u64, kmh: u64, buffer: &mut OutBuffer)
+    requires { length buffer.old + LONGEST_PART ≤ ROOM }
+    ensures { buffer.new ≡ buffer.old ++ (comma_if later ++ compact_text (speed_data from kmh)) }
 {
-    gather_comma(later, sheet);
-    sheet.text(b"{\"from\":");
-    sheet.number(from);
-    sheet.text(b",\"km_per_hour\":");
-    sheet.number(kmh);
-    sheet.byte(b'}');
+    gather_comma(later, buffer);
+    buffer.text(b"{\"from\":");
+    buffer.number(from);
+    buffer.text(b",\"km_per_hour\":");
+    buffer.number(kmh);
+    buffer.byte(b'}');
 }
 
 /// Writes elements as an array, behind its name and up to its closing bracket.

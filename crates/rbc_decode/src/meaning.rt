@@ -3,16 +3,16 @@
 ghost use Rattle.std.specs.Prelude.{◌≡◌, ◌+◌, ◌≤◌, ◌++◌, length, decimal, codes};
 ghost use Rattle.std.specs.Fmt.{signed_decimal};
 ghost use Rattle.rbc_model.specs.Results.{is_from_to};
-ghost use Rattle.rbc_decode.specs.declared.sheet.TheConstants.{ROOM};
+ghost use Rattle.rbc_decode.specs.declared.out_buffer.TheConstants.{ROOM};
 ghost use Rattle.rbc_decode.specs.Meanings.{counted_things, direction_meaning, distance_start, front_meaning, grade_meaning, meaning_in};
 ghost use Rattle.rbc_decode.specs.Meanings.{message_meaning, numbered, packet_meaning, place_meaning, scale_meaning, slope_meaning};
 ghost use Rattle.rbc_decode.specs.Meanings.{speed_meaning, time_out_meaning, yes_or_no};
 ghost use Rattle.rbc_decode.specs.Walks.{scale_told};
 
 use crate::fields::Item;
+use crate::out_buffer::OutBuffer;
 use crate::row::Row;
 use crate::said::{metres, signed_value};
-use crate::sheet::Sheet;
 use crate::walk::FieldWalk;
 use rbc_model::FieldName;
 use rbc_model::limits::{
@@ -22,79 +22,79 @@ use rbc_model::limits::{
 
 /// Puts what the value of a field means behind a text.
 #[tactic(auto, unfolding(crate::specs::Meanings::meaning_by))]
-pub(crate) fn gather_meaning(item: &Item, sheet: &mut Sheet)
-    requires { length sheet.old + 100 ≤ ROOM }
-    ensures text { sheet.new ≡ sheet.old ++ meaning_in item.now }
-    ensures length { length sheet.new ≤ length sheet.old + 90 }
+pub(crate) fn gather_meaning(item: &Item, buffer: &mut OutBuffer)
+    requires { length buffer.old + 100 ≤ ROOM }
+    ensures text { buffer.new ≡ buffer.old ++ meaning_in item.now }
+    ensures length { length buffer.new ≤ length buffer.old + 90 }
 {
     let (walk, row, value) = (&item.walk, item.row, item.value);
     let number = u64::from(value);
     match item.name {
-        FieldName::NID_MESSAGE => sheet.text(message_meaning(value)),
-        FieldName::L_MESSAGE => gather_numbered(b"", number, b" bytes", sheet),
-        FieldName::T_TRAIN => gather_numbered(b"", 10 * number, b" ms", sheet),
-        FieldName::NID_C => sheet.text(b"country or region"),
-        FieldName::NID_BG => sheet.text(b"balise group"),
-        FieldName::NID_PACKET => sheet.text(packet_meaning(value)),
-        FieldName::Q_DIR => sheet.text(direction_meaning(value)),
-        FieldName::L_PACKET => gather_numbered(b"", number, b" bits", sheet),
-        FieldName::Q_SCALE => sheet.text(scale_meaning(value)),
+        FieldName::NID_MESSAGE => buffer.text(message_meaning(value)),
+        FieldName::L_MESSAGE => gather_numbered(b"", number, b" bytes", buffer),
+        FieldName::T_TRAIN => gather_numbered(b"", 10 * number, b" ms", buffer),
+        FieldName::NID_C => buffer.text(b"country or region"),
+        FieldName::NID_BG => buffer.text(b"balise group"),
+        FieldName::NID_PACKET => buffer.text(packet_meaning(value)),
+        FieldName::Q_DIR => buffer.text(direction_meaning(value)),
+        FieldName::L_PACKET => gather_numbered(b"", number, b" bits", buffer),
+        FieldName::Q_SCALE => buffer.text(scale_meaning(value)),
         FieldName::V_LOA => {
-            gather_numbered(b"", u64::from(SPEED_STEP) * number, b" km/h", sheet);
+            gather_numbered(b"", u64::from(SPEED_STEP) * number, b" km/h", buffer);
         }
-        FieldName::T_LOA => gather_time_out(value, sheet),
+        FieldName::T_LOA => gather_time_out(value, buffer),
         FieldName::N_ITER => {
-            gather_numbered(b"", number, counted_things(row, walk.index), sheet);
+            gather_numbered(b"", number, counted_things(row, walk.index), buffer);
         }
-        FieldName::L_ENDSECTION => gather_place(walk, b"end at ", value, sheet),
+        FieldName::L_ENDSECTION => gather_place(walk, b"end at ", value, buffer),
         FieldName::D_GRADIENT | FieldName::D_STATIC => {
             let units = walk.from.saturating_add(value);
-            gather_place(walk, distance_start(row), units, sheet);
+            gather_place(walk, distance_start(row), units, buffer);
         }
-        FieldName::Q_GDIR => sheet.text(slope_meaning(value)),
-        FieldName::G_A => gather_grade(walk, value, sheet),
-        FieldName::V_STATIC => gather_speed(walk, value, sheet),
-        FieldName::Q_FRONT => sheet.text(front_meaning(value)),
-        _ => sheet.text(yes_or_no(value)),
+        FieldName::Q_GDIR => buffer.text(slope_meaning(value)),
+        FieldName::G_A => gather_grade(walk, value, buffer),
+        FieldName::V_STATIC => gather_speed(walk, value, buffer),
+        FieldName::Q_FRONT => buffer.text(front_meaning(value)),
+        _ => buffer.text(yes_or_no(value)),
     }
 }
 
 /// Puts a number between two texts, and all behind a text.
-fn gather_numbered(before: &[u8], number: u64, after: &[u8], sheet: &mut Sheet)
+fn gather_numbered(before: &[u8], number: u64, after: &[u8], buffer: &mut OutBuffer)
     requires before { length before.now ≤ 20 }
     requires after { length after.now ≤ 20 }
-    requires room { length sheet.old + 60 ≤ ROOM }
-    ensures text { sheet.new ≡ sheet.old ++ numbered before.now number after.now }
-    ensures length { length sheet.new ≤ length sheet.old + 60 }
+    requires room { length buffer.old + 60 ≤ ROOM }
+    ensures text { buffer.new ≡ buffer.old ++ numbered before.now number after.now }
+    ensures length { length buffer.new ≤ length buffer.old + 60 }
 {
-    sheet.text(before);
-    sheet.number(number);
-    sheet.text(after);
+    buffer.text(before);
+    buffer.number(number);
+    buffer.text(after);
 }
 
-fn gather_time_out(seconds: u32, sheet: &mut Sheet)
-    requires { length sheet.old + 60 ≤ ROOM }
-    ensures text { sheet.new ≡ sheet.old ++ time_out_meaning seconds }
-    ensures length { length sheet.new ≤ length sheet.old + 60 }
+fn gather_time_out(seconds: u32, buffer: &mut OutBuffer)
+    requires { length buffer.old + 60 ≤ ROOM }
+    ensures text { buffer.new ≡ buffer.old ++ time_out_meaning seconds }
+    ensures length { length buffer.new ≤ length buffer.old + 60 }
 {
     if seconds == NO_TIME_OUT {
-        sheet.text(b"no time-out");
+        buffer.text(b"no time-out");
     } else {
-        gather_numbered(b"", u64::from(seconds), b" s", sheet);
+        gather_numbered(b"", u64::from(seconds), b" s", buffer);
     }
 }
 
 /// Puts so many units of the scale that is told behind a text, in metres where that is known.
-fn gather_place(walk: &FieldWalk, before: &[u8], units: u32, sheet: &mut Sheet)
+fn gather_place(walk: &FieldWalk, before: &[u8], units: u32, buffer: &mut OutBuffer)
     requires before { length before.now ≤ 20 }
-    requires room { length sheet.old + 60 ≤ ROOM }
-    ensures text { sheet.new ≡ sheet.old ++ place_meaning walk.now before.now units }
-    ensures length { length sheet.new ≤ length sheet.old + 60 }
+    requires room { length buffer.old + 60 ≤ ROOM }
+    ensures text { buffer.new ≡ buffer.old ++ place_meaning walk.now before.now units }
+    ensures length { length buffer.new ≤ length buffer.old + 60 }
 {
     if is_scaled(walk) {
-        gather_numbered(before, metres(walk, units), b" m", sheet);
+        gather_numbered(before, metres(walk, units), b" m", buffer);
     } else {
-        gather_numbered(before, u64::from(units), b" units", sheet);
+        gather_numbered(before, u64::from(units), b" units", buffer);
     }
 }
 
@@ -105,46 +105,46 @@ fn is_scaled(walk: &FieldWalk) -> bool
     (1..=2).contains(&walk.scale_told())
 }
 
-fn gather_grade(walk: &FieldWalk, size: u32, sheet: &mut Sheet)
-    requires { length sheet.old + 90 ≤ ROOM }
-    ensures text { sheet.new ≡ sheet.old ++ grade_meaning walk.now size }
-    ensures length { length sheet.new ≤ length sheet.old + 90 }
+fn gather_grade(walk: &FieldWalk, size: u32, buffer: &mut OutBuffer)
+    requires { length buffer.old + 90 ≤ ROOM }
+    ensures text { buffer.new ≡ buffer.old ++ grade_meaning walk.now size }
+    ensures length { length buffer.new ≤ length buffer.old + 90 }
 {
     if size == GRADIENT_END_MARK {
-        gather_place(walk, b"end at ", walk.from, sheet);
+        gather_place(walk, b"end at ", walk.from, buffer);
     } else {
-        gather_slope(walk, signed_value(walk.uphill, size), sheet);
+        gather_slope(walk, signed_value(walk.uphill, size), buffer);
     }
 }
 
-fn gather_slope(walk: &FieldWalk, per_mille: i64, sheet: &mut Sheet)
-    requires { length sheet.old + 90 ≤ ROOM }
-    ensures text { sheet.new ≡ sheet.old ++ (signed_decimal per_mille ++ place_meaning walk.now (codes " per mille from ") walk.now.from) }
-    ensures length { length sheet.new ≤ length sheet.old + 90 }
+fn gather_slope(walk: &FieldWalk, per_mille: i64, buffer: &mut OutBuffer)
+    requires { length buffer.old + 90 ≤ ROOM }
+    ensures text { buffer.new ≡ buffer.old ++ (signed_decimal per_mille ++ place_meaning walk.now (codes " per mille from ") walk.now.from) }
+    ensures length { length buffer.new ≤ length buffer.old + 90 }
 {
-    sheet.signed(per_mille);
-    gather_place(walk, b" per mille from ", walk.from, sheet);
+    buffer.signed(per_mille);
+    gather_place(walk, b" per mille from ", walk.from, buffer);
 }
 
-fn gather_speed(walk: &FieldWalk, fives: u32, sheet: &mut Sheet)
-    requires { length sheet.old + 90 ≤ ROOM }
-    ensures text { sheet.new ≡ sheet.old ++ speed_meaning walk.now fives }
-    ensures length { length sheet.new ≤ length sheet.old + 90 }
+fn gather_speed(walk: &FieldWalk, fives: u32, buffer: &mut OutBuffer)
+    requires { length buffer.old + 90 ≤ ROOM }
+    ensures text { buffer.new ≡ buffer.old ++ speed_meaning walk.now fives }
+    ensures length { length buffer.new ≤ length buffer.old + 90 }
 {
     if fives == SPEED_END_MARK {
-        gather_place(walk, b"end at ", walk.from, sheet);
+        gather_place(walk, b"end at ", walk.from, buffer);
     } else {
-        gather_pace(walk, u64::from(SPEED_STEP) * u64::from(fives), sheet);
+        gather_pace(walk, u64::from(SPEED_STEP) * u64::from(fives), buffer);
     }
 }
 
-fn gather_pace(walk: &FieldWalk, kmh: u64, sheet: &mut Sheet)
-    requires { length sheet.old + 90 ≤ ROOM }
-    ensures text { sheet.new ≡ sheet.old ++ (decimal kmh ++ place_meaning walk.now (codes " km/h from ") walk.now.from) }
-    ensures length { length sheet.new ≤ length sheet.old + 90 }
+fn gather_pace(walk: &FieldWalk, kmh: u64, buffer: &mut OutBuffer)
+    requires { length buffer.old + 90 ≤ ROOM }
+    ensures text { buffer.new ≡ buffer.old ++ (decimal kmh ++ place_meaning walk.now (codes " km/h from ") walk.now.from) }
+    ensures length { length buffer.new ≤ length buffer.old + 90 }
 {
-    sheet.number(kmh);
-    gather_place(walk, b" km/h from ", walk.from, sheet);
+    buffer.number(kmh);
+    gather_place(walk, b" km/h from ", walk.from, buffer);
 }
 
 fn message_meaning(number: u32) -> &'static [u8]

@@ -2,38 +2,38 @@
 
 ghost use Rattle.std.specs.Prelude.{◌≡◌, ◌+◌, ◌≤◌, ◌<◌, [], ◌∷◌, ◌++◌, length, take, decimal};
 ghost use Rattle.std.specs.Fmt.{signed_decimal};
-ghost use Rattle.rbc_decode.specs.declared.sheet.TheConstants.{ROOM};
+ghost use Rattle.rbc_decode.specs.declared.out_buffer.TheConstants.{ROOM};
 
 use itoa::write_digits;
 use std::marker::Model;
 
-/// How many bytes a sheet has room for.
+/// How many bytes a buffer has room for.
 pub(crate) const ROOM: usize = 1_024;
 
 /// Text that is gathered from its start to its end, and is then written at once.
 #[derive(Drop)]
-pub(crate) struct Sheet {
+pub(crate) struct OutBuffer {
     bytes: [u8; ROOM],
     count: usize,
 }
 
-impl Model for Sheet {
+impl Model for OutBuffer {
     ghost use Rattle.std.specs.Prelude.{◌≤◌, ℕ, List, take};
-    ghost use Rattle.rbc_decode.specs.declared.sheet.TheConstants.{ROOM};
+    ghost use Rattle.rbc_decode.specs.declared.out_buffer.TheConstants.{ROOM};
 
     ghost Value = { List ℕ };
 
-    ghost view = { λ sheet. take sheet.count sheet.bytes };
+    ghost view = { λ buffer. take buffer.count buffer.bytes };
 
-    ghost invariant = { λ sheet. sheet.count ≤ ROOM };
+    ghost invariant = { λ buffer. buffer.count ≤ ROOM };
 }
 
-impl Sheet {
+impl OutBuffer {
     /// An empty text.
-    pub(crate) fn new() -> Sheet
+    pub(crate) fn new() -> OutBuffer
         ensures { result ≡ [] }
     {
-        Sheet {
+        OutBuffer {
             bytes: [0; ROOM],
             count: 0,
         }

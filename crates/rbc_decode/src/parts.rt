@@ -3,12 +3,12 @@
 ghost use Rattle.std.specs.Prelude.{◌≡◌, ◌+◌, ◌≤◌, ◌++◌, ◌||◌, ℕ, List, Bool, false, length, OnOk};
 ghost use Rattle.rbc_model.specs.Sessions.{Prints};
 ghost use Rattle.rbc_decode.specs.declared.parts.TheConstants.{LONGEST_PART};
-ghost use Rattle.rbc_decode.specs.declared.sheet.TheConstants.{ROOM};
+ghost use Rattle.rbc_decode.specs.declared.out_buffer.TheConstants.{ROOM};
 ghost use Rattle.rbc_decode.specs.declared.fields.Item.{Item};
 ghost use Rattle.rbc_decode.specs.Parts.{parts_text, Hands};
 
 use crate::fields::Item;
-use crate::sheet::{ROOM, Sheet};
+use crate::out_buffer::{OutBuffer, ROOM};
 use rbc_streams::{Sink, WriteFailed, put};
 
 /// How many bytes may be printed of a field.
@@ -27,9 +27,9 @@ pub(crate) trait TextPart {
         ensures { result ≡ told item.now };
 
     /// Puts what is printed of a field behind a text, by whether one before it was told.
-    fn gather(item: &Item, later: bool, sheet: &mut Sheet)
-        requires { length sheet.old + LONGEST_PART ≤ ROOM }
-        ensures { sheet.new ≡ sheet.old ++ text later item.now };
+    fn gather(item: &Item, later: bool, buffer: &mut OutBuffer)
+        requires { length buffer.old + LONGEST_PART ≤ ROOM }
+        ensures { buffer.new ≡ buffer.old ++ text later item.now };
 }
 
 /// Writes of each field what is printed of it.
@@ -42,26 +42,26 @@ pub(crate) fn print_parts<P: TextPart, W: Sink>(
         (parts_text P.told P.text false items.now) result }
 {
     let mut later = false;
-    let mut sheet = Sheet::new();
+    let mut buffer = OutBuffer::new();
     for item in items {
-        make_room(&mut sheet, writer)?;
-        P::gather(item, later, &mut sheet);
+        make_room(&mut buffer, writer)?;
+        P::gather(item, later, &mut buffer);
         later = either(later, P::is_told(item));
     }
-    put(writer, sheet.bytes())
+    put(writer, buffer.bytes())
 }
 
 /// Writes what was gathered, where there is no room for a further part.
 #[inline(always)]
-fn make_room<W: Sink>(sheet: &mut Sheet, writer: &mut W) -> Result<(), WriteFailed>
+fn make_room<W: Sink>(buffer: &mut OutBuffer, writer: &mut W) -> Result<(), WriteFailed>
     requires { W.failed writer.old ≡ false }
-    ensures room { OnOk result (length sheet.new + LONGEST_PART ≤ ROOM) }
+    ensures room { OnOk result (length buffer.new + LONGEST_PART ≤ ROOM) }
     ensures handed { Hands (W.written writer.old) (W.written writer.new) (W.failed writer.new)
-        sheet.old sheet.new result }
+        buffer.old buffer.new result }
 {
-    if sheet.len() > ROOM - LONGEST_PART {
-        put(writer, sheet.bytes())?;
-        sheet.clear();
+    if buffer.len() > ROOM - LONGEST_PART {
+        put(writer, buffer.bytes())?;
+        buffer.clear();
     }
     Ok(())
 }

@@ -3,7 +3,7 @@
 ghost use Rattle.std.specs.Prelude.{◌≡◌, ◌+◌, ◌≤◌, ◌++◌, ◌∷◌, ◌&&◌, ◌==◌, [], false, decimal, codes, length};
 ghost use Rattle.rbc_model.specs.Sessions.{Prints};
 ghost use Rattle.rbc_decode.specs.declared.parts.TheConstants.{LONGEST_PART};
-ghost use Rattle.rbc_decode.specs.declared.sheet.TheConstants.{ROOM};
+ghost use Rattle.rbc_decode.specs.declared.out_buffer.TheConstants.{ROOM};
 ghost use Rattle.rbc_decode.specs.declared.said.Said.TheVariants.{Nominal, Grade, Speed};
 ghost use Rattle.rbc_decode.specs.Readings.{read_as};
 ghost use Rattle.rbc_model.specs.declared.messages.FieldName.TheVariants.{N_ITER};
@@ -14,10 +14,10 @@ ghost use Rattle.rbc_decode.specs.Texts.{line_text, outcome_text, reading_text, 
 use crate::fields::{FieldPlace, Found, Item};
 use crate::meaning::gather_meaning;
 use crate::names::{field_start, name_text};
+use crate::out_buffer::OutBuffer;
 use crate::parts::{TextPart, print_parts};
 use crate::row::Row;
 use crate::said::{Said, said_in};
-use crate::sheet::Sheet;
 use crate::spelling::Wrong;
 use rbc_model::limits::{AUTHORITY_PACKET, GRADIENT_PACKET, SPEED_PACKET};
 use rbc_model::{Fault, FieldName};
@@ -39,9 +39,9 @@ impl TextPart for FieldLines {
         true
     }
 
-    fn gather(item: &Item, _later: bool, sheet: &mut Sheet) {
-        gather_head(item, sheet);
-        gather_field(item, sheet);
+    fn gather(item: &Item, _later: bool, buffer: &mut OutBuffer) {
+        gather_head(item, buffer);
+        gather_field(item, buffer);
     }
 }
 
@@ -61,9 +61,9 @@ impl TextPart for Words {
         true
     }
 
-    fn gather(item: &Item, _later: bool, sheet: &mut Sheet) {
+    fn gather(item: &Item, _later: bool, buffer: &mut OutBuffer) {
         if let Some(said) = said_in(item) {
-            gather_said(&said, sheet);
+            gather_said(&said, buffer);
         }
     }
 }
@@ -141,13 +141,13 @@ pub(crate) fn print_wrong<W: Sink>(
 }
 
 /// Puts the line of the message or packet that begins with the field behind a text, if one does.
-fn gather_head(item: &Item, sheet: &mut Sheet)
-    requires { length sheet.old + LONGEST_PART ≤ ROOM }
-    ensures text { sheet.new ≡ sheet.old ++ head_text item.now }
-    ensures length { length sheet.new ≤ length sheet.old + 50 }
+fn gather_head(item: &Item, buffer: &mut OutBuffer)
+    requires { length buffer.old + LONGEST_PART ≤ ROOM }
+    ensures text { buffer.new ≡ buffer.old ++ head_text item.now }
+    ensures length { length buffer.new ≤ length buffer.old + 50 }
 {
     if is_first(item) {
-        gather_begun(item, sheet);
+        gather_begun(item, buffer);
     }
 }
 
@@ -159,13 +159,13 @@ fn is_first(item: &Item) -> bool
 }
 
 /// Puts the line of what begins with the field behind a text.
-fn gather_begun(item: &Item, sheet: &mut Sheet)
-    requires { length sheet.old + 50 ≤ ROOM }
-    ensures text { sheet.new ≡ sheet.old ++ (mark_text item.now.is_late ++ row_text item.now.row item.now.value) }
-    ensures length { length sheet.new ≤ length sheet.old + 50 }
+fn gather_begun(item: &Item, buffer: &mut OutBuffer)
+    requires { length buffer.old + 50 ≤ ROOM }
+    ensures text { buffer.new ≡ buffer.old ++ (mark_text item.now.is_late ++ row_text item.now.row item.now.value) }
+    ensures length { length buffer.new ≤ length buffer.old + 50 }
 {
-    sheet.text(mark_text(item.is_late));
-    gather_row(item.row, item.value, sheet);
+    buffer.text(mark_text(item.is_late));
+    gather_row(item.row, item.value, buffer);
 }
 
 /// Whether a message or packet begins with the row.
@@ -187,14 +187,14 @@ fn mark_text(is_late: bool) -> &'static [u8]
 }
 
 /// Puts the line of the message or packet that begins with this row behind a text, by the number that was found.
-fn gather_row(row: Row, number: u32, sheet: &mut Sheet)
-    requires { length sheet.old + 45 ≤ ROOM }
-    ensures text { sheet.new ≡ sheet.old ++ row_text row number }
-    ensures length { length sheet.new ≤ length sheet.old + 45 }
+fn gather_row(row: Row, number: u32, buffer: &mut OutBuffer)
+    requires { length buffer.old + 45 ≤ ROOM }
+    ensures text { buffer.new ≡ buffer.old ++ row_text row number }
+    ensures length { length buffer.new ≤ length buffer.old + 45 }
 {
     match row {
-        Row::Header => sheet.text(b"message\n"),
-        _ => gather_last(packet_start(number), u64::from(number), sheet),
+        Row::Header => buffer.text(b"message\n"),
+        _ => gather_last(packet_start(number), u64::from(number), buffer),
     }
 }
 
@@ -211,18 +211,18 @@ fn packet_start(number: u32) -> &'static [u8]
 }
 
 /// Puts the line of a field behind a text: its name and its width in bits, in at most 24 bytes, among others.
-fn gather_field(item: &Item, sheet: &mut Sheet)
-    requires { length sheet.old + 170 ≤ ROOM }
-    ensures { sheet.new ≡ sheet.old ++ field_line item.now }
+fn gather_field(item: &Item, buffer: &mut OutBuffer)
+    requires { length buffer.old + 170 ≤ ROOM }
+    ensures { buffer.new ≡ buffer.old ++ field_line item.now }
 {
     let (start, count) = field_start(item.name);
-    sheet.text(lead_text(item));
-    sheet.number(u64::from(item.bit));
-    sheet.front(start, count);
-    sheet.number(u64::from(item.value));
-    sheet.text(b"  ");
-    gather_meaning(item, sheet);
-    sheet.byte(b'\n');
+    buffer.text(lead_text(item));
+    buffer.number(u64::from(item.bit));
+    buffer.front(start, count);
+    buffer.number(u64::from(item.value));
+    buffer.text(b"  ");
+    gather_meaning(item, buffer);
+    buffer.byte(b'\n');
 }
 
 /// What the line of a field begins with.
@@ -261,39 +261,39 @@ fn is_inner_count(row: Row, index: usize) -> bool
 }
 
 /// Puts a name and the number at its end behind a text, as the end of a line.
-fn gather_last(name: &[u8], number: u64, sheet: &mut Sheet)
+fn gather_last(name: &[u8], number: u64, buffer: &mut OutBuffer)
     requires short { length name.now ≤ 20 }
-    requires room { length sheet.old + 41 ≤ ROOM }
-    ensures text { sheet.new ≡ sheet.old ++ (name.now ++ (decimal number ++ 10 ∷ [])) }
-    ensures length { length sheet.new ≤ length sheet.old + 41 }
+    requires room { length buffer.old + 41 ≤ ROOM }
+    ensures text { buffer.new ≡ buffer.old ++ (name.now ++ (decimal number ++ 10 ∷ [])) }
+    ensures length { length buffer.new ≤ length buffer.old + 41 }
 {
-    sheet.text(name);
-    sheet.number(number);
-    sheet.byte(b'\n');
+    buffer.text(name);
+    buffer.number(number);
+    buffer.byte(b'\n');
 }
 
 /// Puts what is said, in words, behind a text.
-fn gather_said(said: &Said, sheet: &mut Sheet)
-    requires { length sheet.old + LONGEST_PART ≤ ROOM }
-    ensures { sheet.new ≡ sheet.old ++ said_text said.now }
+fn gather_said(said: &Said, buffer: &mut OutBuffer)
+    requires { length buffer.old + LONGEST_PART ≤ ROOM }
+    ensures { buffer.new ≡ buffer.old ++ said_text said.now }
 {
     match *said {
-        Said::Time(time) => gather_last(b"time ", u64::from(time), sheet),
-        Said::Country(country) => gather_country(country, sheet),
-        Said::Group(number) => gather_last(b"/", u64::from(number), sheet),
-        Said::Nominal(nominal) => sheet.text(direction_line(nominal)),
-        Said::End(metres) => gather_last(b"end ", metres, sheet),
-        Said::Grade(from, per_mille) => gather_grade(from, per_mille, sheet),
-        Said::Speed(from, kmh) => gather_speed(from, kmh, sheet),
+        Said::Time(time) => gather_last(b"time ", u64::from(time), buffer),
+        Said::Country(country) => gather_country(country, buffer),
+        Said::Group(number) => gather_last(b"/", u64::from(number), buffer),
+        Said::Nominal(nominal) => buffer.text(direction_line(nominal)),
+        Said::End(metres) => gather_last(b"end ", metres, buffer),
+        Said::Grade(from, per_mille) => gather_grade(from, per_mille, buffer),
+        Said::Speed(from, kmh) => gather_speed(from, kmh, buffer),
     }
 }
 
-fn gather_country(country: u32, sheet: &mut Sheet)
-    requires { length sheet.old + LONGEST_PART ≤ ROOM }
-    ensures { sheet.new ≡ sheet.old ++ (codes "group " ++ decimal country) }
+fn gather_country(country: u32, buffer: &mut OutBuffer)
+    requires { length buffer.old + LONGEST_PART ≤ ROOM }
+    ensures { buffer.new ≡ buffer.old ++ (codes "group " ++ decimal country) }
 {
-    sheet.text(b"group ");
-    sheet.number(u64::from(country));
+    buffer.text(b"group ");
+    buffer.number(u64::from(country));
 }
 
 fn direction_line(nominal: bool) -> &'static [u8]
@@ -307,26 +307,26 @@ fn direction_line(nominal: bool) -> &'static [u8]
     }
 }
 
-fn gather_grade(from: u64, per_mille: i64, sheet: &mut Sheet)
-    requires { length sheet.old + LONGEST_PART ≤ ROOM }
-    ensures { sheet.new ≡ sheet.old ++ said_text (Grade from per_mille) }
+fn gather_grade(from: u64, per_mille: i64, buffer: &mut OutBuffer)
+    requires { length buffer.old + LONGEST_PART ≤ ROOM }
+    ensures { buffer.new ≡ buffer.old ++ said_text (Grade from per_mille) }
 {
-    sheet.text(b"grade ");
-    sheet.number(from);
-    sheet.byte(b' ');
-    sheet.signed(per_mille);
-    sheet.byte(b'\n');
+    buffer.text(b"grade ");
+    buffer.number(from);
+    buffer.byte(b' ');
+    buffer.signed(per_mille);
+    buffer.byte(b'\n');
 }
 
-fn gather_speed(from: u64, kmh: u64, sheet: &mut Sheet)
-    requires { length sheet.old + LONGEST_PART ≤ ROOM }
-    ensures { sheet.new ≡ sheet.old ++ said_text (Speed from kmh) }
+fn gather_speed(from: u64, kmh: u64, buffer: &mut OutBuffer)
+    requires { length buffer.old + LONGEST_PART ≤ ROOM }
+    ensures { buffer.new ≡ buffer.old ++ said_text (Speed from kmh) }
 {
-    sheet.text(b"speed ");
-    sheet.number(from);
-    sheet.byte(b' ');
-    sheet.number(kmh);
-    sheet.byte(b'\n');
+    buffer.text(b"speed ");
+    buffer.number(from);
+    buffer.byte(b' ');
+    buffer.number(kmh);
+    buffer.byte(b'\n');
 }
 
 /// Writes what was found where the fields ended.

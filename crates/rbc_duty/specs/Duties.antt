@@ -6,7 +6,7 @@ use Rattle.rbc_server.specs.Sittings.{StaysKept}
 use Rattle.rbc_server.specs.Sitting.{Sitting}
 use Rattle.rbc_duty.specs.Visits.{AreInTurn, gained_in_turn}
 
--- what is known of the clients that come to a seat, the seat with its pen before its duty and after it, and whether no client could be accepted any more
+-- what is known of the clients that come to a seat, the seat with its committer before its duty and after it, and whether no client could be accepted any more
 pub record Duty (L P : Type 0) : Type 0 where
   pub coming : Option (List Coming)
   pub before : Sitting L P
@@ -24,7 +24,7 @@ pub record IsDuty {L P : Type 0} (kept : P → ℕ → Type 0) (duty : Duty L P)
   pub over : duty.lost ≡ true → NoneComes still_to_come
   -- The seat has its old receipts, and behind them those of all visits, in order. What was kept before still is.
   pub receipts : duty.after.seat.receipts ≡ duty.before.seat.receipts ++ gained_in_turn kept duty.before visits duty.after in_turn
-  pub stays : StaysKept kept duty.before.pen duty.after.pen
+  pub stays : StaysKept kept duty.before.committer duty.after.committer
 
 -- Each of these seats, at which these clients came, was on duty, and was so after it; by these ports no client could be accepted any more.
 pub record AreOnDuty {L P : Type 0} (kept : P → ℕ → Type 0) (comings : List (Option (List Coming))) (before after : List (Sitting L P)) (lost : List Bool) : Type 0 where

@@ -31,7 +31,7 @@ pub fn serve_in_turn<
     L: DeskName,
     Q: Drop,
     X: Drop,
-    K: Keeper<L, Pen = Q, Text = X>,
+    K: Keeper<L, Committer = Q, Text = X>,
     I: Source + Drop,
     O: Sink + Drop,
     G: Drop,

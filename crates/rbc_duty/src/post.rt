@@ -16,21 +16,21 @@ pub struct Post<L: DeskName, Q, P> {
 }
 
 impl<L: DeskName, Q, P> Post<L, Q, P> {
-    /// The seat with its pen and its port.
-    fn new(seat: Seat<L>, pen: Q, port: P) -> Post<L, Q, P>
+    /// The seat with its committer and its port.
+    fn new(seat: Seat<L>, committer: Q, port: P) -> Post<L, Q, P>
         ensures seat { result.sitting.seat ≡ seat }
-        ensures pen { result.sitting.pen ≡ pen }
+        ensures committer { result.sitting.committer ≡ committer }
         ensures port { result.port ≡ port }
     {
         Post {
-            sitting: Sitting::new(seat, pen),
+            sitting: Sitting::new(seat, committer),
             port,
         }
     }
 }
 
 impl<L: DeskName, Q: Drop, P: Drop> Post<L, Q, P> {
-    /// These seats, in order, each with its pen and its port.
+    /// These seats, in order, each with its committer and its port.
     ///
     /// # Errors
     ///
@@ -38,23 +38,23 @@ impl<L: DeskName, Q: Drop, P: Drop> Post<L, Q, P> {
     pub fn all(
         alloc: Global,
         seats: Vec<Seat<L>>,
-        pens: Vec<Q>,
+        committers: Vec<Q>,
         ports: Vec<P>,
     ) -> Result<Vec<Post<L, Q, P>>, AllocError>
-        requires pens { vec_len pens ≡ vec_len seats }
+        requires committers { vec_len committers ≡ vec_len seats }
         requires ports { vec_len ports ≡ vec_len seats }
         ensures seats { IfOk result (λ posts. map (λ post. post.sitting.seat) posts.items ≡ seats.items) }
-        ensures pens { IfOk result (λ posts. map (λ post. post.sitting.pen) posts.items ≡ pens.items) }
+        ensures committers { IfOk result (λ posts. map (λ post. post.sitting.committer) posts.items ≡ committers.items) }
         ensures ports { IfOk result (λ posts. map (λ post. post.port) posts.items ≡ ports.items) }
         ensures count { IfOk result (λ posts. vec_len posts ≡ vec_len seats) }
     {
         let mut posts = Vec::with_capacity(alloc, seats.len())?;
-        let mut pens = pens.into_iter();
+        let mut committers = committers.into_iter();
         let mut ports = ports.into_iter();
         for seat in seats {
-            if let Some(pen) = pens.next() {
+            if let Some(committer) = committers.next() {
                 if let Some(port) = ports.next() {
-                    posts.push_reserved(Post::new(seat, pen, port));
+                    posts.push_reserved(Post::new(seat, committer, port));
                 }
             }
         }

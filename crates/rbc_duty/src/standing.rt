@@ -24,7 +24,8 @@ use std::time::Clock;
 #[derive(Drop)]
 struct Stands<L: DeskName, K, Q, P>(Snapshot<Post<L, Q, P>>, PhantomData<K>);
 
-impl<L: DeskName, K: Keeper<L, Pen = Q>, Q, P: Clients> Promise<Duty<L, Q>> for Stands<L, K, Q, P> {
+impl<L: DeskName, K: Keeper<L, Committer = Q>, Q, P: Clients> Promise<Duty<L, Q>>
+    for Stands<L, K, Q, P> {
     ghost use Rattle.rbc_server.specs.Connections.{TellsFailure};
     ghost use Rattle.rbc_duty.specs.Duties.{IsDuty};
 
@@ -37,7 +38,7 @@ impl<L: DeskName, K: Keeper<L, Pen = Q>, Q, P: Clients> Promise<Duty<L, Q>> for 
 }
 
 /// Waits until these duties have ended, and gives what they leave back in order, in the room that is there for it.
-fn join_all<L: DeskName, Q: Drop, K: Keeper<L, Pen = Q>, P: Clients + Drop, T: Threads>(
+fn join_all<L: DeskName, Q: Drop, K: Keeper<L, Committer = Q>, P: Clients + Drop, T: Threads>(
     rt: &T,
     handles: Vec<PromisedHandle<Duty<L, Q>, Stands<L, K, Q, P>>>,
     mut back: Vec<Duty<L, Q>>,
@@ -59,7 +60,7 @@ fn join_all<L: DeskName, Q: Drop, K: Keeper<L, Pen = Q>, P: Clients + Drop, T: T
 }
 
 /// Room for the threads of this number of posts, and whether there is; else none.
-fn handles_for<L: DeskName, Q: Drop, K: Keeper<L, Pen = Q>, P: Clients + Drop>(
+fn handles_for<L: DeskName, Q: Drop, K: Keeper<L, Committer = Q>, P: Clients + Drop>(
     alloc: Global,
     count: usize,
 ) -> (Vec<PromisedHandle<Duty<L, Q>, Stands<L, K, Q, P>>>, bool)
@@ -109,7 +110,7 @@ pub fn stand_all<
     L: DeskName + Send + Sync,
     Q: Send + Drop,
     X: Send + Drop,
-    K: Keeper<L, Pen = Q, Text = X> + Send + Sync,
+    K: Keeper<L, Committer = Q, Text = X> + Send + Sync,
     I: Source + Send + Drop,
     O: Sink + Send + Drop,
     G: Send + Drop,

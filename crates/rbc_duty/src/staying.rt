@@ -23,34 +23,38 @@ use std::sync::Wait;
 use std::thread::Threads;
 use std::time::Clock;
 
-/// The seats and the pens, each in order.
+/// The seats and the committers, each in order.
 #[derive(Drop)]
 struct Parted<L: DeskName, Q> {
     seats: Vec<Seat<L>>,
-    pens: Vec<Q>,
+    committers: Vec<Q>,
 }
 
-/// The seats and the pens of these duties, in the room that is there for them.
+/// The seats and the committers of these duties, in the room that is there for them.
 fn part_all<L: DeskName, Q: Drop>(duties: Vec<Duty<L, Q>>, room: Parted<L, Q>) -> Parted<L, Q>
     requires no_seat { vec_len room.seats ≡ 0 }
-    requires no_pen { vec_len room.pens ≡ 0 }
+    requires no_committer { vec_len room.committers ≡ 0 }
     requires room_for_seats { vec_len duties ≤ vec_capacity room.seats }
-    requires room_for_pens { vec_len duties ≤ vec_capacity room.pens }
+    requires room_for_committers { vec_len duties ≤ vec_capacity room.committers }
     ensures seats { result.seats.items ≡ map (λ duty. duty.sitting.seat) duties.items }
-    ensures pens { result.pens.items ≡ map (λ duty. duty.sitting.pen) duties.items }
+    ensures committers { result.committers.items ≡ map (λ duty. duty.sitting.committer) duties.items }
     ensures room { vec_capacity result.seats ≡ vec_capacity room.seats }
 {
     let Parted {
         mut seats,
-        mut pens,
+        mut committers,
     } = room;
     for duty in duties {
         let Duty { sitting, .. } = duty;
-        let Sitting { seat, pen, .. } = sitting;
+        let Sitting {
+            seat,
+            committer,
+            ..
+        } = sitting;
         seats.push_reserved(seat);
-        pens.push_reserved(pen);
+        committers.push_reserved(committer);
     }
-    Parted { seats, pens }
+    Parted { seats, committers }
 }
 
 /// Whether a request could not be kept in one of these duties.
@@ -98,18 +102,18 @@ fn room_for<L: DeskName, Q: Drop>(alloc: Global, count: usize) -> Result<Room<L,
     requires { count < 2 ^ 63 }
     ensures duties { IfOk result (λ room. (vec_len room.duties ≡ 0) × (vec_capacity room.duties ≡ count)) }
     ensures seats { IfOk result (λ room. (vec_len room.parted.seats ≡ 0) × (vec_capacity room.parted.seats ≡ count + 1)) }
-    ensures pens { IfOk result (λ room. (vec_len room.parted.pens ≡ 0) × (vec_capacity room.parted.pens ≡ count)) }
+    ensures committers { IfOk result (λ room. (vec_len room.parted.committers ≡ 0) × (vec_capacity room.parted.committers ≡ count)) }
 {
     Ok(Room {
         duties: Vec::with_capacity(alloc, count)?,
         parted: Parted {
             seats: Vec::with_capacity(alloc, count + 1)?,
-            pens: Vec::with_capacity(alloc, count)?,
+            committers: Vec::with_capacity(alloc, count)?,
         },
     })
 }
 
-/// The seats and the pens of those that were on duty, each in order, why the centre may not end well, and who looked on.
+/// The seats and the committers of those that were on duty, each in order, why the centre may not end well, and who looked on.
 #[derive(Drop)]
 struct Relieved<L: DeskName, Q, B> {
     parted: Parted<L, Q>,
@@ -119,20 +123,20 @@ struct Relieved<L: DeskName, Q, B> {
 
 /// Where there was no room for any duty.
 fn none_relieved<L: DeskName, Q, B>(alloc: Global, onlooker: B) -> Relieved<L, Q, B>
-    ensures pens { result.parted.pens.items ≡ [] }
+    ensures committers { result.parted.committers.items ≡ [] }
     ensures fault { result.fault ≡ Some NoMemory }
 {
     Relieved {
         parted: Parted {
             seats: Vec::new(alloc),
-            pens: Vec::new(alloc),
+            committers: Vec::new(alloc),
         },
         fault: Some(ServeFault::Memory),
         onlooker,
     }
 }
 
-/// Serves the clients that come to each of these posts, until the end is asked for. Gives the seats and the pens back in their
+/// Serves the clients that come to each of these posts, until the end is asked for. Gives the seats and the committers back in their
 /// order, and the first of these faults:
 /// - `Memory`: no thread could be started for a post, or there was no room,
 /// - `Journal`: a request could not be kept,
@@ -142,7 +146,7 @@ fn attend<
     L: DeskName + Send + Sync,
     Q: Send + Drop,
     X: Send + Drop,
-    K: Keeper<L, Pen = Q, Text = X> + Send + Sync,
+    K: Keeper<L, Committer = Q, Text = X> + Send + Sync,
     I: Source + Send + Drop,
     O: Sink + Send + Drop,
     G: Send + Drop,
@@ -160,11 +164,11 @@ fn attend<
     onlooker: B,
 ) -> Relieved<L, Q, B>
     ensures relieved { result.fault ≡ None → AreRelieved K.kept (map (λ post. P.coming post.port) posts.items)
-        (map (λ post. post.sitting) posts.items) result.parted.seats.items result.parted.pens.items }
+        (map (λ post. post.sitting) posts.items) result.parted.seats.items result.parted.committers.items }
     ensures count { result.fault ≡ None → vec_len result.parted.seats ≡ vec_len posts }
     ensures stands { IfSome result.fault (StandsRelieved K.kept (map (λ post. P.coming post.port) posts.items)
-        (map (λ post. post.sitting) posts.items) result.parted.pens.items) }
-    ensures journal { result.fault ≡ Some JournalFault → OneKnows K.failed result.parted.pens.items }
+        (map (λ post. post.sitting) posts.items) result.parted.committers.items) }
+    ensures journal { result.fault ≡ Some JournalFault → OneKnows K.failed result.parted.committers.items }
     ensures looks { result.fault ≡ None → LooksOn (B.seat onlooker) (B.seat result.onlooker) }
     ensures room { result.fault ≡ None → vec_len result.parted.seats < vec_capacity result.parted.seats }
 {
@@ -219,8 +223,8 @@ pub struct Stayed<Q> {
     pub record: Record,
     /// All that any seat was told before the desk was closed, as a moment of its history.
     pub told: Sight,
-    /// The pens of the seats, in order.
-    pub pens: Vec<Q>,
+    /// The committers of the seats, in order.
+    pub committers: Vec<Q>,
 }
 
 /// Where it ended with a fault: the fault, and what stands.
@@ -228,8 +232,8 @@ pub struct Stayed<Q> {
 pub struct Unstayed<Q> {
     /// The fault.
     pub fault: ServeFault,
-    /// The pens of the seats that were on duty, in order, as the fault left them.
-    pub pens: Vec<Q>,
+    /// The committers of the seats that were on duty, in order, as the fault left them.
+    pub committers: Vec<Q>,
 }
 
 /// Who has the seats of a desk that stays up.
@@ -248,7 +252,7 @@ pub struct Company<L: DeskName, Q, P, B> {
 ///
 /// # Errors
 ///
-/// The first of these. All seats have left their posts then, and the pens come back.
+/// The first of these. All seats have left their posts then, and the committers come back.
 /// - `Memory`: the allocator refused it, or no thread could be started for a post; nothing was printed,
 /// - `Journal`: a request could not be kept; nothing was printed,
 /// - `Port`: no client could be accepted any more, though the end had not been asked for; nothing was printed,
@@ -258,7 +262,7 @@ pub fn stay<
     L: DeskName + Send + Sync,
     Q: Send + Drop,
     X: Send + Drop,
-    K: Keeper<L, Pen = Q, Text = X> + Send + Sync,
+    K: Keeper<L, Committer = Q, Text = X> + Send + Sync,
     I: Source + Send + Drop,
     O: Sink + Send + Drop,
     G: Send + Drop,
@@ -289,11 +293,11 @@ pub fn stay<
 
     // The clients that came to each seat, in order, were served from it, each from what the one before left: what each said was
     // answered to it, line by line. None that was accepted is left out, and none was served twice. What led to the entries that
-    // it was told of is kept, by what the pens that come back know. The receipts of all these clients are the entries since the
+    // it was told of is kept, by what the committers that come back know. The receipts of all these clients are the entries since the
     // desk was opened: the seat of the onlooker, which is closed with theirs, has gained none. What was written tells how many
     // entries the record has.
     ensures stayed { IfOk result (λ stayed. IsStayed K.kept L.opened (map (λ post. P.coming post.port) company.posts.items)
-        (map (λ post. post.sitting) company.posts.items) (B.seat company.onlooker) stayed.pens.items (W.written writer.old) (W.written writer.new) stayed.record) }
+        (map (λ post. post.sitting) company.posts.items) (B.seat company.onlooker) stayed.committers.items (W.written writer.old) (W.written writer.new) stayed.record) }
     ensures handed_on { OnOk result (W.held_back writer.new ≡ []) }
 
     // The record is what was told of it, or goes on from that.
@@ -301,18 +305,18 @@ pub fn stay<
     ensures told { IfOk result (λ stayed. IsLater stayed.told.history stayed.record) }
 
     // Where a seat lost its port, memory was refused or a request could not be kept, nothing is written. That a request could not
-    // be kept is told only where a pen knows that keeping has failed. A write fault is answered exactly where the writer failed.
+    // be kept is told only where a committer knows that keeping has failed. A write fault is answered exactly where the writer failed.
     ensures port { IfErr result (λ unstayed. unstayed.fault ≡ PortFault → writer.new ≡ writer.old) }
     ensures memory { IfErr result (λ unstayed. unstayed.fault ≡ NoMemory → writer.new ≡ writer.old) }
     ensures journal { IfErr result (λ unstayed. unstayed.fault ≡ JournalFault → writer.new ≡ writer.old) }
-    ensures journal_failed { IfErr result (λ unstayed. unstayed.fault ≡ JournalFault → OneKnows K.failed unstayed.pens.items) }
+    ensures journal_failed { IfErr result (λ unstayed. unstayed.fault ≡ JournalFault → OneKnows K.failed unstayed.committers.items) }
     ensures write { IsErrAnd result (λ unstayed. unstayed.fault ≡ WriteFault) ↔ IsTrue (W.failed writer.new) }
 
     // What stands behind a fault: the seats were on duty, and the clients that came to them were served, but for the seats for
-    // which no thread could be started, and any behind them; and the pens are of those on duty. Where a port was lost, no more
+    // which no thread could be started, and any behind them; and the committers are of those on duty. Where a port was lost, no more
     // clients come by it, where it is known who comes. Behind a write fault a part of the last line is written, from its start.
     ensures fault { IfErr result (λ unstayed. IsStayFault K.kept L.opened L.parts (map (λ post. P.coming post.port) company.posts.items)
-        (map (λ post. post.sitting) company.posts.items) (B.seat company.onlooker) unstayed.pens.items (W.written writer.old) (W.written writer.new) unstayed.fault) }
+        (map (λ post. post.sitting) company.posts.items) (B.seat company.onlooker) unstayed.committers.items (W.written writer.old) (W.written writer.new) unstayed.fault) }
 {
     let Company { posts, onlooker } = company;
     let Relieved {
@@ -327,15 +331,19 @@ pub fn stay<
         posts,
         onlooker,
     );
-    let Parted { seats, pens } = parted;
+    let Parted { seats, committers } = parted;
     if let Some(fault) = fault {
         desk.end(rt);
-        return Err(Unstayed { fault, pens });
+        return Err(Unstayed { fault, committers });
     }
     let seats = with_looker(seats, onlooker.into_seat());
     let told = last_sight(seats.as_slice());
     match close_desk(rt, desk, seats, writer) {
-        Ok(record) => Ok(Stayed { record, told, pens }),
-        Err(fault) => Err(Unstayed { fault, pens }),
+        Ok(record) => Ok(Stayed {
+            record,
+            told,
+            committers,
+        }),
+        Err(fault) => Err(Unstayed { fault, committers }),
     }
 }

@@ -3,7 +3,7 @@ use Rattle.std.proofs.Common.{◌≡◌, ℕ, zero, suc, ◌≤◌, ◌⊎◌, �
 use Rattle.std.proofs.lemmas.Option.{none-some, same_Some}
 use Rattle.std.specs.Prelude.{slice_get}
 use Rattle.rbc_journal.specs.Journal.{recovered, IsBeforeOrAfter}
-use Rattle.rbc_scribe.specs.Told.{AreTold, HasLines}
+use Rattle.rbc_group_commit.specs.Told.{AreTold, HasLines}
 
 module _ {A : Type 0} where
   -- what stands in the front stands in the whole

@@ -2,8 +2,8 @@
 use Rattle.std.proofs.Common.{◌≡◌, ℕ, ◌<◌, List, [], ◌∷◌, ◌++◌, length, refl, ap, ◌∙◌, subst, arith, Some}
 use Rattle.std.specs.Prelude.{slice_get}
 use mathlib.Core.List.{IsPrefix}
-use Rattle.rbc_scribe.specs.Marks.{last_of, latest, no_stamp, HasLine}
-use Rattle.rbc_scribe.specs.declared.stamp.Stamp.{Stamp}
+use Rattle.rbc_group_commit.specs.Marks.{last_of, latest, no_stamp, HasLine}
+use Rattle.rbc_group_commit.specs.declared.stamp.Stamp.{Stamp}
 
 last_added : (d : Stamp) (xs : List Stamp) (s : Stamp) → last_of d (xs ++ s ∷ []) ≡ s
 last_added d [] s = refl

@@ -5,12 +5,12 @@ use Rattle.rbc_journal.specs.Device.{LeavesOnly}
 use Rattle.rbc_journal.specs.Journal.{recovered, IsBeforeOrAfter}
 use Rattle.rbc_journal.specs.Settled.{IsSettled, staged}
 use Rattle.rbc_journal.specs.declared.journal.Journal.{Journal}
-use Rattle.rbc_scribe.specs.Told.{AreTold, HasLines}
-use Rattle.rbc_scribe.specs.Stamps.{stamp_of, Lasts, EachLasts}
-use Rattle.rbc_scribe.specs.Pages.{IsWhole, AllLast}
-use Rattle.rbc_scribe.specs.declared.stamp.Stamp.{Stamp}
+use Rattle.rbc_group_commit.specs.Told.{AreTold, HasLines}
+use Rattle.rbc_group_commit.specs.Stamps.{stamp_of, Lasts, EachLasts}
+use Rattle.rbc_group_commit.specs.Pages.{IsWhole, AllLast}
+use Rattle.rbc_group_commit.specs.declared.stamp.Stamp.{Stamp}
 use mathlib.Core.List.{IsPrefix}
-use Rattle.rbc_scribe.proofs.FileLemmas.{by_place, front_get, told_front, before_or_after}
+use Rattle.rbc_group_commit.proofs.FileLemmas.{by_place, front_get, told_front, before_or_after}
 
 module _ {D : Type 0} (seen : D → List ℕ) (may_leave : D → List ℕ → Type 0) where
   -- a line more is staged

@@ -1,6 +1,6 @@
 -- The stamps of a journal: the last one, and how many lines they stand for.
 use Rattle.std.specs.Prelude.{ℕ, ◌≡◌, ◌<◌, List, [], ◌∷◌, slice_get, Some}
-use Rattle.rbc_scribe.specs.declared.stamp.Stamp.{Stamp}
+use Rattle.rbc_group_commit.specs.declared.stamp.Stamp.{Stamp}
 
 -- the last of these stamps
 abbrev pub last_of : Stamp → List Stamp → Stamp

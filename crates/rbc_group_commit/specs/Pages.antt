@@ -3,9 +3,9 @@ use Rattle.std.specs.Prelude.{◌≡◌, ◌≤◌, ◌+◌, ◌++◌, ℕ, Bool
 use Rattle.rbc_journal.specs.Journal.{recovered}
 use Rattle.rbc_journal.specs.Settled.{IsSettled, staged}
 use Rattle.rbc_journal.specs.declared.journal.Journal.{Journal}
-use Rattle.rbc_scribe.specs.Told.{AreTold}
-use Rattle.rbc_scribe.specs.Stamps.{Lasts}
-use Rattle.rbc_scribe.specs.declared.stamp.Stamp.{Stamp}
+use Rattle.rbc_group_commit.specs.Told.{AreTold}
+use Rattle.rbc_group_commit.specs.Stamps.{Lasts}
+use Rattle.rbc_group_commit.specs.declared.stamp.Stamp.{Stamp}
 
 -- the file, what was told of the history, how many lines are on the disk, how many with those that are staged, and whether the journal has failed
 pub record PageOf (D T : Type 0) : Type 0 where

@@ -2,8 +2,8 @@
 use Rattle.std.specs.Prelude.{◌≡◌, ◌≤◌, ℕ, List, length, slice_get, Some}
 use Rattle.rbc_journal.specs.Journal.{recovered}
 use Rattle.rbc_journal.specs.declared.journal.Journal.{Journal}
-use Rattle.rbc_scribe.specs.Told.{HasLines}
-use Rattle.rbc_scribe.specs.declared.stamp.Stamp.{Stamp}
+use Rattle.rbc_group_commit.specs.Told.{HasLines}
+use Rattle.rbc_group_commit.specs.declared.stamp.Stamp.{Stamp}
 
 -- a journal at this moment, and how many lines its file stands for
 abbrev pub stamp_of : {D : Type 0} → (D → List ℕ) → (D → ℕ) → Journal D → Stamp

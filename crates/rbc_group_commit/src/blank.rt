@@ -1,4 +1,4 @@
-//! What a scribe is opened with.
+//! What a group commit is opened with.
 
 use crate::marks::{Glimpse, Head};
 use logbook::{Seen, Start, Word};

@@ -2,22 +2,22 @@
 
 ghost use Rattle.std.specs.Prelude.{◌≡◌, ◌<◌};
 ghost use mathlib.Core.List.{IsPrefix};
-ghost use Rattle.rbc_scribe.specs.Marks.{latest};
+ghost use Rattle.rbc_group_commit.specs.Marks.{latest};
 
-use crate::ScribeName;
+use crate::CommitName;
 use crate::marks::Mark;
 use std::marker::Model;
 
-/// A seat's pen, with which it lays one line at a time. Contracts see the stamps that it was given, in order.
+/// A seat's committer, with which it lays one line at a time. Contracts see the stamps that it was given, in order.
 #[derive(Drop)]
-pub struct Pen<N: ScribeName> {
+pub struct Committer<N: CommitName> {
     pub(crate) slot: usize,
     pub(crate) mark: Mark<N>,
 }
 
-impl<N: ScribeName> Model for Pen<N> {
+impl<N: CommitName> Model for Committer<N> {
     ghost use Rattle.std.specs.Prelude.{◌<◌, List};
-    ghost use Rattle.rbc_scribe.specs.declared.stamp.Stamp.{Stamp};
+    ghost use Rattle.rbc_group_commit.specs.declared.stamp.Stamp.{Stamp};
 
     ghost Value = { List Stamp };
 
@@ -26,13 +26,13 @@ impl<N: ScribeName> Model for Pen<N> {
     ghost invariant = { λ p. p.slot < 72 };
 }
 
-impl<N: ScribeName> Pen<N> {
-    /// The pen for a slot.
-    pub(crate) fn new(slot: usize, mark: Mark<N>) -> Pen<N>
+impl<N: CommitName> Committer<N> {
+    /// The committer for a slot.
+    pub(crate) fn new(slot: usize, mark: Mark<N>) -> Committer<N>
         requires { slot < 72 }
         ensures { result ≡ mark }
     {
-        Pen { slot, mark }
+        Committer { slot, mark }
     }
 
     /// Is given what the mark has too.

@@ -1,16 +1,16 @@
-//! The scribe.
+//! The group commit.
 
 ghost use Rattle.std.specs.Prelude.{◌≡◌, ◌<◌, ◌≤◌, ◌∷◌, [], length, replicate, vec_len, vec_capacity, IfOk, IfErr, OnOk, OnErr, IfSome};
 ghost use mathlib.Core.List.{IsPrefix};
 ghost use Rattle.rbc_journal.specs.Journal.{recovered};
 ghost use Rattle.rbc_journal.specs.Settled.{staged, IsSettled};
-ghost use Rattle.rbc_scribe.specs.Marks.{latest, HasLine};
-ghost use Rattle.rbc_scribe.specs.Stamps.{stamp_of};
-ghost use Rattle.rbc_scribe.specs.Told.{AreTold};
+ghost use Rattle.rbc_group_commit.specs.Marks.{latest, HasLine};
+ghost use Rattle.rbc_group_commit.specs.Stamps.{stamp_of};
+ghost use Rattle.rbc_group_commit.specs.Told.{AreTold};
 
 use crate::marks::Mark;
-use crate::tray::{MOST_PENS, Tray};
-use crate::{Blank, Line, Page, Pen, ScribeName, Told};
+use crate::waiting_lines::{MOST_COMMITTERS, WaitingLines};
+use crate::{Blank, CommitName, Committer, Line, Page, Told};
 use rbc_journal::{Device, Journal, JournalFault};
 use std::alloc::{AllocError, Global};
 use std::sync::{Condvar, Mutex, Wait};
@@ -23,16 +23,16 @@ pub struct NotKept;
 
 /// A journal that many seats write to. Each lays the line of its entry, and one writes for all that wait.
 #[derive(Drop)]
-pub struct Scribe<T: Told + Drop, D: Device, N: ScribeName> {
-    tray: Mutex<Tray<T, N>>,
+pub struct GroupCommit<T: Told + Drop, D: Device, N: CommitName> {
+    waiting: Mutex<WaitingLines<T, N>>,
     page: Mutex<Page<T, D, N>>,
     noted: Condvar,
 }
 
-/// How many bytes the lines of all pens have at most, each with its line feed and its gate.
-const ROOM: usize = MOST_PENS * 4_098;
+/// How many bytes the lines of all committers have at most, each with its line feed and its gate.
+const ROOM: usize = MOST_COMMITTERS * 4_098;
 
-/// What a scribe starts with: a journal that is settled, what was told of the history that its lines tell, and how many
+/// What a group commit starts with: a journal that is settled, what was told of the history that its lines tell, and how many
 /// lines it has.
 pub struct Start<T: Told + Drop, D: Device> {
     /// The journal.
@@ -43,51 +43,55 @@ pub struct Start<T: Told + Drop, D: Device> {
     pub lines: u64,
 }
 
-/// A slot for each pen.
+/// A slot for each committer.
 fn empty_slots<T: Told + Drop>(alloc: Global) -> Result<Vec<Option<Line<T>>>, AllocError>
     ensures { IfOk result (λ slots. vec_len slots ≡ 72) }
 {
-    let mut slots = Vec::with_capacity(alloc, MOST_PENS)?;
-    for _slot in 0..MOST_PENS {
+    let mut slots = Vec::with_capacity(alloc, MOST_COMMITTERS)?;
+    for _slot in 0..MOST_COMMITTERS {
         slots.push_reserved(None);
     }
     Ok(slots)
 }
 
-/// This number of pens, in the room that is there for them.
-fn pens_with<N: ScribeName>(mut pens: Vec<Pen<N>>, count: usize, mark: &Mark<N>) -> Vec<Pen<N>>
-    requires empty { vec_len pens ≡ 0 }
-    requires room { count ≤ vec_capacity pens }
+/// This number of committers, in the room that is there for them.
+fn committers_with<N: CommitName>(
+    mut committers: Vec<Committer<N>>,
+    count: usize,
+    mark: &Mark<N>,
+) -> Vec<Committer<N>>
+    requires empty { vec_len committers ≡ 0 }
+    requires room { count ≤ vec_capacity committers }
     requires few { count ≤ 72 }
     ensures { result.items ≡ replicate count mark.now }
 {
     for slot in 0..count {
-        pens.push_reserved(Pen::new(slot, mark.again()));
+        committers.push_reserved(Committer::new(slot, mark.again()));
     }
-    pens
+    committers
 }
 
-impl<T: Told + Drop, D: Device, N: ScribeName> Scribe<T, D, N> {
-    /// A scribe over a journal each of whose lines tells the entry at its place, and this number of pens, which have the
+impl<T: Told + Drop, D: Device, N: CommitName> GroupCommit<T, D, N> {
+    /// A group commit over a journal each of whose lines tells the entry at its place, and this number of committers, which have the
     /// first stamp. The file is not asked for anything.
     ///
     /// # Errors
     ///
-    /// `Memory`, or `Full`, where the file has no room for a line of each pen. The file comes back.
+    /// `Memory`, or `Full`, where the file has no room for a line of each committer. The file comes back.
     pub fn open<R: Wait>(
         rt: &R,
         alloc: Global,
         start: Start<T, D>,
-        pens: usize,
+        committers: usize,
         blank: Blank,
-    ) -> Result<(Scribe<T, D, N>, Vec<Pen<N>>), (JournalFault, D)>
+    ) -> Result<(GroupCommit<T, D, N>, Vec<Committer<N>>), (JournalFault, D)>
         requires settled { IsSettled D.seen D.may_leave start.journal }
         requires none_staged { staged start.journal ≡ [] }
         requires count { start.lines ≡ length (recovered (D.seen start.journal.device)) }
         requires told { AreTold (T.tells start.told) (recovered (D.seen start.journal.device)) }
-        requires few { pens ≤ 72 }
+        requires few { committers ≤ 72 }
         requires book { blank ≡ N.book }
-        ensures pens { IfOk result (λ opened. opened.1.items ≡ replicate pens (stamp_of D.seen D.moment start.journal ∷ [])) }
+        ensures committers { IfOk result (λ opened. opened.1.items ≡ replicate committers (stamp_of D.seen D.moment start.journal ∷ [])) }
         ensures refused { IfErr result (λ fault. (fault.1 ≡ start.journal.device) × (fault.0 ≡ JournalFault.Device → ⊥)) }
     {
         let Start {
@@ -98,23 +102,24 @@ impl<T: Told + Drop, D: Device, N: ScribeName> Scribe<T, D, N> {
         if let Err(fault) = journal.reserve(ROOM) {
             return Err((fault, journal.into_device()));
         }
-        let (Ok(slots), Ok(room)) = (empty_slots(alloc), Vec::with_capacity(alloc, pens)) else {
+        let (Ok(slots), Ok(room)) = (empty_slots(alloc), Vec::with_capacity(alloc, committers))
+        else {
             return Err((JournalFault::Memory, journal.into_device()));
         };
         let (page, mark) = Page::new(rt, journal, told, lines, blank);
-        let pens = pens_with(room, pens, &mark);
-        let tray = Tray {
+        let committers = committers_with(room, committers, &mark);
+        let waiting = WaitingLines {
             slots,
             latest: mark,
             is_writing: false,
             has_failed: false,
         };
-        let scribe = Scribe {
-            tray: Mutex::new(tray),
+        let group_commit = GroupCommit {
+            waiting: Mutex::new(waiting),
             page: Mutex::new(page),
             noted: Condvar::new(),
         };
-        Ok((scribe, pens))
+        Ok((group_commit, committers))
     }
 
     /// Lays the line of an entry, and returns once it is on the disk. It waits until the lines of all entries before it are
@@ -124,16 +129,21 @@ impl<T: Told + Drop, D: Device, N: ScribeName> Scribe<T, D, N> {
     ///
     /// The journal has failed, now or before.
     #[tactic(auto, using(crate::proofs::MarkLemmas::has_line))]
-    pub fn keep<R: Wait>(&self, rt: &R, pen: &mut Pen<N>, line: Line<T>) -> Result<(), NotKept>
-        ensures kept { OnOk result (HasLine pen.new line) }
-        ensures stays { IsPrefix pen.old pen.new }
-        ensures refused { OnErr result (pen.new ≡ pen.old) }
+    pub fn keep<R: Wait>(
+        &self,
+        rt: &R,
+        committer: &mut Committer<N>,
+        line: Line<T>,
+    ) -> Result<(), NotKept>
+        ensures kept { OnOk result (HasLine committer.new line) }
+        ensures stays { IsPrefix committer.old committer.new }
+        ensures refused { OnErr result (committer.new ≡ committer.old) }
     {
         let place = line.place();
-        self.tray.lock(rt).lay(pen.slot, line);
+        self.waiting.lock(rt).lay(committer.slot, line);
         let mark = self.follow(rt, place)?;
         mark.known();
-        pen.note(mark);
+        committer.note(mark);
         Ok(())
     }
 
@@ -162,24 +172,26 @@ impl<T: Told + Drop, D: Device, N: ScribeName> Scribe<T, D, N> {
     fn turn<R: Wait>(&self, rt: &R, place: u64) -> Result<Option<Mark<N>>, NotKept>
         ensures { IfOk result (λ turn. IfSome turn (λ mark. place < (latest mark).lines)) }
     {
-        let mut tray = self
-            .noted
-            .wait_while(rt, self.tray.lock(rt), |tray| tray.must_wait(place));
-        (*tray).turn(place)
+        let mut waiting = self.noted.wait_while(
+            rt,
+            self.waiting.lock(rt),
+            |waiting| waiting.must_wait(place),
+        );
+        (*waiting).turn(place)
     }
 
     /// Writes the lines that wait.
     fn write<R: Wait>(&self, rt: &R) {
         let mut page = self.page.lock(rt);
-        self.tray.lock(rt).hand_over(rt, &mut *page);
+        self.waiting.lock(rt).hand_over(rt, &mut *page);
         let mark = (*page).commit(rt);
-        self.tray.lock(rt).note(mark);
+        self.waiting.lock(rt).note(mark);
         self.noted.notify_all();
     }
 
     /// The page, once no seat writes any more.
     pub fn close(self) -> Page<T, D, N> {
-        let Scribe { page, .. } = self;
+        let GroupCommit { page, .. } = self;
         page.into_inner()
     }
 }

@@ -2,21 +2,21 @@
 #![tactic(auto)]
 
 mod blank;
+mod committer;
+mod group_commit;
 mod line;
 mod marks;
 mod name;
 mod page;
-mod pen;
-mod scribe;
 mod stamp;
 mod told;
-mod tray;
+mod waiting_lines;
 
 pub use blank::Blank;
+pub use committer::Committer;
+pub use group_commit::{GroupCommit, NotKept, Start};
 pub use line::Line;
-pub use name::ScribeName;
+pub use name::CommitName;
 pub use page::Page;
-pub use pen::Pen;
-pub use scribe::{NotKept, Scribe, Start};
 pub use stamp::{Law, Stamp};
 pub use told::Told;

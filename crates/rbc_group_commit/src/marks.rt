@@ -3,11 +3,11 @@
 ghost use Rattle.std.specs.Prelude.{◌≡◌, ◌+◌, ◌^◌, ◌<◌, ◌++◌, ◌∷◌, [], length, IfSome};
 ghost use mathlib.Core.List.{IsPrefix};
 ghost use Rattle.rbc_logbook_laws.specs.Counts.{head_of};
-ghost use Rattle.rbc_scribe.specs.Marks.{latest};
-ghost use Rattle.rbc_scribe.specs.Stamps.{stamp_of};
+ghost use Rattle.rbc_group_commit.specs.Marks.{latest};
+ghost use Rattle.rbc_group_commit.specs.Stamps.{stamp_of};
 
 use crate::stamp::{Add, Law, Nothing};
-use crate::{Blank, ScribeName, Stamp};
+use crate::{Blank, CommitName, Stamp};
 use logbook::{Offer, Seen, Word};
 use rbc_journal::{Device, Journal};
 use std::marker::{Model, PhantomData};
@@ -21,17 +21,17 @@ pub(crate) type Glimpse = Seen<Stamp, u64, Law>;
 
 /// Stamps that were seen, with how many lines the last of them has. Contracts see them in order.
 #[derive(Drop)]
-pub(crate) struct Mark<N: ScribeName> {
+pub(crate) struct Mark<N: CommitName> {
     count: u64,
     lines: u64,
     seen: Glimpse,
     of: PhantomData<N>,
 }
 
-impl<N: ScribeName> Model for Mark<N> {
+impl<N: CommitName> Model for Mark<N> {
     ghost use Rattle.std.specs.Prelude.{◌≡◌, ◌<◌, List, length};
-    ghost use Rattle.rbc_scribe.specs.Marks.{latest};
-    ghost use Rattle.rbc_scribe.specs.declared.stamp.Stamp.{Stamp};
+    ghost use Rattle.rbc_group_commit.specs.Marks.{latest};
+    ghost use Rattle.rbc_group_commit.specs.declared.stamp.Stamp.{Stamp};
 
     ghost Value = { List Stamp };
 
@@ -40,7 +40,7 @@ impl<N: ScribeName> Model for Mark<N> {
     ghost invariant = { λ m. (m.count ≡ length m.seen.log) × (0 < m.count) × (m.lines ≡ (latest m.seen.log).lines) × (m.seen.book ≡ N.book) };
 }
 
-impl<N: ScribeName> Mark<N> {
+impl<N: CommitName> Mark<N> {
     /// A copy of the mark.
     pub(crate) fn again(&self) -> Mark<N>
         ensures { result ≡ self.now }
@@ -134,17 +134,17 @@ fn advance<R: Wait, D: Device>(
 
 /// All stamps of a journal. Contracts see them in order.
 #[derive(Drop)]
-pub(crate) struct Marks<N: ScribeName> {
+pub(crate) struct Marks<N: CommitName> {
     head: Head,
     count: u64,
     seen: Glimpse,
     of: PhantomData<N>,
 }
 
-impl<N: ScribeName> Model for Marks<N> {
+impl<N: CommitName> Model for Marks<N> {
     ghost use Rattle.std.specs.Prelude.{◌≡◌, List, length};
     ghost use Rattle.rbc_logbook_laws.specs.Counts.{head_of};
-    ghost use Rattle.rbc_scribe.specs.declared.stamp.Stamp.{Stamp};
+    ghost use Rattle.rbc_group_commit.specs.declared.stamp.Stamp.{Stamp};
 
     ghost Value = { List Stamp };
 
@@ -153,7 +153,7 @@ impl<N: ScribeName> Model for Marks<N> {
     ghost invariant = { λ m. (m.head ≡ head_of N.book) × (m.count ≡ length m.seen.log) × (m.seen.book ≡ N.book) };
 }
 
-impl<N: ScribeName> Marks<N> {
+impl<N: CommitName> Marks<N> {
     /// None yet.
     pub(crate) fn new(blank: Blank) -> Marks<N>
         requires { blank ≡ N.book }

@@ -4,13 +4,13 @@ ghost use Rattle.std.specs.Prelude.{◌≡◌, ◌+◌, ◌∷◌, ℕ, [], leng
 ghost use Rattle.rbc_journal.specs.Device.{Only};
 ghost use Rattle.rbc_journal.specs.Journal.{recovered};
 ghost use Rattle.rbc_journal.specs.Settled.{staged, IsSettled, HasRoom};
-ghost use Rattle.rbc_scribe.specs.Marks.{latest};
-ghost use Rattle.rbc_scribe.specs.Pages.{page_of};
-ghost use Rattle.rbc_scribe.specs.Stamps.{stamp_of, EachLasts};
-ghost use Rattle.rbc_scribe.specs.Told.{AreTold};
+ghost use Rattle.rbc_group_commit.specs.Marks.{latest};
+ghost use Rattle.rbc_group_commit.specs.Pages.{page_of};
+ghost use Rattle.rbc_group_commit.specs.Stamps.{stamp_of, EachLasts};
+ghost use Rattle.rbc_group_commit.specs.Told.{AreTold};
 
 use crate::marks::{Mark, Marks};
-use crate::{Blank, Line, Pen, ScribeName, Told};
+use crate::{Blank, CommitName, Committer, Line, Told};
 use rbc_journal::{Device, Journal, JournalFault};
 use std::marker::Model;
 use std::sync::Wait;
@@ -19,7 +19,7 @@ use std::sync::Wait;
 /// what was told of the history, how many lines are on the disk, how many with those that are staged, and whether the
 /// journal has failed.
 #[derive(Drop)]
-pub struct Page<T: Told + Drop, D: Device, N: ScribeName> {
+pub struct Page<T: Told + Drop, D: Device, N: CommitName> {
     journal: Journal<D>,
     told: T,
     lines: u64,
@@ -28,9 +28,9 @@ pub struct Page<T: Told + Drop, D: Device, N: ScribeName> {
     marks: Marks<N>,
 }
 
-impl<T: Told + Drop, D: Device, N: ScribeName> Model for Page<T, D, N> {
+impl<T: Told + Drop, D: Device, N: CommitName> Model for Page<T, D, N> {
     ghost use Rattle.std.specs.Prelude.{◌≡◌, ◌≤◌, false};
-    ghost use Rattle.rbc_scribe.specs.Pages.{PageOf, page_of, IsWhole, AllLast};
+    ghost use Rattle.rbc_group_commit.specs.Pages.{PageOf, page_of, IsWhole, AllLast};
 
     ghost Value = { PageOf D T };
 
@@ -49,7 +49,7 @@ fn make_room<D: Device, R: Wait>(rt: &R, journal: &mut Journal<D>, bytes: usize)
     ensures staged { staged journal.new ≡ staged journal.old }
     ensures room { IsTrue result → HasRoom journal.new bytes }
 {
-    // Room for the lines of all pens was made before, so memory is not refused.
+    // Room for the lines of all committers was made before, so memory is not refused.
     for _ in rt.forever() {
         match journal.reserve(bytes) {
             Ok(()) => return true,
@@ -60,7 +60,7 @@ fn make_room<D: Device, R: Wait>(rt: &R, journal: &mut Journal<D>, bytes: usize)
     unreachable!()
 }
 
-impl<T: Told + Drop, D: Device, N: ScribeName> Page<T, D, N> {
+impl<T: Told + Drop, D: Device, N: CommitName> Page<T, D, N> {
     /// A page over a journal that is settled, with this number of lines, and its first stamp.
     pub(crate) fn new<R: Wait>(
         rt: &R,
@@ -137,11 +137,11 @@ impl<T: Told + Drop, D: Device, N: ScribeName> Page<T, D, N> {
         Some(self.marks.stamp(rt, &self.journal, self.lines))
     }
 
-    /// A crash at any moment since a stamp that the pen was given left a file with the stamp's lines at least.
-    pub fn vouch<R: Wait>(&self, rt: &R, pen: &Pen<N>)
-        ensures { EachLasts D.moment D.left_since (T.tells self.now.told) self.now.device pen.now }
+    /// A crash at any moment since a stamp that the committer was given left a file with the stamp's lines at least.
+    pub fn vouch<R: Wait>(&self, rt: &R, committer: &Committer<N>)
+        ensures { EachLasts D.moment D.left_since (T.tells self.now.told) self.now.device committer.now }
     {
-        self.marks.has(rt, &pen.mark);
+        self.marks.has(rt, &committer.mark);
     }
 
     /// What was told of the history.

@@ -51,7 +51,7 @@ impl Play<Stamp, u64> for Add {
 
 impl<D: Device> Plain<Journal<D>, Stamp, u64> for Add {
     ghost use Rattle.std.specs.Prelude.{None};
-    ghost use Rattle.rbc_scribe.specs.Stamps.{stamp_of};
+    ghost use Rattle.rbc_group_commit.specs.Stamps.{stamp_of};
 
     ghost ask = { λ journal. stamp_of D.seen D.moment journal };
 

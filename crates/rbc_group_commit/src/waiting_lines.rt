@@ -1,20 +1,20 @@
 //! The lines that wait.
 
 ghost use Rattle.std.specs.Prelude.{◌≡◌, ◌<◌, length, slice_get, true, Some, IfOk, IfSome, vec_len};
-ghost use Rattle.rbc_scribe.specs.Marks.{latest};
-ghost use Rattle.rbc_scribe.specs.Pages.{PageOf};
+ghost use Rattle.rbc_group_commit.specs.Marks.{latest};
+ghost use Rattle.rbc_group_commit.specs.Pages.{PageOf};
 
 use crate::marks::Mark;
-use crate::{Line, NotKept, Page, ScribeName, Told};
+use crate::{CommitName, Line, NotKept, Page, Told};
 use rbc_journal::Device;
 use std::sync::Wait;
 
-/// How many pens a scribe has at most: as many lines are written together.
-pub(crate) const MOST_PENS: usize = 72;
+/// How many committers a group commit has at most: as many lines are written together.
+pub(crate) const MOST_COMMITTERS: usize = 72;
 
-/// The lines that wait, each in the slot of its pen, and how far the writing is.
+/// The lines that wait, each in the slot of its committer, and how far the writing is.
 #[derive(Drop)]
-pub(crate) struct Tray<T: Told + Drop, N: ScribeName> {
+pub(crate) struct WaitingLines<T: Told + Drop, N: CommitName> {
     pub(crate) slots: Vec<Option<Line<T>>>,
     pub(crate) latest: Mark<N>,
     pub(crate) is_writing: bool,
@@ -55,7 +55,7 @@ fn put<T: Told + Drop>(slots: &mut Vec<Option<Line<T>>>, slot: usize, line: Line
     slots[slot] = Some(line);
 }
 
-impl<T: Told + Drop, N: ScribeName> Tray<T, N> {
+impl<T: Told + Drop, N: CommitName> WaitingLines<T, N> {
     /// Lays a line.
     pub(crate) fn lay(&mut self, slot: usize, line: Line<T>)
         requires { slot < 72 }
@@ -91,7 +91,7 @@ impl<T: Told + Drop, N: ScribeName> Tray<T, N> {
 
     /// Hands over the lines that follow those on the disk, one after the other, up to the first that is not laid.
     pub(crate) fn hand_over<R: Wait, D: Device>(&mut self, rt: &R, page: &mut Page<T, D, N>) {
-        for _line in 0..MOST_PENS {
+        for _line in 0..MOST_COMMITTERS {
             let Some(place) = page.wanted() else {
                 return;
             };

@@ -13,9 +13,9 @@ use Rattle.rbc_model.specs.SessionText.{SessionLine, parse_session}
 use Rattle.rbc_model.specs.SessionReply.{BadLine, Memory, refused_reply}
 use Rattle.rbc_server.specs.Changes.{Comes, Goes}
 use Rattle.rbc_server.specs.Records.{history_on, begin_of, HistoryOnTrack, with_entry}
-use Rattle.rbc_session_laws.specs.Demands.{looked_up}
+use Rattle.rbc_session_laws.specs.Commands.{resolve}
 use Rattle.rbc_session_laws.specs.Turns.{AnswersLine}
-use Rattle.rbc_session_laws.specs.Answers.{Answer, demand_answer, line_answer}
+use Rattle.rbc_session_laws.specs.Answers.{Answer, command_answer, line_answer}
 use Rattle.rbc_session_laws.proofs.LineLemmas.{lines_are_answered, given_up_adds_none}
 use Rattle.rbc_session_laws.proofs.RetellingLemmas.{entries_are_told_again}
 use Rattle.rbc_kept.specs.Adds.{Adds, Gains}
@@ -36,14 +36,14 @@ adds_of begin before line reply entry form answers =
 pub same_adds : (begin : Beginning) (before : List Entry) (line text : List ℕ) (entry : Entry) → parse_session text ≡ parse_session line → Adds begin before line entry → Adds begin before text entry
 unfolding line_answer
 same_adds begin before line text entry says adds =
-    ap (λ read. (demand_answer begin before (result_map_both (λ said. said) BadLine read >>= looked_up begin.track)).added) says ∙ adds
+    ap (λ read. (command_answer begin before (result_map_both (λ said. said) BadLine read >>= resolve begin.track)).added) says ∙ adds
 
 -- a line adds what the request in it does
 pub adds_said : (begin : Beginning) (before : List Entry) (line : List ℕ) (said : SessionLine) (entry : Entry) → parse_session line ≡ Ok said
-    → (demand_answer begin before (looked_up begin.track said)).added ≡ Some entry → Adds begin before line entry
+    → (command_answer begin before (resolve begin.track said)).added ≡ Some entry → Adds begin before line entry
 unfolding line_answer
 adds_said begin before line said entry read adds =
-    ap (λ r. (demand_answer begin before (result_map_both (λ x. x) BadLine r >>= looked_up begin.track)).added) read ∙ adds
+    ap (λ r. (command_answer begin before (result_map_both (λ x. x) BadLine r >>= resolve begin.track)).added) read ∙ adds
 
 longer : (entries : List Entry) → length entries < length (entries ++ []) → ⊥
 longer entries more = let same = length-append entries (let none : List Entry = [] in none) in absurd (omega (arith, more, same))

@@ -20,45 +20,45 @@ use Rattle.rbc_model.specs.SessionReply.{SessionRefusal, Full}
 use Rattle.rbc_server.proofs.CentreLemmas.{line_comes}
 use Rattle.rbc_server.specs.Changes.{Comes}
 use Rattle.rbc_server.specs.Records.{begin_of, HistoryOnTrack, with_entry}
-use Rattle.rbc_session_laws.specs.declared.demand.Demand.{Demand}
-use Rattle.rbc_session_laws.specs.declared.demand.Demand.TheVariants.{Nothing, Event, Authority, Show}
-use Rattle.rbc_session_laws.specs.Demands.{demand_in}
+use Rattle.rbc_session_laws.specs.declared.command.Command.{Command}
+use Rattle.rbc_session_laws.specs.declared.command.Command.TheVariants.{Nothing, Event, Authority, Show}
+use Rattle.rbc_session_laws.specs.Commands.{command_in}
 use Rattle.rbc_session_laws.specs.Turns.{AnswersAuthority}
-use Rattle.rbc_session_laws.specs.Answers.{refused, told_answer, grant_answer, asker_answer, demand_answer, line_answer}
+use Rattle.rbc_session_laws.specs.Answers.{refused, told_answer, grant_answer, asker_answer, command_answer, line_answer}
 use Rattle.rbc_kept.specs.Adds.{Follows, FollowsSaid}
 use Rattle.rbc_kept.proofs.AddingLemmas.{adds_of, grown, unchanged}
 
 -- what a line adds, by what it says
-added_by : (begin : Beginning) (before : List Entry) (line : List ℕ) (demand : Result Demand SessionRefusal) → demand_in begin.track line ≡ demand
-    → (line_answer begin before line).added ≡ (demand_answer begin before demand).added
+added_by : (begin : Beginning) (before : List Entry) (line : List ℕ) (command : Result Command SessionRefusal) → command_in begin.track line ≡ command
+    → (line_answer begin before line).added ≡ (command_answer begin before command).added
 unfolding line_answer
-added_by begin before line demand e = ap (λ d. (demand_answer begin before d).added) e
+added_by begin before line command e = ap (λ d. (command_answer begin before d).added) e
 
-pub says_nothing : (track : Track) (history : HistoryOnTrack) (line : List ℕ) (found : Demand) → track ≡ history.track → found ≡ Nothing → Ok found ≡ demand_in track line → Follows false history line history
+pub says_nothing : (track : Track) (history : HistoryOnTrack) (line : List ℕ) (found : Command) → track ≡ history.track → found ≡ Nothing → Ok found ≡ command_in track line → Follows false history line history
 says_nothing track history line found is nothing e = (
   added_by (begin_of history) history.entries line (Ok Nothing)
-      (subst (λ t. demand_in t line ≡ Ok Nothing) is (subst (λ (d : Demand). demand_in track line ≡ Ok d) nothing (sym e))),
+      (subst (λ t. command_in t line ≡ Ok Nothing) is (subst (λ (d : Command). command_in track line ≡ Ok d) nothing (sym e))),
   refl,
 )
 
-pub shows : (track : Track) (history : HistoryOnTrack) (line : List ℕ) (inquiry : Inquiry) (found : Demand) → track ≡ history.track → found ≡ Show inquiry → Ok found ≡ demand_in track line → Follows false history line history
+pub shows : (track : Track) (history : HistoryOnTrack) (line : List ℕ) (inquiry : Inquiry) (found : Command) → track ≡ history.track → found ≡ Show inquiry → Ok found ≡ command_in track line → Follows false history line history
 shows track history line inquiry found is asks e = (
   added_by (begin_of history) history.entries line (Ok (Show inquiry))
-      (subst (λ t. demand_in t line ≡ Ok (Show inquiry)) is (subst (λ (d : Demand). demand_in track line ≡ Ok d) asks (sym e))),
+      (subst (λ t. command_in t line ≡ Ok (Show inquiry)) is (subst (λ (d : Command). command_in track line ≡ Ok d) asks (sym e))),
   refl,
 )
 
-pub is_refused : (track : Track) (history : HistoryOnTrack) (line : List ℕ) (refusal : SessionRefusal) → track ≡ history.track → Err refusal ≡ demand_in track line → Follows false history line history
+pub is_refused : (track : Track) (history : HistoryOnTrack) (line : List ℕ) (refusal : SessionRefusal) → track ≡ history.track → Err refusal ≡ command_in track line → Follows false history line history
 is_refused track history line refusal is e = (
-  added_by (begin_of history) history.entries line (Err refusal) (subst (λ t. demand_in t line ≡ Err refusal) is (sym e)),
+  added_by (begin_of history) history.entries line (Err refusal) (subst (λ t. command_in t line ≡ Err refusal) is (sym e)),
   refl,
 )
 
 -- what comes of what a line says comes of the line
-pub said_follows : {E : Type 0} (result : Result Bool E) (track : Track) (before after : HistoryOnTrack) (line : List ℕ) (demand : Demand) → track ≡ before.track → Ok demand ≡ demand_in track line
-    → IfOk result (λ is_added. FollowsSaid is_added before demand after) → IfOk result (λ is_added. Follows is_added before line after)
-said_follows (Ok is_added) track before after line demand is e said = said line (subst (λ t. demand_in t line ≡ Ok demand) is (sym e))
-said_follows (Err fault) track before after line demand is e said = tt
+pub said_follows : {E : Type 0} (result : Result Bool E) (track : Track) (before after : HistoryOnTrack) (line : List ℕ) (command : Command) → track ≡ before.track → Ok command ≡ command_in track line
+    → IfOk result (λ is_added. FollowsSaid is_added before command after) → IfOk result (λ is_added. Follows is_added before line after)
+said_follows (Ok is_added) track before after line command is e said = said line (subst (λ t. command_in t line ≡ Ok command) is (sym e))
+said_follows (Err fault) track before after line command is e said = tt
 
 -- ---- what is told
 
@@ -117,7 +117,7 @@ module _ (before after : HistoryOnTrack) (train asker : ℕ) (reply : List ℕ) 
     (comes : Comes (λ begin entries said added. AnswersAuthority begin entries said added train) before reply after) where
   pub is_granted : IsInForm before.track → m < n → FollowsSaid true before (Authority asker) after
   is_granted form less = λ line said.
-      let asks : Ok (Authority train) ≡ demand_in before.track line = sym (subst (λ t. demand_in before.track line ≡ Ok (Authority t)) (sym same) said) in
+      let asks : Ok (Authority train) ≡ command_in before.track line = sym (subst (λ t. command_in before.track line ≡ Ok (Authority t)) (sym same) said) in
       let longer : length before.entries < length after.entries = omega (arith, first, last, less) in
       let g = grown before after line reply (line_comes before after line reply (Ok (Authority train)) before.track refl asks comes) longer in
       (g.0, adds_of (begin_of before) before.entries line reply g.0 form g.1, g.2)

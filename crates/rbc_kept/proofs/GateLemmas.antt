@@ -22,8 +22,8 @@ use Rattle.rbc_model.specs.SessionText.{SessionLine, Blank, words_line}
 use Rattle.rbc_model.specs.SessionReply.{BadLine}
 use Rattle.rbc_model.specs.Histories.{Beginning, Entry}
 use Rattle.rbc_model.specs.Words.{without_return, words_of, is_blank, is_text}
-use Rattle.rbc_session_laws.specs.Answers.{Answer, demand_answer, line_answer, turns_of}
-use Rattle.rbc_session_laws.specs.Demands.{looked_up}
+use Rattle.rbc_session_laws.specs.Answers.{Answer, command_answer, line_answer, turns_of}
+use Rattle.rbc_session_laws.specs.Commands.{resolve}
 use Rattle.rbc_session_laws.specs.SessionRuns.{entries_added}
 use Rattle.rbc_kept.specs.Adds.{Adds}
 use Rattle.rbc_kept.specs.Laws.{JournalsAreSessions}
@@ -58,7 +58,7 @@ request_words-gate line short =
 line_answer-gate : (begin : Beginning) (before : List Entry) (line : List ℕ) → length line < LONGEST_LINE → line_answer begin before (32 ∷ line) ≡ line_answer begin before line
 unfolding line_answer
 line_answer-gate begin before line short =
-    ap (λ read. demand_answer begin before (result_map_both (λ said. said) BadLine (read >>= (λ found. words_or_blank found)) >>= looked_up begin.track)) (request_words-gate line short)
+    ap (λ read. command_answer begin before (result_map_both (λ said. said) BadLine (read >>= (λ found. words_or_blank found)) >>= resolve begin.track)) (request_words-gate line short)
   where
     words_or_blank : Option (List (List ℕ)) → Result SessionLine LineFault
     words_or_blank found = option_map_or words_line found (Ok Blank)
@@ -118,7 +118,7 @@ module _ (begin : Beginning) where
   unfolding line_answer
   comment_added before rest short =
       ap (λ (a : Answer). a.added) (line_answer-gate begin before (35 ∷ rest) short)
-      ∙ ap (λ read. (demand_answer begin before (result_map_both (λ said. said) BadLine (read >>= (λ found. option_map_or words_line found (Ok Blank))) >>= looked_up begin.track)).added) (comment_read rest short)
+      ∙ ap (λ read. (command_answer begin before (result_map_both (λ said. said) BadLine (read >>= (λ found. option_map_or words_line found (Ok Blank))) >>= resolve begin.track)).added) (comment_read rest short)
 
   commented : (before : List Entry) (line : List ℕ) → is_comment line ≡ true → length line < LONGEST_LINE → (line_answer begin before (32 ∷ line)).added ≡ None
   commented before [] is short = absurd (no_comment is)

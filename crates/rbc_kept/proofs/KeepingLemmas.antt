@@ -80,8 +80,8 @@ module _ {D : Type 0} (seen : D → List ℕ) (may_leave : D → List ℕ → Ty
   Said = IsSaid seen may_leave moment left_since faults
 
   module _ (now next : Kept D) (reply text : List ℕ) (told : TellsRecord seen now) (said : Said now reply text next) where
-    goes_resting : next.has_failed ≡ false → Rests now reply text next → staged next.journal ≡ staged now.journal → next.resting < MOST_TOGETHER → IsGoing seen may_leave next
-    goes_resting works rests lines few =
+    goes_batched : next.has_failed ≡ false → Rests now reply text next → staged next.journal ≡ staged now.journal → next.batch < MOST_TOGETHER → IsGoing seen may_leave next
+    goes_batched works rests lines few =
         let s = said.settled works in
         let count = rests.holds.1 in
         record {
@@ -110,7 +110,7 @@ module _ {D : Type 0} (seen : D → List ℕ) (may_leave : D → List ℕ → Ty
         }
 
   module _ (first now next : Kept D) (line reply text : List ℕ) (going : IsGoing seen may_leave first) (goes : Goes first.history line reply now.history) (told : TellsRecord seen now)
-      (device : now.journal.device ≡ first.journal.device) (replies : now.replies.bytes.items ≡ first.replies.bytes.items) (resting : now.resting ≡ first.resting)
+      (device : now.journal.device ≡ first.journal.device) (replies : now.replies.bytes.items ≡ first.replies.bytes.items) (batch : now.batch ≡ first.batch)
       (said : Said now reply text next) where
     goes_next : Goes first.history line reply next.history
     goes_next = subst (λ (h : HistoryOnTrack). Goes first.history line reply h) (sym said.history) goes
@@ -128,7 +128,7 @@ module _ {D : Type 0} (seen : D → List ℕ) (may_leave : D → List ℕ → Ty
         (λ c left. staged_from (Adds (begin_of now.history)) c (recovered (seen now.journal.device)) (staged now.journal) now.history.entries told left) said.any_moment)))
 
     answered_now : next.has_failed ≡ false
-        → (Rests now reply text next × (staged next.journal ≡ staged now.journal) × (next.resting < MOST_TOGETHER))
+        → (Rests now reply text next × (staged next.journal ≡ staged now.journal) × (next.batch < MOST_TOGETHER))
         ⊎ (Writes now reply text next × (recovered (seen next.journal.device) ≡ recovered (seen now.journal.device) ++ staged now.journal) × (staged next.journal ≡ []))
         → (r : List ℕ) × Goes first.history line r next.history × IsGoing seen may_leave next × (Rests first r text next ⊎ Writes first r text next)
     answered_now works (inl (rests, lines, few)) =
@@ -136,9 +136,9 @@ module _ {D : Type 0} (seen : D → List ℕ) (may_leave : D → List ℕ → Ty
         record {
           silent = rests.silent;
           device = rests.device ∙ device;
-          holds = (rests.holds.0 ∙ ap (λ (l : List ℕ). l ++ reply) replies, rests.holds.1 ∙ ap (λ n. n + 1) resting);
+          holds = (rests.holds.0 ∙ ap (λ (l : List ℕ). l ++ reply) replies, rests.holds.1 ∙ ap (λ n. n + 1) batch);
         } in
-        (reply, goes_next, goes_resting now next reply text told said works rests lines few, inl rested)
+        (reply, goes_next, goes_batched now next reply text told said works rests lines few, inl rested)
     answered_now works (inr (writes, put, none)) =
         let wrote : Writes first reply text next =
         record {
@@ -148,7 +148,7 @@ module _ {D : Type 0} (seen : D → List ℕ) (may_leave : D → List ℕ → Ty
         } in
         (reply, goes_next, goes_written now next reply text told said works writes put none, inr wrote)
 
-    stays_now : (Rests now reply text next × (staged next.journal ≡ staged now.journal) × (next.resting < MOST_TOGETHER))
+    stays_now : (Rests now reply text next × (staged next.journal ≡ staged now.journal) × (next.batch < MOST_TOGETHER))
         ⊎ (Writes now reply text next × (recovered (seen next.journal.device) ≡ recovered (seen now.journal.device) ++ staged now.journal) × (staged next.journal ≡ []))
         → length (recovered (seen first.journal.device)) ≤ length (recovered (seen next.journal.device))
     stays_now (inl (rests, lines, few)) =
@@ -193,7 +193,7 @@ module _ {D : Type 0} (seen : D → List ℕ) (may_leave : D → List ℕ → Ty
     none_rests = λ zero. (ready.is_kept.none_waits, ready.none_held);
   }
 
-  pub goes_ready : (kept : Kept D) → IsGoing seen may_leave kept → kept.resting ≡ 0 → IsReady seen may_leave kept
+  pub goes_ready : (kept : Kept D) → IsGoing seen may_leave kept → kept.batch ≡ 0 → IsReady seen may_leave kept
   goes_ready kept going none =
       let both = going.none_rests none in
       record {

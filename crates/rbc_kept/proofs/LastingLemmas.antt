@@ -4,15 +4,15 @@ use Rattle.std.specs.Prelude.{slice_get}
 use mathlib.Core.List.{IsPrefix}
 use Rattle.rbc_server.specs.Later.{IsLater}
 use Rattle.rbc_server.specs.Records.{HistoryOnTrack}
-use Rattle.rbc_scribe.specs.Marks.{HasLine}
-use Rattle.rbc_scribe.specs.Stamps.{EachLasts}
-use Rattle.rbc_scribe.specs.declared.stamp.Stamp.{Stamp}
-use Rattle.rbc_scribe.proofs.FileLemmas.{front_get}
+use Rattle.rbc_group_commit.specs.Marks.{HasLine}
+use Rattle.rbc_group_commit.specs.Stamps.{EachLasts}
+use Rattle.rbc_group_commit.specs.declared.stamp.Stamp.{Stamp}
+use Rattle.rbc_group_commit.proofs.FileLemmas.{front_get}
 use Rattle.rbc_kept.specs.Entries.{TellsEntry}
 use Rattle.rbc_kept.specs.Lasting.{EachLeavesFirst, LinesLast}
 use Rattle.rbc_kept.proofs.LaterLemmas.{tells_later, tells_first}
 
--- what a pen has kept it has kept with more stamps
+-- what a committer has kept it has kept with more stamps
 pub has_still : (first more : List Stamp) (place : ℕ) → IsPrefix first more → HasLine first place → HasLine more place
 has_still first more place p has = record {
   at = has.at;

@@ -8,7 +8,7 @@ use Rattle.rbc_server.specs.Records.{begin_on, begin_of, HistoryOnTrack}
 use Rattle.rbc_journal.specs.Journal.{recovered}
 use Rattle.rbc_model.specs.Histories.{Beginning, Entry}
 use Rattle.rbc_model.proofs.BasicLemmas.{slice_get-from_take}
-use Rattle.rbc_scribe.specs.Told.{HasLines}
+use Rattle.rbc_group_commit.specs.Told.{HasLines}
 use Rattle.rbc_kept.specs.Adds.{Adds}
 use Rattle.rbc_kept.specs.Entries.{TellsEntry, TellsFirst}
 

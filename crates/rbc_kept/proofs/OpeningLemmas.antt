@@ -10,7 +10,7 @@ use Rattle.rbc_kept.specs.Kept.{IsKept}
 use Rattle.rbc_server.specs.Records.{begin_of, HistoryOnTrack}
 use Rattle.rbc_kept.specs.Tells.{Tells}
 use Rattle.rbc_model.specs.Histories.{Entry}
-use Rattle.rbc_scribe.specs.Told.{AreTold}
+use Rattle.rbc_group_commit.specs.Told.{AreTold}
 use Rattle.rbc_kept.specs.Entries.{TellsEntry}
 
 module _ (adds : List Entry → List ℕ → Entry → Type 0) where

@@ -22,9 +22,9 @@ use Rattle.rbc_kept.proofs.BetweenLemmas.{still}
 module _ {D : Type 0} (seen : D → List ℕ) (may_leave : D → List ℕ → Type 0) (moment : D → ℕ) (left_since : D → ℕ → List ℕ → Type 0) (faults : D → ℕ)
     (only_now : (file : D) (c : List ℕ) → left_since file (moment file) c → may_leave file c) where
   -- it rests
-  pub said_resting : (before after : Kept D) (reply : List ℕ) → before.has_failed ≡ false → IsSettled seen may_leave before.journal → after.history ≡ before.history
-      → after.journal ≡ before.journal → after.has_failed ≡ before.has_failed → after.replies.failed ≡ false → Holds before reply after → after.resting < MOST_TOGETHER → IsSaid seen may_leave moment left_since faults before reply [] after
-  said_resting before after reply whole settled same journal failed works holds few =
+  pub said_batched : (before after : Kept D) (reply : List ℕ) → before.has_failed ≡ false → IsSettled seen may_leave before.journal → after.history ≡ before.history
+      → after.journal ≡ before.journal → after.has_failed ≡ before.has_failed → after.replies.failed ≡ false → Holds before reply after → after.batch < MOST_TOGETHER → IsSaid seen may_leave moment left_since faults before reply [] after
+  said_batched before after reply whole settled same journal failed works holds few =
       let device : after.journal.device ≡ before.journal.device = ap (λ (j : Journal D). j.device) journal in
       let same_faults = ap faults device in
       record {
@@ -44,7 +44,7 @@ module _ {D : Type 0} (seen : D → List ℕ) (may_leave : D → List ℕ → Ty
       × (staged after.journal ≡ []) × (after.replies.bytes.items ≡ []))
       → LeavesOnly moment left_since before.journal.device after.journal.device (IsBeforeOrAfter (recovered (seen before.journal.device)) (staged before.journal))
       → faults before.journal.device ≤ faults after.journal.device → (after.has_failed ≡ true → faults before.journal.device < faults after.journal.device)
-      → after.replies.failed ≡ false → after.resting ≡ 0 → text ≡ cond after.has_failed [] (before.replies.bytes.items ++ reply)
+      → after.replies.failed ≡ false → after.batch ≡ 0 → text ≡ cond after.has_failed [] (before.replies.bytes.items ++ reply)
       → IsSaid seen may_leave moment left_since faults before reply text after
   said_written before after reply text same put leaves later lost holds none text_is = record {
     history = same;
@@ -64,7 +64,7 @@ module _ {D : Type 0} (seen : D → List ℕ) (may_leave : D → List ℕ → Ty
       × (staged after.journal ≡ []) × (after.replies.bytes.items ≡ []))
       → LeavesOnly moment left_since mid.journal.device after.journal.device (IsBeforeOrAfter (recovered (seen mid.journal.device)) (staged mid.journal))
       → faults mid.journal.device ≤ faults after.journal.device → (after.has_failed ≡ true → faults mid.journal.device < faults after.journal.device)
-      → after.replies.failed ≡ false → after.resting ≡ 0 → text ≡ cond after.has_failed [] (mid.replies.bytes.items ++ reply)
+      → after.replies.failed ≡ false → after.batch ≡ 0 → text ≡ cond after.has_failed [] (mid.replies.bytes.items ++ reply)
       → IsSaid seen may_leave moment left_since faults before reply text after
   said_settled before mid after reply text history journal replies same put leaves later lost holds none text_is =
       said_written before after reply text (same ∙ history)

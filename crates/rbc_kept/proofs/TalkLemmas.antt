@@ -155,19 +155,19 @@ module _ {D : Type 0} (seen : D → List ℕ) (may_leave : D → List ℕ → Ty
   record Along (one now : Kept D) (lines : List (List ℕ)) (text : List ℕ) : Type 0 where
     going : IsGoing seen may_leave now
     front : List (List ℕ)
-    resting : List (List ℕ)
+    batch : List (List ℕ)
     mid : HistoryOnTrack
-    are : lines ≡ front ++ resting
+    are : lines ≡ front ++ batch
     answered : Answered Goes one.history front text mid
-    unanswered : Answered Goes mid resting now.replies.bytes.items now.history
-    count : length resting ≡ now.resting
+    unanswered : Answered Goes mid batch now.replies.bytes.items now.history
+    count : length batch ≡ now.batch
     durable : on_disk now ≡ length mid.entries
 
   along_none : (one : Kept D) → IsReady seen may_leave one → Along one one [] []
   along_none one ready = record {
     going = ready_goes seen may_leave one ready;
     front = [];
-    resting = [];
+    batch = [];
     mid = one.history;
     are = refl;
     answered = (refl, refl);
@@ -181,13 +181,13 @@ module _ {D : Type 0} (seen : D → List ℕ) (may_leave : D → List ℕ → Ty
   along_on one now next lines text line said reply a goes going (inl rests) = record {
     going = going;
     front = a.front;
-    resting = a.resting ++ line ∷ [];
+    batch = a.batch ++ line ∷ [];
     mid = a.mid;
-    are = ap (λ (l : List (List ℕ)). l ++ line ∷ []) a.are ∙ append_assoc a.front a.resting (line ∷ []);
+    are = ap (λ (l : List (List ℕ)). l ++ line ∷ []) a.are ∙ append_assoc a.front a.batch (line ∷ []);
     answered = subst (λ t. Answered Goes one.history a.front t a.mid) (sym (ap (λ (t : List ℕ). text ++ t) rests.silent ∙ append-nil text)) a.answered;
-    unanswered = subst (λ t. Answered Goes a.mid (a.resting ++ line ∷ []) t next.history) (sym rests.holds.0)
-        (answered_both Goes a.mid now.history next.history a.resting (line ∷ []) now.replies.bytes.items reply a.unanswered (answered_one Goes now.history next.history line reply goes));
-    count = let long = length-append a.resting (line ∷ []) in let before = a.count in let more = rests.holds.1 in omega (arith, long, before, more);
+    unanswered = subst (λ t. Answered Goes a.mid (a.batch ++ line ∷ []) t next.history) (sym rests.holds.0)
+        (answered_both Goes a.mid now.history next.history a.batch (line ∷ []) now.replies.bytes.items reply a.unanswered (answered_one Goes now.history next.history line reply goes));
+    count = let long = length-append a.batch (line ∷ []) in let before = a.count in let more = rests.holds.1 in omega (arith, long, before, more);
     durable = ap (λ (d : D). length (recovered (seen d))) rests.device ∙ a.durable;
   }
   along_on one now next lines text line said reply a goes going (inr writes) =
@@ -195,14 +195,14 @@ module _ {D : Type 0} (seen : D → List ℕ) (may_leave : D → List ℕ → Ty
       record {
         going = going;
         front = lines ++ line ∷ [];
-        resting = [];
+        batch = [];
         mid = next.history;
         are = sym (append-nil (lines ++ line ∷ []));
         answered = subst (λ (ls : List (List ℕ)). Answered Goes one.history (ls ++ line ∷ []) (text ++ said) next.history) (sym a.are)
-            (subst (λ (ls : List (List ℕ)). Answered Goes one.history ls (text ++ said) next.history) (sym (append_assoc a.front a.resting (line ∷ [])))
-            (answered_both Goes one.history a.mid next.history a.front (a.resting ++ line ∷ []) text said a.answered
-            (subst (λ t. Answered Goes a.mid (a.resting ++ line ∷ []) t next.history) (sym writes.text_is)
-            (answered_both Goes a.mid now.history next.history a.resting (line ∷ []) now.replies.bytes.items reply a.unanswered (answered_one Goes now.history next.history line reply goes)))));
+            (subst (λ (ls : List (List ℕ)). Answered Goes one.history ls (text ++ said) next.history) (sym (append_assoc a.front a.batch (line ∷ [])))
+            (answered_both Goes one.history a.mid next.history a.front (a.batch ++ line ∷ []) text said a.answered
+            (subst (λ t. Answered Goes a.mid (a.batch ++ line ∷ []) t next.history) (sym writes.text_is)
+            (answered_both Goes a.mid now.history next.history a.batch (line ∷ []) now.replies.bytes.items reply a.unanswered (answered_one Goes now.history next.history line reply goes)))));
         unanswered = (writes.none_held, refl);
         count = sym writes.none_rests;
         durable = all_on_disk next ready;
@@ -227,23 +227,23 @@ module _ {D : Type 0} (seen : D → List ℕ) (may_leave : D → List ℕ → Ty
       → Along first last lines text
   along_talk first last lines text ready answered works = along_all first first last [] lines [] text (along_none first ready) answered works
 
-  none_left : (first last : Kept D) (lines : List (List ℕ)) (text : List ℕ) → last.resting ≡ 0 → Along first last lines text → Answered Goes first.history lines text last.history
-  none_left first last lines text none a = all_said a.resting a.are a.unanswered a.count
+  none_left : (first last : Kept D) (lines : List (List ℕ)) (text : List ℕ) → last.batch ≡ 0 → Along first last lines text → Answered Goes first.history lines text last.history
+  none_left first last lines text none a = all_said a.batch a.are a.unanswered a.count
     where
-      all_said : (resting : List (List ℕ)) → lines ≡ a.front ++ resting → Answered Goes a.mid resting last.replies.bytes.items last.history → length resting ≡ last.resting
+      all_said : (batch : List (List ℕ)) → lines ≡ a.front ++ batch → Answered Goes a.mid batch last.replies.bytes.items last.history → length batch ≡ last.batch
           → Answered Goes first.history lines text last.history
       all_said [] are (held, same) count =
           subst (λ (ls : List (List ℕ)). Answered Goes first.history ls text last.history) (sym (are ∙ append-nil a.front))
           (subst (λ (h : HistoryOnTrack). Answered Goes first.history a.front text h) (sym same) a.answered)
-      all_said (line ∷ resting) are later count = absurd (let e : ⊥ = omega (arith, count, none) in e)
+      all_said (line ∷ batch) are later count = absurd (let e : ⊥ = omega (arith, count, none) in e)
 
   pub ready_after : (first last : Kept D) (input : List ℕ) (old new : Option (List ℕ)) (result : Result (Unit {0}) SessionFault) → IsReady seen may_leave first
-      → IsTalk LONGEST_LINE Steps first last input old new result → last.resting ≡ 0 → last.has_failed ≡ false → IsReady seen may_leave last
+      → IsTalk LONGEST_LINE Steps first last input old new result → last.batch ≡ 0 → last.has_failed ≡ false → IsReady seen may_leave last
   ready_after first last input old new result ready talk none works =
       let a = along_talk first last talk.treated talk.text ready talk.answered works in goes_ready seen may_leave last a.going none
 
   talk_of_records : (first last : Kept D) (input : List ℕ) (old new : Option (List ℕ)) (result : Result (Unit {0}) SessionFault) → IsReady seen may_leave first
-      → IsTalk LONGEST_LINE Steps first last input old new result → last.resting ≡ 0 → last.has_failed ≡ false → IsTalk LONGEST_LINE Goes first.history last.history input old new result
+      → IsTalk LONGEST_LINE Steps first last input old new result → last.batch ≡ 0 → last.has_failed ≡ false → IsTalk LONGEST_LINE Goes first.history last.history input old new result
   talk_of_records first last input old new result ready talk none works = record {
     treated = talk.treated;
     rest = talk.rest;
@@ -293,18 +293,18 @@ module _ {D : Type 0} (seen : D → List ℕ) (may_leave : D → List ℕ → Ty
   cut_in one now last lines text line said a step broken =
       let gone = step.unanswered broken in
       let few = a.going.few in
-      let long = length-append a.resting (line ∷ []) in
+      let long = length-append a.batch (line ∷ []) in
       let count = a.count in
-      let begin = same_begin a.mid now.history a.resting now.replies.bytes.items a.unanswered ∙ same_begin one.history a.mid a.front text a.answered in
+      let begin = same_begin a.mid now.history a.batch now.replies.bytes.items a.unanswered ∙ same_begin one.history a.mid a.front text a.answered in
       record {
         front = a.front;
-        lost = a.resting ++ line ∷ [];
+        lost = a.batch ++ line ∷ [];
         said = now.replies.bytes.items ++ gone.1;
         mid = a.mid;
-        are = ap (λ (l : List (List ℕ)). l ++ line ∷ []) a.are ∙ append_assoc a.front a.resting (line ∷ []);
+        are = ap (λ (l : List (List ℕ)). l ++ line ∷ []) a.are ∙ append_assoc a.front a.batch (line ∷ []);
         answered = subst (λ t. Answered Goes one.history a.front t a.mid) (sym (ap (λ (t : List ℕ). text ++ t) gone.0 ∙ append-nil text)) a.answered;
         unanswered =
-            answered_both Goes a.mid now.history last.history a.resting (line ∷ []) now.replies.bytes.items gone.1 a.unanswered (answered_one Goes now.history last.history line gone.1 gone.2);
+            answered_both Goes a.mid now.history last.history a.batch (line ∷ []) now.replies.bytes.items gone.1 a.unanswered (answered_one Goes now.history last.history line gone.1 gone.2);
         some_lost = omega (arith, long);
         few_lost = omega (arith, long, count, few);
         leaves = λ c left.
@@ -363,7 +363,7 @@ module _ {D : Type 0} (seen : D → List ℕ) (may_leave : D → List ℕ → Ty
 
   -- ---- either
 
-  kept_session_by : (b w : Bool) (first last : Kept D) (input : List ℕ) (old new : Option (List ℕ)) (result : Result (Unit {0}) SessionFault) → last.has_failed ≡ b → last.resting ≡ 0 → IsReady seen may_leave first
+  kept_session_by : (b w : Bool) (first last : Kept D) (input : List ℕ) (old new : Option (List ℕ)) (result : Result (Unit {0}) SessionFault) → last.has_failed ≡ b → last.batch ≡ 0 → IsReady seen may_leave first
       → IsTalk LONGEST_LINE Steps first last input old new result → (result ≡ Err Write) ↔ IsTrue (b || w)
       → IsKeptSession (begin_of first.history) first.history.entries last.history.entries input old new (may_leave last.journal.device) (run_end b result)
   kept_session_by true w first last input old new result broken none ready talk write =
@@ -373,13 +373,13 @@ module _ {D : Type 0} (seen : D → List ℕ) (may_leave : D → List ℕ → Ty
   kept_session_by false w first last input old new (Err fault) whole none ready talk write =
       session_turns first.history last.history input old new (Err fault) (talk_of_records first last input old new (Err fault) ready talk none whole)
 
-  pub kept_session : (first last : Kept D) (input : List ℕ) (old new : Option (List ℕ)) (result : Result (Unit {0}) SessionFault) (w : Bool) → last.resting ≡ 0 → IsReady seen may_leave first
+  pub kept_session : (first last : Kept D) (input : List ℕ) (old new : Option (List ℕ)) (result : Result (Unit {0}) SessionFault) (w : Bool) → last.batch ≡ 0 → IsReady seen may_leave first
       → IsTalk LONGEST_LINE Steps first last input old new result → (result ≡ Err Write) ↔ IsTrue (last.has_failed || w)
       → IsKeptSession (begin_of first.history) first.history.entries last.history.entries input old new (may_leave last.journal.device) (run_end last.has_failed result)
   kept_session first last input old new result w none ready talk write = kept_session_by last.has_failed w first last input old new result refl none ready talk write
 
   pub kept_answers : (first last : Kept D) (input : List ℕ) (left_before left_after old new : Option (List ℕ)) (result : Result (Unit {0}) SessionFault)
-      → IsInForm first.history.track → IsReady seen may_leave first → last.resting ≡ 0 → OnOk result (IsAtEnd left_after) → Consumes left_before left_after input → IsTalk LONGEST_LINE Steps first last input old new result → last.has_failed ≡ false
+      → IsInForm first.history.track → IsReady seen may_leave first → last.batch ≡ 0 → OnOk result (IsAtEnd left_after) → Consumes left_before left_after input → IsTalk LONGEST_LINE Steps first last input old new result → last.has_failed ≡ false
       → OnOk result (AnswersAll first.history last.history left_before old new)
   kept_answers first last input left_before left_after old new result form ready none end taken talk whole =
       session_answers first.history last.history left_before left_after old new result input form end taken

@@ -28,20 +28,20 @@ use Rattle.rbc_server.proofs.CentreLemmas.{line_comes, printed_comes, refused_co
 use Rattle.rbc_server.proofs.KeepingLemmas.{line_asks}
 use Rattle.rbc_model.specs.declared.sessions.Inquiry.{Inquiry}
 use Rattle.rbc_model.specs.declared.sessions.Inquiry.TheVariants.{State as AskedState, Scene as AskedScene}
-use Rattle.rbc_session_laws.specs.declared.demand.Demand.{Demand}
-use Rattle.rbc_session_laws.specs.declared.demand.Demand.TheVariants.{Nothing, Authority, Show}
-use Rattle.rbc_session_laws.specs.Demands.{looked_up}
-use Rattle.rbc_session_laws.specs.Turns.{AnswersAsker, AnswersDemand, AnswersInquiry}
+use Rattle.rbc_session_laws.specs.declared.command.Command.{Command}
+use Rattle.rbc_session_laws.specs.declared.command.Command.TheVariants.{Nothing, Authority, Show}
+use Rattle.rbc_session_laws.specs.Commands.{resolve}
+use Rattle.rbc_session_laws.specs.Turns.{AnswersAsker, AnswersCommand, AnswersInquiry}
 use Rattle.rbc_kept.specs.Advances.{IsTreated}
 
 -- what is asked for comes to this
-abbrev pub ComesTo : Result Demand SessionRefusal → HistoryOnTrack → List ℕ → HistoryOnTrack → Type 0
-ComesTo demand before reply after = Comes (λ begin entries said added. AnswersDemand begin entries said added demand) before reply after
+abbrev pub ComesTo : Result Command SessionRefusal → HistoryOnTrack → List ℕ → HistoryOnTrack → Type 0
+ComesTo command before reply after = Comes (λ begin entries said added. AnswersCommand begin entries said added command) before reply after
 
 -- what a request asks for, as it was found
-pub asked : (track other : Track) (said : SessionLine) (found demand : Demand) → track ≡ other → found ≡ demand → Ok found ≡ looked_up track said → looked_up other said ≡ Ok demand
-asked track other said found demand is same e =
-    subst (λ t. looked_up t said ≡ Ok demand) is (sym (subst (λ d. Ok d ≡ looked_up track said) same e))
+pub asked : (track other : Track) (said : SessionLine) (found command : Command) → track ≡ other → found ≡ command → Ok found ≡ resolve track said → resolve other said ≡ Ok command
+asked track other said found command is same e =
+    subst (λ t. resolve t said ≡ Ok command) is (sym (subst (λ d. Ok d ≡ resolve track said) same e))
 
 -- a blank line comes to nothing
 pub nothing_comes : (history : HistoryOnTrack) → ComesTo (Ok Nothing) history [] history
@@ -61,45 +61,45 @@ given_up first now train shown same is = (
   ap (history_on (begin_of now)) (sym (append-nil now.entries)),
 )
 
--- what is refused when it is looked up changes nothing
+-- what is refused when it is resolved changes nothing
 pub refused_said : (history : HistoryOnTrack) (line : List ℕ) (said : SessionLine) (refusal : SessionRefusal) (track printed : Track) → track ≡ history.track → printed ≡ history.track
-    → parse_session line ≡ Ok said → Err refusal ≡ looked_up track said → Goes history line (refused_reply printed refusal) history
+    → parse_session line ≡ Ok said → Err refusal ≡ resolve track said → Goes history line (refused_reply printed refusal) history
 refused_said history line said refusal track printed is also read e =
     refused_comes history line refusal track printed is also (e ∙ sym (line_asks track line said read))
 
-pub goes_by : (before after : HistoryOnTrack) (line reply : List ℕ) (said : SessionLine) (demand : Result Demand SessionRefusal) → parse_session line ≡ Ok said
-    → looked_up before.track said ≡ demand → ComesTo demand before reply after → Goes before line reply after
-goes_by before after line reply said demand read asks comes =
-    line_comes before after line reply demand before.track refl (sym (line_asks before.track line said read ∙ asks)) comes
+pub goes_by : (before after : HistoryOnTrack) (line reply : List ℕ) (said : SessionLine) (command : Result Command SessionRefusal) → parse_session line ≡ Ok said
+    → resolve before.track said ≡ command → ComesTo command before reply after → Goes before line reply after
+goes_by before after line reply said command read asks comes =
+    line_comes before after line reply command before.track refl (sym (line_asks before.track line said read ∙ asks)) comes
 
-pub treated_by : (first before after : HistoryOnTrack) (line text : List ℕ) (said : SessionLine) (demand : Result Demand SessionRefusal) (reply : SessionReply) → before ≡ first
-    → parse_session line ≡ Ok said → parse_session text ≡ Ok said → looked_up first.track said ≡ demand → ComesTo demand before (reply_text before.track reply) after
+pub treated_by : (first before after : HistoryOnTrack) (line text : List ℕ) (said : SessionLine) (command : Result Command SessionRefusal) (reply : SessionReply) → before ≡ first
+    → parse_session line ≡ Ok said → parse_session text ≡ Ok said → resolve first.track said ≡ command → ComesTo command before (reply_text before.track reply) after
     → IsTreated first after line text (reply_text after.track reply)
-treated_by first before after line text said demand reply same read says asks comes =
-    let from_first = subst (λ (h : HistoryOnTrack). ComesTo demand h (reply_text h.track reply) after) same comes in
+treated_by first before after line text said command reply same read says asks comes =
+    let from_first = subst (λ (h : HistoryOnTrack). ComesTo command h (reply_text h.track reply) after) same comes in
     record {
-      goes = goes_by first after line (reply_text after.track reply) said demand read asks
-          (printed_comes (λ begin entries s added. AnswersDemand begin entries s added demand) first after reply after.track refl from_first);
+      goes = goes_by first after line (reply_text after.track reply) said command read asks
+          (printed_comes (λ begin entries s added. AnswersCommand begin entries s added command) first after reply after.track refl from_first);
       says = says ∙ sym read;
     }
 
 -- what a line comes to from a record, it comes to from one that is equal to it
-pub goes_from : (first before after : HistoryOnTrack) (line reply : List ℕ) (said : SessionLine) (demand : Result Demand SessionRefusal) → before ≡ first → parse_session line ≡ Ok said
-    → looked_up first.track said ≡ demand → ComesTo demand before reply after → Goes first line reply after
-goes_from first before after line reply said demand same read asks comes =
-    goes_by first after line reply said demand read asks (subst (λ (h : HistoryOnTrack). ComesTo demand h reply after) same comes)
+pub goes_from : (first before after : HistoryOnTrack) (line reply : List ℕ) (said : SessionLine) (command : Result Command SessionRefusal) → before ≡ first → parse_session line ≡ Ok said
+    → resolve first.track said ≡ command → ComesTo command before reply after → Goes first line reply after
+goes_from first before after line reply said command same read asks comes =
+    goes_by first after line reply said command read asks (subst (λ (h : HistoryOnTrack). ComesTo command h reply after) same comes)
 
 -- what a line leads to may be given by a record that is equal to it
 pub said_goes : (first after now : HistoryOnTrack) (line : List ℕ) (reply : SessionReply) → now ≡ after → Goes first line (reply_text after.track reply) after
     → Goes first line (reply_text now.track reply) now
 said_goes first after now line reply same goes = subst (λ (h : HistoryOnTrack). Goes first line (reply_text h.track reply) h) (sym same) goes
 
--- ---- lines that are refused before they are looked up
+-- ---- lines that are refused before they are resolved
 
 pub refused_goes : (history : HistoryOnTrack) (line : List ℕ) (fault : LineFault) (track : Track) → track ≡ history.track → parse_session line ≡ Err fault
     → Goes history line (refused_reply track (BadLine fault)) history
 refused_goes history line fault track is read =
-    refused_comes history line (BadLine fault) history.track track refl is (sym (ap (λ r. result_map_both (λ x. x) BadLine r >>= looked_up history.track) read))
+    refused_comes history line (BadLine fault) history.track track refl is (sym (ap (λ r. result_map_both (λ x. x) BadLine r >>= resolve history.track) read))
 
 pub overlong_goes : (history : HistoryOnTrack) (line : List ℕ) (track : Track) → track ≡ history.track → LONGEST_LINE < length line
     → Goes history line (refused_reply track (BadLine Overlong)) history

@@ -2,8 +2,8 @@
 use Rattle.std.specs.Prelude.{◌≡◌, ℕ, Bool, List, Some, None, Ok, MatchBool}
 use Rattle.rbc_model.specs.Histories.{Beginning, Entry}
 use Rattle.rbc_server.specs.Records.{begin_of, HistoryOnTrack, with_entry}
-use Rattle.rbc_session_laws.specs.declared.demand.Demand.{Demand}
-use Rattle.rbc_session_laws.specs.Demands.{demand_in}
+use Rattle.rbc_session_laws.specs.declared.command.Command.{Command}
+use Rattle.rbc_session_laws.specs.Commands.{command_in}
 use Rattle.rbc_session_laws.specs.Answers.{line_answer}
 
 -- behind these entries the line adds this one
@@ -23,5 +23,5 @@ abbrev pub Follows : Bool → HistoryOnTrack → List ℕ → HistoryOnTrack →
 Follows is_added before line after = MatchBool is_added (Gains before line after) (AddsNone (begin_of before) before.entries line × (after ≡ before))
 
 -- each line that says this is treated so, and it is told whether it added an entry
-abbrev pub FollowsSaid : Bool → HistoryOnTrack → Demand → HistoryOnTrack → Type 0
-FollowsSaid is_added before demand after = (line : List ℕ) → demand_in before.track line ≡ Ok demand → Follows is_added before line after
+abbrev pub FollowsSaid : Bool → HistoryOnTrack → Command → HistoryOnTrack → Type 0
+FollowsSaid is_added before command after = (line : List ℕ) → command_in before.track line ≡ Ok command → Follows is_added before line after

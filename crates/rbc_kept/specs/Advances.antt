@@ -15,7 +15,7 @@ use Rattle.rbc_kept.specs.declared.kept.TheConstants.{MOST_TOGETHER}
 
 -- It is held back behind those that rested before it.
 abbrev pub Holds : {D : Type 0} → Kept D → List ℕ → Kept D → Type 0
-Holds before reply after = (after.replies.bytes.items ≡ before.replies.bytes.items ++ reply) × (after.resting ≡ before.resting + 1)
+Holds before reply after = (after.replies.bytes.items ≡ before.replies.bytes.items ++ reply) × (after.batch ≡ before.batch + 1)
 
 -- It rests so, and nothing is written.
 pub record Rests {D : Type 0} (before : Kept D) (reply text : List ℕ) (after : Kept D) : Type 0 where
@@ -27,11 +27,11 @@ pub record Rests {D : Type 0} (before : Kept D) (reply text : List ℕ) (after :
 pub record Writes {D : Type 0} (before : Kept D) (reply text : List ℕ) (after : Kept D) : Type 0 where
   pub text_is : text ≡ before.replies.bytes.items ++ reply
   pub none_held : after.replies.bytes.items ≡ []
-  pub none_rests : after.resting ≡ 0
+  pub none_rests : after.batch ≡ 0
 
 -- A reply rests only where a further line has been read, and not behind a fault.
 abbrev pub RestsOnly : {D E : Type 0} → Bool → Result (Unit {0}) E → Kept D → Type 0
-RestsOnly more result kept = (more ≡ false → kept.resting ≡ 0) × OnErr result (kept.resting ≡ 0)
+RestsOnly more result kept = (more ≡ false → kept.batch ≡ 0) × OnErr result (kept.batch ≡ 0)
 
 -- ---- a line
 
@@ -51,7 +51,7 @@ module _ {D : Type 0} (seen : D → List ℕ) (may_leave : D → List ℕ → Ty
     pub history : after.history ≡ before.history
     pub settled : after.has_failed ≡ false → IsSettled seen may_leave after.journal × (after.replies.failed ≡ false)
     pub said : after.has_failed ≡ false
-        → (Rests before reply text after × (staged after.journal ≡ staged before.journal) × (after.resting < MOST_TOGETHER))
+        → (Rests before reply text after × (staged after.journal ≡ staged before.journal) × (after.batch < MOST_TOGETHER))
         ⊎ (Writes before reply text after × (recovered (seen after.journal.device) ≡ recovered (seen before.journal.device) ++ staged before.journal) × (staged after.journal ≡ []))
     pub unsaid : after.has_failed ≡ true → (text ≡ []) × (faults before.journal.device < faults after.journal.device)
     pub any_moment : LeavesOnly moment left_since before.journal.device after.journal.device (IsBeforeOrAfter (recovered (seen before.journal.device)) (staged before.journal))

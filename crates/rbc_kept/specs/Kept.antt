@@ -31,7 +31,7 @@ pub record IsKept {D : Type 0} (seen : D → List ℕ) (may_leave : D → List �
 pub record IsReady {D : Type 0} (seen : D → List ℕ) (may_leave : D → List ℕ → Type 0) (kept : Kept D) : Type 0 where
   pub whole : kept.has_failed ≡ false
   pub is_kept : IsKept seen may_leave kept.history kept.journal
-  pub none_rests : kept.resting ≡ 0
+  pub none_rests : kept.batch ≡ 0
   pub none_held : kept.replies.bytes.items ≡ []
   pub holds : kept.replies.failed ≡ false
 
@@ -45,6 +45,6 @@ pub record IsGoing {D : Type 0} (seen : D → List ℕ) (may_leave : D → List 
   pub whole : kept.has_failed ≡ false
   pub settled : IsSettled seen may_leave kept.journal
   pub told : TellsRecord seen kept
-  pub few : kept.resting < MOST_TOGETHER
+  pub few : kept.batch < MOST_TOGETHER
   pub holds : kept.replies.failed ≡ false
-  pub none_rests : kept.resting ≡ 0 → (staged kept.journal ≡ []) × (kept.replies.bytes.items ≡ [])
+  pub none_rests : kept.batch ≡ 0 → (staged kept.journal ≡ []) × (kept.replies.bytes.items ≡ [])

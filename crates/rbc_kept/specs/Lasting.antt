@@ -2,7 +2,7 @@
 use Rattle.std.specs.Prelude.{◌≡◌, ◌<◌, ◌≤◌, ◌+◌, ℕ, List, slice_get, Some}
 use Rattle.rbc_server.specs.Later.{IsLater}
 use Rattle.rbc_server.specs.Records.{HistoryOnTrack}
-use Rattle.rbc_scribe.specs.declared.stamp.Stamp.{Stamp}
+use Rattle.rbc_group_commit.specs.declared.stamp.Stamp.{Stamp}
 use Rattle.rbc_kept.specs.Entries.{TellsFirst}
 
 module _ {D : Type 0} (moment : D → ℕ) (left_since : D → ℕ → List ℕ → Type 0) where

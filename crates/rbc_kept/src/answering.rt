@@ -9,8 +9,8 @@ ghost use Rattle.rbc_model.specs.SessionText.{parse_session, IsSayable};
 ghost use Rattle.rbc_model.specs.Sessions.{Prints};
 ghost use Rattle.rbc_model.specs.Views.{view};
 ghost use Rattle.rbc_server.specs.Records.{scene_now};
-ghost use Rattle.rbc_session_laws.specs.declared.demand.Demand.TheVariants.{Event, Authority};
-ghost use Rattle.rbc_session_laws.specs.Demands.{looked_up};
+ghost use Rattle.rbc_session_laws.specs.declared.command.Command.TheVariants.{Event, Authority};
+ghost use Rattle.rbc_session_laws.specs.Commands.{resolve};
 ghost use Rattle.rbc_server.specs.SessionLines.{request_view};
 ghost use Rattle.rbc_kept.specs.Kept.{IsGoing};
 ghost use Rattle.rbc_kept.specs.Advances.{Advances, RestsOnly};
@@ -22,8 +22,8 @@ use rbc_model::limits::LONGEST_LINE;
 use rbc_model::{LineFault, Memory, Told, TrainId};
 use rbc_server::replies::{SessionRefusal, SessionReply};
 use rbc_server::words::{Request, parse};
-use rbc_server::{View, candidate, commit, in_vain, looked_up, stopped, tell};
-use rbc_session_laws::Demand;
+use rbc_server::{View, candidate, commit, in_vain, resolve, stopped, tell};
+use rbc_session_laws::Command;
 use rbc_streams::{Answers, Sink, WriteFailed};
 use std::alloc::Global;
 use std::thread::Threads;
@@ -46,7 +46,7 @@ impl<D: Device> Answers<JournaledCentre> for Kept<D> {
 
     ghost answers = { Advances D.seen D.may_leave D.moment D.left_since D.faults };
 
-    ghost rests = { λ kept. kept.resting };
+    ghost rests = { λ kept. kept.batch };
 
     ghost ready = { IsGoing D.seen D.may_leave };
 
@@ -114,14 +114,14 @@ impl<D: Device> Kept<D> {
             → Advances D.seen D.may_leave D.moment D.left_since D.faults self.old line text self.new)
             × Prints (W.written writer.old) (W.written writer.new) (self.new.has_failed || W.failed writer.new) text result }
     {
-        match looked_up(self.history.track(), request) {
-            Ok(Demand::Nothing) => self.say(&SessionReply::Nothing, more, writer),
-            Ok(Demand::Event(told)) => self.hear(alloc, &request, &told, more, writer),
-            Ok(Demand::Authority(number)) => {
+        match resolve(self.history.track(), request) {
+            Ok(Command::Nothing) => self.say(&SessionReply::Nothing, more, writer),
+            Ok(Command::Event(told)) => self.hear(alloc, &request, &told, more, writer),
+            Ok(Command::Authority(number)) => {
                 let train = TrainId::new(number);
                 self.ask(rt, alloc, &request, train, more, writer)
             }
-            Ok(Demand::Show(inquiry)) => self.show(alloc, inquiry, writer),
+            Ok(Command::Show(inquiry)) => self.show(alloc, inquiry, writer),
             Err(refusal) => self.say(&SessionReply::Refused(refusal), more, writer),
         }
     }
@@ -142,7 +142,7 @@ impl<D: Device> Kept<D> {
         requires works { W.failed writer.old ≡ false }
         requires going { IsGoing D.seen D.may_leave self.old }
         requires sayable { IsSayable (request_view request.now) }
-        requires demand { looked_up self.old.history.track (request_view request.now) ≡ Ok (Event told.now) }
+        requires command { resolve self.old.history.track (request_view request.now) ≡ Ok (Event told.now) }
         requires of_track { IsToldOfTrack self.old.history.track told.now }
         ensures rests { RestsOnly more result self.new }
         ensures text { (text : List ℕ)
@@ -179,7 +179,7 @@ impl<D: Device> Kept<D> {
         requires works { W.failed writer.old ≡ false }
         requires going { IsGoing D.seen D.may_leave self.old }
         requires sayable { IsSayable (request_view request.now) }
-        requires demand { looked_up self.old.history.track (request_view request.now) ≡ Ok (Authority train) }
+        requires command { resolve self.old.history.track (request_view request.now) ≡ Ok (Authority train) }
         ensures rests { RestsOnly more result self.new }
         ensures text { (text : List ℕ)
             × ((line : List ℕ) → parse_session line ≡ Ok (request_view request.now)
@@ -212,7 +212,7 @@ impl<D: Device> Kept<D> {
         requires works { W.failed writer.old ≡ false }
         requires going { IsGoing D.seen D.may_leave self.old }
         requires sayable { IsSayable (request_view request.now) }
-        requires demand { looked_up self.old.history.track (request_view request.now) ≡ Ok (Authority shown.train) }
+        requires command { resolve self.old.history.track (request_view request.now) ≡ Ok (Authority shown.train) }
         requires shown { view self.old.history.track (scene_now self.old.history) shown.train ≡ Ok shown }
         ensures rests { RestsOnly more result self.new }
         ensures text { (text : List ℕ)
@@ -244,7 +244,7 @@ impl<D: Device> Kept<D> {
         ensures history { self.new.history ≡ self.old.history }
         ensures whole { self.new.has_failed ≡ self.old.has_failed }
         ensures replies { self.new.replies ≡ self.old.replies }
-        ensures resting { self.new.resting ≡ self.old.resting }
+        ensures batch { self.new.batch ≡ self.old.batch }
         ensures device { self.new.journal.device ≡ self.old.journal.device }
         ensures staged { staged self.new.journal ≡ staged self.old.journal }
         ensures settled { IsSettled D.seen D.may_leave self.new.journal }
@@ -267,7 +267,7 @@ impl<D: Device> Kept<D> {
         ensures history { self.new.history ≡ self.old.history }
         ensures whole { self.new.has_failed ≡ self.old.has_failed }
         ensures replies { self.new.replies ≡ self.old.replies }
-        ensures resting { self.new.resting ≡ self.old.resting }
+        ensures batch { self.new.batch ≡ self.old.batch }
         ensures device { self.new.journal.device ≡ self.old.journal.device }
         ensures settled { IsSettled D.seen D.may_leave self.new.journal }
         ensures staged { MatchBool (nat_lt before (length self.old.history.entries))

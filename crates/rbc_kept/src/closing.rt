@@ -5,52 +5,52 @@ ghost use Rattle.rbc_kept.specs.Lasting.{EachLeavesFirst};
 ghost use Rattle.rbc_server.specs.Later.{IsLater};
 
 use crate::SeatTold;
+use rbc_group_commit::{CommitName, Committer, GroupCommit, Page};
 use rbc_journal::Device;
-use rbc_scribe::{Page, Pen, Scribe, ScribeName};
 use rbc_server::DeskName;
 use std::sync::Wait;
 
-/// Ends the scribe of a desk's journal, once no seat writes any more, and vouches for what its pens have kept: a crash at
-/// any moment since a stamp that a pen was given left a file that tells the first entries of the desk's history, the
+/// Ends the group commit of a desk's journal, once no seat writes any more, and vouches for what its committers have kept: a crash at
+/// any moment since a stamp that a committer was given left a file that tells the first entries of the desk's history, the
 /// stamp's lines at least. The last is what was told of that history by then: all that any seat was told.
-pub fn close<L: DeskName, D: Device, N: ScribeName, R: Wait>(
+pub fn close<L: DeskName, D: Device, N: CommitName, R: Wait>(
     rt: &R,
-    scribe: Scribe<SeatTold<L>, D, N>,
+    group_commit: GroupCommit<SeatTold<L>, D, N>,
     last: &SeatTold<L>,
-    pens: &[Pen<N>],
+    committers: &[Committer<N>],
 ) -> Page<SeatTold<L>, D, N>
-    ensures { All (λ pen. EachLeavesFirst D.moment D.left_since last.now result.device pen) pens.now }
+    ensures { All (λ committer. EachLeavesFirst D.moment D.left_since last.now result.device committer) committers.now }
 {
-    let page = scribe.close();
+    let page = group_commit.close();
     page.told().precedes(rt, last);
-    vouch_each(rt, &page, last, pens);
+    vouch_each(rt, &page, last, committers);
     page
 }
 
-/// Vouches for what each of these pens has kept, where the last goes on from all that was told of the lines.
-fn vouch_each<L: DeskName, D: Device, N: ScribeName, R: Wait>(
+/// Vouches for what each of these committers has kept, where the last goes on from all that was told of the lines.
+fn vouch_each<L: DeskName, D: Device, N: CommitName, R: Wait>(
     rt: &R,
     page: &Page<SeatTold<L>, D, N>,
     last: &SeatTold<L>,
-    pens: &[Pen<N>],
+    committers: &[Committer<N>],
 )
     requires { IsLater page.now.told last.now }
-    ensures { All (λ pen. EachLeavesFirst D.moment D.left_since last.now page.now.device pen) pens.now }
+    ensures { All (λ committer. EachLeavesFirst D.moment D.left_since last.now page.now.device committer) committers.now }
 {
-    for pen in pens {
-        vouch(rt, page, last, pen);
+    for committer in committers {
+        vouch(rt, page, last, committer);
     }
 }
 
-/// Vouches for what one pen has kept, where the last goes on from all that was told of the lines.
-fn vouch<L: DeskName, D: Device, N: ScribeName, R: Wait>(
+/// Vouches for what one committer has kept, where the last goes on from all that was told of the lines.
+fn vouch<L: DeskName, D: Device, N: CommitName, R: Wait>(
     rt: &R,
     page: &Page<SeatTold<L>, D, N>,
     last: &SeatTold<L>,
-    pen: &Pen<N>,
+    committer: &Committer<N>,
 )
     requires { IsLater page.now.told last.now }
-    ensures { EachLeavesFirst D.moment D.left_since last.now page.now.device pen.now }
+    ensures { EachLeavesFirst D.moment D.left_since last.now page.now.device committer.now }
 {
-    page.vouch(rt, pen);
+    page.vouch(rt, committer);
 }

@@ -4,12 +4,12 @@ ghost use Rattle.std.specs.Prelude.{◌≡◌, IfOk, OnErr, Ok};
 ghost use Rattle.rbc_model.specs.HistoryText.{IsToldOfTrack};
 ghost use Rattle.rbc_model.specs.Views.{view};
 ghost use Rattle.rbc_server.specs.Records.{scene_now};
-ghost use Rattle.rbc_session_laws.specs.declared.demand.Demand.TheVariants.{Event, Authority};
+ghost use Rattle.rbc_session_laws.specs.declared.command.Command.TheVariants.{Event, Authority};
 ghost use Rattle.rbc_kept.specs.Adds.{Follows, FollowsSaid};
 
 use rbc_model::{Memory, OrMemory, Told, TrainId};
-use rbc_server::{Record, View, candidate, commit, demand_in};
-use rbc_session_laws::Demand;
+use rbc_server::{Record, View, candidate, command_in, commit};
+use rbc_session_laws::Command;
 use std::alloc::Global;
 use std::thread::Threads;
 
@@ -27,11 +27,11 @@ pub fn follow(
     ensures followed { IfOk result (λ is_added. Follows is_added history.old line.now history.new) }
     ensures refused { OnErr result (history.new ≡ history.old) }
 {
-    match demand_in(history.track(), line) {
-        Ok(Demand::Event(told)) => hear(alloc, history, &told),
-        Ok(Demand::Authority(number)) => ask(rt, alloc, history, TrainId::new(number)),
-        Ok(Demand::Nothing) => Ok(false),
-        Ok(Demand::Show(_)) => Ok(false),
+    match command_in(history.track(), line) {
+        Ok(Command::Event(told)) => hear(alloc, history, &told),
+        Ok(Command::Authority(number)) => ask(rt, alloc, history, TrainId::new(number)),
+        Ok(Command::Nothing) => Ok(false),
+        Ok(Command::Show(_)) => Ok(false),
         Err(_) => Ok(false),
     }
 }

@@ -1,35 +1,35 @@
 //! A journal keeps the requests that led to the entries of a desk.
 
 use crate::{RequestLine, SeatTold, line_of};
+use rbc_group_commit::{CommitName, Committer, GroupCommit, Told};
 use rbc_journal::Device;
 use rbc_model::Memory;
-use rbc_scribe::{Pen, Scribe, ScribeName, Told};
 use rbc_server::words::Request;
 use rbc_server::{DeskName, Keeper, NotKept, Receipt, Seat};
 use std::alloc::Global;
 use std::sync::Wait;
 
-/// The journal of a desk, for its seats: a scribe that hears what they are told.
+/// The journal of a desk, for its seats: a group commit that hears what they are told.
 #[derive(Drop)]
-pub struct DeskJournal<'a, T: Told + Drop, D: Device, N: ScribeName> {
-    scribe: &'a Scribe<T, D, N>,
+pub struct DeskJournal<'a, T: Told + Drop, D: Device, N: CommitName> {
+    group_commit: &'a GroupCommit<T, D, N>,
 }
 
-impl<'a, T: Told + Drop, D: Device, N: ScribeName> DeskJournal<'a, T, D, N> {
-    /// Over the scribe of the desk.
-    pub fn over(scribe: &'a Scribe<T, D, N>) -> DeskJournal<'a, T, D, N> {
-        DeskJournal { scribe }
+impl<'a, T: Told + Drop, D: Device, N: CommitName> DeskJournal<'a, T, D, N> {
+    /// Over the group commit of the desk.
+    pub fn over(group_commit: &'a GroupCommit<T, D, N>) -> DeskJournal<'a, T, D, N> {
+        DeskJournal { group_commit }
     }
 }
 
-impl<'a, L: DeskName, D: Device, N: ScribeName> Keeper<L> for DeskJournal<'a, SeatTold<L>, D, N> {
-    type Pen = Pen<N>;
+impl<'a, L: DeskName, D: Device, N: CommitName> Keeper<L> for DeskJournal<'a, SeatTold<L>, D, N> {
+    type Committer = Committer<N>;
 
     type Text = RequestLine;
 
     ghost use Rattle.std.specs.Prelude.{◌≡◌, Ok};
     ghost use Rattle.rbc_model.specs.SessionText.{parse_session};
-    ghost use Rattle.rbc_scribe.specs.Marks.{HasLine};
+    ghost use Rattle.rbc_group_commit.specs.Marks.{HasLine};
 
     ghost kept = { HasLine };
 
@@ -49,12 +49,15 @@ impl<'a, L: DeskName, D: Device, N: ScribeName> Keeper<L> for DeskJournal<'a, Se
     fn keep<R: Wait>(
         &self,
         rt: &R,
-        pen: &mut Pen<N>,
+        committer: &mut Committer<N>,
         seat: &Seat<L>,
         receipt: &Receipt,
         text: RequestLine,
     ) -> Result<(), NotKept> {
-        match self.scribe.keep(rt, pen, line_of(seat, receipt, text)) {
+        match self
+            .group_commit
+            .keep(rt, committer, line_of(seat, receipt, text))
+        {
             Ok(()) => Ok(()),
             Err(_) => Err(NotKept),
         }

@@ -2,6 +2,7 @@
 
 ghost use Rattle.std.specs.Prelude.{◌≡◌, ◌<◌, [], false, not, is_some, IfSome, IfOk, IfErr};
 ghost use Rattle.rbc_server.specs.Records.{begin_of};
+ghost use Rattle.rbc_journal.specs.Beginnings.{beginning_of};
 ghost use Rattle.rbc_journal.specs.Device.{Only, LeavesOnly};
 ghost use Rattle.rbc_journal.specs.Gates.{counted};
 ghost use Rattle.rbc_journal.specs.Journal.{recovered, told_of};
@@ -34,7 +35,7 @@ pub struct Kept<D: Device> {
     /// The replies that rest.
     pub(crate) replies: Text,
     /// How many lines they answer.
-    pub(crate) resting: usize,
+    pub(crate) batch: usize,
 }
 
 impl<D: Device> Kept<D> {
@@ -60,6 +61,7 @@ impl<D: Device> Kept<D> {
         ensures track { IfOk result (λ kept. kept.history.track ≡ history.track) }
         ensures begin { IfOk result (λ kept. begin_of kept.history ≡ begin_of history) }
         ensures same { IfOk result (λ kept. recovered (D.seen kept.journal.device) ≡ recovered file.now.text.now) }
+        ensures beginning { IfOk result (λ kept. beginning_of (counted (D.seen kept.journal.device)) ≡ beginning_of (counted file.now.text.now)) }
 
         // A crash at any moment leaves the same lines.
         ensures any_moment { IfOk result (λ kept. LeavesOnly D.moment D.left_since device kept.journal.device
@@ -96,6 +98,7 @@ impl<D: Device> Kept<D> {
         ensures track { IfOk result (λ kept. kept.history.track ≡ history.track) }
         ensures begin { IfOk result (λ kept. begin_of kept.history ≡ begin_of history) }
         ensures same { IfOk result (λ kept. recovered (D.seen kept.journal.device) ≡ recovered file.now.text.now) }
+        ensures beginning { IfOk result (λ kept. beginning_of (counted (D.seen kept.journal.device)) ≡ beginning_of (counted file.now.text.now)) }
 
         // A crash at any moment leaves the same lines.
         ensures any_moment { IfOk result (λ kept. LeavesOnly D.moment D.left_since device kept.journal.device
@@ -112,7 +115,7 @@ impl<D: Device> Kept<D> {
                 journal,
                 has_failed: false,
                 replies: Text::new(alloc),
-                resting: 0,
+                batch: 0,
             }),
             Err((fault, device)) => Err((KeptFault::from(fault), device)),
         }

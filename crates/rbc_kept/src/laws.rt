@@ -6,7 +6,7 @@ ghost use Rattle.rbc_kept.specs.Adds.{Adds};
 ghost use Rattle.rbc_kept.specs.Entries.{TellsEntry, TellsFirst};
 ghost use Rattle.rbc_kept.specs.Lasting.{LinesLast};
 ghost use Rattle.rbc_kept.specs.Laws.{TellOne, BeginningsStand, AreRetold, JournalsAreSessions};
-ghost use Rattle.rbc_scribe.specs.Told.{HasLines};
+ghost use Rattle.rbc_group_commit.specs.Told.{HasLines};
 ghost use Rattle.rbc_server.specs.Records.{HistoryOnTrack};
 
 use rbc_journal::Device;
@@ -26,7 +26,7 @@ pub fn lines_tell_first_entries()
     ensures { (history : HistoryOnTrack) (least : ℕ) (file : List ℕ) → HasLines (TellsEntry history) least file → TellsFirst history least file }
 {}
 
-/// What a pen has kept lasts: a crash at any moment since a stamp that has the line of an entry left a file that tells the
+/// What a committer has kept lasts: a crash at any moment since a stamp that has the line of an entry left a file that tells the
 /// first entries of the record, this one among them. Nothing here runs.
 pub fn kept_lines_last<D: Device>()
     ensures { LinesLast D.moment D.left_since }

@@ -4,40 +4,40 @@ ghost use Rattle.std.specs.Prelude.{◌≡◌, ◌≤◌, ◌⊎◌, ◌∷◌, 
 ghost use Rattle.rbc_journal.specs.Journal.{recovered};
 ghost use Rattle.rbc_kept.specs.Kept.{IsReady};
 ghost use Rattle.rbc_server.specs.Seats.{seated};
-ghost use Rattle.rbc_scribe.specs.Stamps.{stamp_of};
+ghost use Rattle.rbc_group_commit.specs.Stamps.{stamp_of};
 
 use crate::{Kept, KeptFault, SeatTold};
+use rbc_group_commit::{CommitName, Committer, GroupCommit, Start, Told};
 use rbc_journal::Device;
-use rbc_scribe::{Pen, Scribe, ScribeName, Start, Told};
 use rbc_server::{Blank, Desk, DeskName, Seat};
 use std::alloc::Global;
 use std::sync::Wait;
 
-/// A desk with its seats, and the scribe of its journal with a pen for each of them.
-pub struct Opened<L: DeskName, T: Told + Drop, D: Device, N: ScribeName> {
+/// A desk with its seats, and the group commit of its journal with a committer for each of them.
+pub struct Opened<L: DeskName, T: Told + Drop, D: Device, N: CommitName> {
     /// The desk.
     pub desk: Desk<L>,
     /// Its seats.
     pub seats: Vec<Seat<L>>,
-    /// The scribe, over the journal that tells the desk's record.
-    pub scribe: Scribe<T, D, N>,
-    /// A pen for each seat.
-    pub pens: Vec<Pen<N>>,
+    /// The group commit, over the journal that tells the desk's record.
+    pub group_commit: GroupCommit<T, D, N>,
+    /// A committer for each seat.
+    pub committers: Vec<Committer<N>>,
 }
 
-/// A desk over a record that its journal tells, with this number of seats, each with a pen. The file is not asked for
+/// A desk over a record that its journal tells, with this number of seats, each with a committer. The file is not asked for
 /// anything.
 ///
 /// # Errors
 ///
-/// `Memory`, or `Full`, where the file has no room for a line of each pen. The file comes back.
-pub fn open<L: DeskName, D: Device, N: ScribeName, R: Wait>(
+/// `Memory`, or `Full`, where the file has no room for a line of each committer. The file comes back.
+pub fn open<L: DeskName, D: Device, N: CommitName, R: Wait>(
     rt: &R,
     alloc: Global,
     kept: Kept<D>,
     seats: usize,
     blank: Blank,
-    stamps: rbc_scribe::Blank,
+    stamps: rbc_group_commit::Blank,
 ) -> Result<Opened<L, SeatTold<L>, D, N>, (KeptFault, D)>
     requires ready { IsReady D.seen D.may_leave kept }
     requires opened { kept.history ≡ L.opened }
@@ -48,10 +48,10 @@ pub fn open<L: DeskName, D: Device, N: ScribeName, R: Wait>(
     requires some { (1 ≤ seats) × (seats ≤ 72) }
     requires stamps { stamps ≡ N.book }
 
-    // The file has a line for each of the record's entries, and the pens have a stamp of them.
+    // The file has a line for each of the record's entries, and the committers have a stamp of them.
     ensures lines { length (recovered (D.seen kept.journal.device)) ≡ length L.opened.entries }
     ensures seats { IfOk result (λ opened. opened.seats.items ≡ replicate seats (seated [] L.opened)) }
-    ensures pens { IfOk result (λ opened. opened.pens.items ≡ replicate seats (stamp_of D.seen D.moment kept.journal ∷ [])) }
+    ensures committers { IfOk result (λ opened. opened.committers.items ≡ replicate seats (stamp_of D.seen D.moment kept.journal ∷ [])) }
     ensures back { IfErr result (λ fault. fault.1 ≡ kept.journal.device) }
     ensures refused { IfErr result (λ fault. (fault.0 ≡ KeptFault.Memory) ⊎ (fault.0 ≡ KeptFault.Full)) }
 {
@@ -67,12 +67,12 @@ pub fn open<L: DeskName, D: Device, N: ScribeName, R: Wait>(
         told,
         lines,
     };
-    match Scribe::open(rt, alloc, start, seats, stamps) {
-        Ok((scribe, pens)) => Ok(Opened {
+    match GroupCommit::open(rt, alloc, start, seats, stamps) {
+        Ok((group_commit, committers)) => Ok(Opened {
             desk,
             seats: made,
-            scribe,
-            pens,
+            group_commit,
+            committers,
         }),
         Err((fault, device)) => {
             desk.end(rt);

@@ -38,7 +38,7 @@ impl<D: Device> Kept<D> {
         requires works { W.failed writer.old ≡ false }
         requires whole { self.old.has_failed ≡ false }
         requires settled { IsSettled D.seen D.may_leave self.old.journal }
-        requires few { self.old.resting < MOST_TOGETHER }
+        requires few { self.old.batch < MOST_TOGETHER }
         requires holds { self.old.replies.failed ≡ false }
         requires reply { ReplyIsWhole self.old.history.track reply.now }
         ensures rests { RestsOnly more result self.new }
@@ -69,7 +69,7 @@ impl<D: Device> Kept<D> {
         requires whole { self.old.has_failed ≡ false }
         requires settled { IsSettled D.seen D.may_leave self.old.journal }
         requires holds { self.old.replies.failed ≡ false }
-        ensures none_rests { self.new.resting ≡ 0 }
+        ensures none_rests { self.new.batch ≡ 0 }
         ensures shown { (reply : List ℕ) × (text : List ℕ)
             × AnswersInquiry (begin_of self.old.history) self.old.history.entries reply None inquiry
             × IsSaid D.seen D.may_leave D.moment D.left_since D.faults self.old reply text self.new
@@ -81,11 +81,11 @@ impl<D: Device> Kept<D> {
 
     /// Lets a reply rest behind the others, if it may, and tells whether it does.
     fn rest(&mut self, reply: &SessionReply, more: bool) -> bool
-        requires few { self.old.resting < MOST_TOGETHER }
+        requires few { self.old.batch < MOST_TOGETHER }
         requires holds { self.old.replies.failed ≡ false }
         requires reply { ReplyIsWhole self.old.history.track reply.now }
         ensures may { IsTrue result → more ≡ true }
-        ensures few { self.new.resting < MOST_TOGETHER }
+        ensures few { self.new.batch < MOST_TOGETHER }
         ensures history { self.new.history ≡ self.old.history }
         ensures journal { self.new.journal ≡ self.old.journal }
         ensures whole { self.new.has_failed ≡ self.old.has_failed }
@@ -101,18 +101,18 @@ impl<D: Device> Kept<D> {
 
     /// Whether a reply may rest.
     fn has_room(&self) -> bool
-        requires { self.now.resting < MOST_TOGETHER }
-        ensures { IsTrue result → self.now.resting + 1 < MOST_TOGETHER }
+        requires { self.now.batch < MOST_TOGETHER }
+        ensures { IsTrue result → self.now.batch + 1 < MOST_TOGETHER }
     {
-        self.resting + 1 < MOST_TOGETHER
+        self.batch + 1 < MOST_TOGETHER
     }
 
     /// Keeps the text of a reply behind those that rest, and tells whether there was memory for it.
     fn hold(&mut self, reply: &SessionReply) -> bool
-        requires few { self.old.resting + 1 < MOST_TOGETHER }
+        requires few { self.old.batch + 1 < MOST_TOGETHER }
         requires holds { self.old.replies.failed ≡ false }
         requires reply { ReplyIsWhole self.old.history.track reply.now }
-        ensures few { self.new.resting < MOST_TOGETHER }
+        ensures few { self.new.batch < MOST_TOGETHER }
         ensures history { self.new.history ≡ self.old.history }
         ensures journal { self.new.journal ≡ self.old.journal }
         ensures whole { self.new.has_failed ≡ self.old.has_failed }
@@ -125,7 +125,7 @@ impl<D: Device> Kept<D> {
             self.replies.cut(length);
             return false;
         }
-        self.resting += 1;
+        self.batch += 1;
         true
     }
 
@@ -149,13 +149,13 @@ impl<D: Device> Kept<D> {
         ensures later { D.faults self.old.journal.device ≤ D.faults self.new.journal.device }
         ensures failed { self.new.has_failed ≡ true → D.faults self.old.journal.device < D.faults self.new.journal.device }
         ensures holds { self.new.replies.failed ≡ false }
-        ensures none_rests { self.new.resting ≡ 0 }
+        ensures none_rests { self.new.batch ≡ 0 }
         ensures going { OnOk result ((self.new.has_failed ≡ false) × (W.failed writer.new ≡ false)) }
         ensures written { self.new.has_failed ≡ false
             → Prints (W.written writer.old) (W.written writer.new) (W.failed writer.new) self.old.replies.bytes.items result }
         ensures unwritten { self.new.has_failed ≡ true → Keeps (W.written writer.old) (W.written writer.new) × (is_err result ≡ true) }
     {
-        self.resting = 0;
+        self.batch = 0;
         self.commit(writer)?;
         let written = put(writer, self.replies.bytes.as_slice());
         self.replies.cut(0);
@@ -173,7 +173,7 @@ impl<D: Device> Kept<D> {
         requires settled { IsSettled D.seen D.may_leave self.old.journal }
         ensures history { self.new.history ≡ self.old.history }
         ensures replies { self.new.replies ≡ self.old.replies }
-        ensures resting { self.new.resting ≡ self.old.resting }
+        ensures batch { self.new.batch ≡ self.old.batch }
         ensures acknowledged { OnOk result (IsSettled D.seen D.may_leave self.new.journal
             × (recovered (D.seen self.new.journal.device) ≡ recovered (D.seen self.old.journal.device) ++ staged self.old.journal)
             × (staged self.new.journal ≡ [])) }

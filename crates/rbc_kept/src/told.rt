@@ -1,11 +1,11 @@
-//! What a seat was told, as the scribe of its desk hears it.
+//! What a seat was told, as the group commit of its desk hears it.
 
 ghost use Rattle.std.specs.Prelude.{◌≡◌, ℕ, List};
 ghost use Rattle.rbc_kept.specs.Entries.{TellsEntry};
 ghost use Rattle.rbc_server.specs.Later.{IsLater};
 
 use crate::RequestLine;
-use rbc_scribe::{Line, Told};
+use rbc_group_commit::{Line, Told};
 use rbc_server::{DeskName, Receipt, Seat, Sight};
 use std::marker::{Model, PhantomData};
 use std::sync::Wait;

@@ -2,9 +2,9 @@
 
 mod bits;
 mod faults;
+mod group_commits;
 mod journals;
 mod messages;
-mod scribes;
 mod sessions;
 mod tallies;
 

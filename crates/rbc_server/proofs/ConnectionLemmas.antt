@@ -29,15 +29,15 @@ module _ {L P : Type 0} (kept : P → ℕ → Type 0) where
       (ended : Result (Unit {0}) SessionFault) (input : List ℕ) → left ≡ came.says → written ≡ came.told
       → went ≡ record { unread = unread; told = told; held_back = held; found_end = found_end; read_failed = read_failed; write_failed = write_failed; ended = ended }
       → Consumes left unread input
-      → (session : IsSeatSession before.seat after.seat input written told ended) × AreToldKept (kept after.pen) after.has_failed session.turns written told
+      → (session : IsSeatSession before.seat after.seat input written told ended) × AreToldKept (kept after.committer) after.has_failed session.turns written told
       → ((s : IsSeatSession before.seat after.seat input written told ended) → AreLineAnswers before.seat.told s.turns)
-      → StaysKept kept before.pen after.pen
+      → StaysKept kept before.committer after.committer
       → OnOk ended (IsAtEnd unread) → OnOk ended (found_end ≡ true) → ((ended ≡ Err Read) ↔ IsTrue read_failed) → (ended ≡ Err Write → IsTrue (after.has_failed || write_failed)) → (IsTrue write_failed → ended ≡ Err Write)
       → (ended ≡ Err Memory → (unread ≡ left) × (told ≡ written) × (after ≡ afresh before)) → ((after.has_failed || write_failed) ≡ false → held ≡ [])
       → IsConnection kept (record { came = came; before = before; after = after; went = went })
   talked came before after went left unread written told held found_end read_failed write_failed ended input says tells parted read session answers stays end found reading writing failing memory handed =
-      let begun : (s : IsSeatSession before.seat after.seat input came.told told ended) × AreToldKept (kept after.pen) after.has_failed s.turns came.told told × AreLineAnswers before.seat.told s.turns =
-      subst (λ (w : Option (List ℕ)). (s : IsSeatSession before.seat after.seat input w told ended) × AreToldKept (kept after.pen) after.has_failed s.turns w told × AreLineAnswers before.seat.told s.turns)
+      let begun : (s : IsSeatSession before.seat after.seat input came.told told ended) × AreToldKept (kept after.committer) after.has_failed s.turns came.told told × AreLineAnswers before.seat.told s.turns =
+      subst (λ (w : Option (List ℕ)). (s : IsSeatSession before.seat after.seat input w told ended) × AreToldKept (kept after.committer) after.has_failed s.turns w told × AreLineAnswers before.seat.told s.turns)
       tells (session.0, session.1, answers session.0) in
       let parting : Parting = record { unread = unread; told = told; held_back = held; found_end = found_end; read_failed = read_failed; write_failed = write_failed; ended = ended } in
       let whole : IsConnection kept (record { came = came; before = before; after = after; went = parting }) = record {
@@ -73,14 +73,14 @@ none_begun kept came sitting went parted =
     let seat = sitting.seat in
     let session : IsSeatSession seat seat [] came.told came.told (Err Memory) =
     record { turns = []; rest = []; lines = refl; few = lit≤ tt; each = refl; receipts = sym (append-nil seat.receipts); ends = (Appends-nil came.told, refl) } in
-    let none : AreToldKept (kept sitting.pen) false [] came.told came.told = record {
+    let none : AreToldKept (kept sitting.committer) false [] came.told came.told = record {
       told = [];
       untold = [];
       all = refl;
       none_untold = λ _. refl;
       one_untold = lit≤ tt;
       written = ([], [], refl, Appends-nil came.told);
-      each = All-nil (λ (turn : SeatTurn). IsKept (kept sitting.pen) turn.receipt);
+      each = All-nil (λ (turn : SeatTurn). IsKept (kept sitting.committer) turn.receipt);
     } in
     let parting : Parting = record { unread = came.says; told = came.told; held_back = []; found_end = false; read_failed = false; write_failed = false; ended = Err Memory } in
     let whole : IsConnection kept (record { came = came; before = sitting; after = afresh sitting; went = parting }) = record {
@@ -307,33 +307,33 @@ none_failed failed (v ∷ vs) none =
 
 -- keeping failed in none of these visits
 pub parted : {V G L P : Type 0} (keeps : P → ℕ → Type 0) (sitting : V → Sitting L P) (gone : V → G) (parting : G → Parting) (coming : Option (List Coming)) (sittings : List (Sitting L P)) (visits : List V)
-    (seats : List Seated) (pens : List P) (left : List G)
+    (seats : List Seated) (committers : List P) (left : List G)
     → AreConnections keeps coming sittings (map sitting visits) (map (λ v. parting (gone v)) visits) → list_any (λ v. (sitting v).has_failed) visits ≡ false
-    → seats ≡ map (λ v. (sitting v).seat) visits → pens ≡ map (λ v. (sitting v).pen) visits → left ≡ map gone visits → AreParted keeps coming sittings seats pens (map parting left)
-parted {L = L} {P = P} keeps sitting gone parting coming sittings visits seats pens left connections whole in_seats in_pens in_order =
+    → seats ≡ map (λ v. (sitting v).seat) visits → committers ≡ map (λ v. (sitting v).committer) visits → left ≡ map gone visits → AreParted keeps coming sittings seats committers (map parting left)
+parted {L = L} {P = P} keeps sitting gone parting coming sittings visits seats committers left connections whole in_seats in_committers in_order =
     let went : map (λ v. parting (gone v)) visits ≡ map parting left = sym (ap (map parting) in_order ∙ map_twice gone parting visits) in
     record {
       served = map sitting visits;
       connections = subst (λ (w : List Parting). AreConnections keeps coming sittings (map sitting visits) w) went connections;
       whole = All-map (λ (s : Sitting L P). s.has_failed ≡ false) sitting visits (none_failed (λ v. (sitting v).has_failed) visits whole);
       seats_are = in_seats ∙ sym (map_twice sitting (λ (s : Sitting L P). s.seat) visits);
-      pens_are = in_pens ∙ sym (map_twice sitting (λ (s : Sitting L P). s.pen) visits);
+      committers_are = in_committers ∙ sym (map_twice sitting (λ (s : Sitting L P). s.committer) visits);
     }
 
 -- ---- where keeping failed
 
--- one of the pens knows that keeping failed
-knows_behind : {P : Type 0} (failed : P → Type 0) (pen : P) (pens : List P) → OneKnows failed pens → OneKnows failed (pen ∷ pens)
-knows_behind failed pen pens knows = (knows.0, (suc knows.1.0, omega (arith, knows.1.1), knows.1.2), knows.2)
+-- one of the committers knows that keeping failed
+knows_behind : {P : Type 0} (failed : P → Type 0) (committer : P) (committers : List P) → OneKnows failed committers → OneKnows failed (committer ∷ committers)
+knows_behind failed committer committers knows = (knows.0, (suc knows.1.0, omega (arith, knows.1.1), knows.1.2), knows.2)
 
 one_more : {V L P : Type 0} (failed : P → Type 0) (sitting : V → Sitting L P) (v : V) (visits : List V) (b : Bool) → (sitting v).has_failed ≡ b → TellsFailure failed (sitting v)
-    → (b || list_any (λ v. (sitting v).has_failed) visits) ≡ true → (list_any (λ v. (sitting v).has_failed) visits ≡ true → OneKnows failed (map (λ v. (sitting v).pen) visits))
-    → OneKnows failed (map (λ v. (sitting v).pen) (v ∷ visits))
-one_more failed sitting v visits true now told is rest = ((sitting v).pen, (0, omega arith, refl), told now)
-one_more failed sitting v visits false now told is rest = knows_behind failed (sitting v).pen (map (λ v. (sitting v).pen) visits) (rest is)
+    → (b || list_any (λ v. (sitting v).has_failed) visits) ≡ true → (list_any (λ v. (sitting v).has_failed) visits ≡ true → OneKnows failed (map (λ v. (sitting v).committer) visits))
+    → OneKnows failed (map (λ v. (sitting v).committer) (v ∷ visits))
+one_more failed sitting v visits true now told is rest = ((sitting v).committer, (0, omega arith, refl), told now)
+one_more failed sitting v visits false now told is rest = knows_behind failed (sitting v).committer (map (λ v. (sitting v).committer) visits) (rest is)
 
 pub one_knows : {V L P : Type 0} (failed : P → Type 0) (sitting : V → Sitting L P) (visits : List V) → All (λ v. TellsFailure failed (sitting v)) visits
-    → list_any (λ v. (sitting v).has_failed) visits ≡ true → OneKnows failed (map (λ v. (sitting v).pen) visits)
+    → list_any (λ v. (sitting v).has_failed) visits ≡ true → OneKnows failed (map (λ v. (sitting v).committer) visits)
 one_knows failed sitting [] told is = absurd (let c : ⊥ = cc in c)
 one_knows failed sitting (v ∷ visits) told is =
     one_more failed sitting v visits (sitting v).has_failed refl (told 0 v (omega arith)) is (λ more. one_knows failed sitting visits (λ i d inside. told (suc i) d (omega (arith, inside))) more)
@@ -356,25 +356,25 @@ served_so keeps coming to_come sittings served partings None true is = is
 served_so keeps coming to_come sittings served partings None false is = is
 served_so keeps coming to_come sittings served partings (Some f) b is = is
 
--- who was served, by what stood in the way, with the pens and what is left of the clients apart
+-- who was served, by what stood in the way, with the committers and what is left of the clients apart
 pub stands : {V G L P : Type 0} (keeps : P → ℕ → Type 0) (sitting : V → Sitting L P) (gone : V → G) (parting : G → Parting) (coming to_come : Option (List Coming)) (sittings : List (Sitting L P))
-    (visits : List V) (pens : List P) (left : List G) (fault : Option ConnectFault) (b : Bool)
-    → AreServed keeps coming to_come sittings (map sitting visits) (map (λ v. parting (gone v)) visits) fault → pens ≡ map (λ v. (sitting v).pen) visits → left ≡ map gone visits
-    → StandsConnected keeps coming to_come sittings pens (map parting left) (fault_of fault b)
-stands {L = L} {P = P} keeps sitting gone parting coming to_come sittings visits pens left fault b served in_pens in_order =
+    (visits : List V) (committers : List P) (left : List G) (fault : Option ConnectFault) (b : Bool)
+    → AreServed keeps coming to_come sittings (map sitting visits) (map (λ v. parting (gone v)) visits) fault → committers ≡ map (λ v. (sitting v).committer) visits → left ≡ map gone visits
+    → StandsConnected keeps coming to_come sittings committers (map parting left) (fault_of fault b)
+stands {L = L} {P = P} keeps sitting gone parting coming to_come sittings visits committers left fault b served in_committers in_order =
     let went : map (λ v. parting (gone v)) visits ≡ map parting left = sym (ap (map parting) in_order ∙ map_twice gone parting visits) in (
       map sitting visits,
       served_so keeps coming to_come sittings (map sitting visits) (map parting left) fault b (subst (λ (w : List Parting). AreServed keeps coming to_come sittings (map sitting visits) w fault) went served),
-      in_pens ∙ sym (map_twice sitting (λ (s : Sitting L P). s.pen) visits),
+      in_committers ∙ sym (map_twice sitting (λ (s : Sitting L P). s.committer) visits),
     )
 
 -- there was no room for any
-pub none_stand : {G L P : Type 0} (keeps : P → ℕ → Type 0) (parting : G → Parting) (coming to_come : Option (List Coming)) (sittings : List (Sitting L P)) (pens : List P) (left : List G) (fault : Option ConnectFault)
-    → pens ≡ [] → left ≡ [] → fault ≡ Some NoThread → coming ≡ to_come → StandsConnected keeps coming to_come sittings pens (map parting left) fault
-none_stand {G = G} {L = L} {P = P} keeps parting coming to_come sittings pens left fault no_pen none_left is same =
+pub none_stand : {G L P : Type 0} (keeps : P → ℕ → Type 0) (parting : G → Parting) (coming to_come : Option (List Coming)) (sittings : List (Sitting L P)) (committers : List P) (left : List G) (fault : Option ConnectFault)
+    → committers ≡ [] → left ≡ [] → fault ≡ Some NoThread → coming ≡ to_come → StandsConnected keeps coming to_come sittings committers (map parting left) fault
+none_stand {G = G} {L = L} {P = P} keeps parting coming to_come sittings committers left fault no_committer none_left is same =
     let none : AreConnections {L = L} {P = P} keeps coming [] [] [] =
     record { connections = []; each = All-nil (IsConnection keeps); still_to_come = coming; clients = none_came coming; before = refl; after = refl; went = refl } in
     let all : AllButOneServed {L = L} {P = P} keeps coming to_come sittings [] [] =
     record { connections = none; unserved = []; others = subst (λ c. Came coming c []) same (none_came coming); one = lit≤ tt; fits = omega arith } in
-    subst (λ (l : List G). StandsConnected keeps coming to_come sittings pens (map parting l) fault) (sym none_left)
-    (subst (λ (f : Option ConnectFault). StandsConnected keeps coming to_come sittings pens [] f) (sym is) ([], all, no_pen))
+    subst (λ (l : List G). StandsConnected keeps coming to_come sittings committers (map parting l) fault) (sym none_left)
+    (subst (λ (f : Option ConnectFault). StandsConnected keeps coming to_come sittings committers [] f) (sym is) ([], all, no_committer))

@@ -29,14 +29,14 @@ use Rattle.rbc_server.specs.declared.serving.ServeFault.TheVariants.{Port, Write
 use Rattle.rbc_server.specs.declared.staff.Staff.{Staff}
 
 -- what came of connections and a sweep, step by step
-pub swept_with : {L P : Type 0} (keeps : P → ℕ → Type 0) (coming : Option (List Coming)) (partings : List Parting) (staff : Staff L P) (served others brought swept heard seats : List Seated) (served_pens pens : List P)
+pub swept_with : {L P : Type 0} (keeps : P → ℕ → Type 0) (coming : Option (List Coming)) (partings : List Parting) (staff : Staff L P) (served others brought swept heard seats : List Seated) (served_committers committers : List P)
     (outcomes : List Outcome)
-    → AreParted keeps coming staff.sittings.items served served_pens partings → others ≡ served → AllZip (IsBrought others) staff.workers.items brought → AllZip AreFirst brought swept
+    → AreParted keeps coming staff.sittings.items served served_committers partings → others ≡ served → AllZip (IsBrought others) staff.workers.items brought → AllZip AreFirst brought swept
     → AreTrainsOfFirst brought swept (map train_of outcomes) → All (IsToldToOne brought swept) outcomes → IsPermutation (all_receipts brought ++ granted outcomes) (all_receipts swept)
-    → AreKept keeps swept served served_pens outcomes heard pens → seats ≡ heard ++ swept → IsSwept keeps coming partings staff seats pens outcomes
-swept_with keeps coming partings staff served others brought swept heard seats served_pens pens outcomes connected same told first trains answered gained is_kept all = record {
+    → AreKept keeps swept served served_committers outcomes heard committers → seats ≡ heard ++ swept → IsSwept keeps coming partings staff seats committers outcomes
+swept_with keeps coming partings staff served others brought swept heard seats served_committers committers outcomes connected same told first trains answered gained is_kept all = record {
   served = served;
-  served_pens = served_pens;
+  served_committers = served_committers;
   brought = brought;
   swept = swept;
   after_connections = connected;
@@ -55,15 +55,15 @@ pub none_there : {X : Type 0} (workers : Vec X) → (workers.len == 0) ≡ true 
 none_there workers e = sym workers.ok.0 ∙ eqb-true workers.len 0 e
 
 -- where there are workers, such a sweep is what is owed
-pub swept_by : {L P : Type 0} (keeps : P → ℕ → Type 0) (coming : Option (List Coming)) (partings : List Parting) (staff : Staff L P) (seats : List Seated) (pens : List P) (outcomes : List Outcome) (workers : List Seated)
-    → 0 < length workers → IsSwept keeps coming partings staff seats pens outcomes → IsSweptBy workers keeps coming partings staff seats pens outcomes
-swept_by keeps coming partings staff seats pens outcomes [] some swept = absurd (omega (arith, some))
-swept_by keeps coming partings staff seats pens outcomes (worker ∷ workers) some swept = swept
+pub swept_by : {L P : Type 0} (keeps : P → ℕ → Type 0) (coming : Option (List Coming)) (partings : List Parting) (staff : Staff L P) (seats : List Seated) (committers : List P) (outcomes : List Outcome) (workers : List Seated)
+    → 0 < length workers → IsSwept keeps coming partings staff seats committers outcomes → IsSweptBy workers keeps coming partings staff seats committers outcomes
+swept_by keeps coming partings staff seats committers outcomes [] some swept = absurd (omega (arith, some))
+swept_by keeps coming partings staff seats committers outcomes (worker ∷ workers) some swept = swept
 
 -- where there are none, nothing is owed behind the clients
-pub unswept_by : {L P : Type 0} (keeps : P → ℕ → Type 0) (track : Track) (coming : Option (List Coming)) (partings : List Parting) (staff : Staff L P) (seats : List Seated) (pens : List P) (old : Option (List ℕ))
-    → length staff.workers.items ≡ 0 → AreParted keeps coming staff.sittings.items seats pens partings → IsAttended keeps track coming partings staff seats pens old old
-unswept_by keeps track coming partings staff seats pens old none parted = record {
+pub unswept_by : {L P : Type 0} (keeps : P → ℕ → Type 0) (track : Track) (coming : Option (List Coming)) (partings : List Parting) (staff : Staff L P) (seats : List Seated) (committers : List P) (old : Option (List ℕ))
+    → length staff.workers.items ≡ 0 → AreParted keeps coming staff.sittings.items seats committers partings → IsAttended keeps track coming partings staff seats committers old old
+unswept_by keeps track coming partings staff seats committers old none parted = record {
   outcomes = [];
   sweep = by staff.workers.items none;
   told = [];
@@ -71,48 +71,48 @@ unswept_by keeps track coming partings staff seats pens old none parted = record
   written = Appends-nil old;
 }
   where
-    by : (workers : List Seated) → length workers ≡ 0 → IsSweptBy workers keeps coming partings staff seats pens []
+    by : (workers : List Seated) → length workers ≡ 0 → IsSweptBy workers keeps coming partings staff seats committers []
     by [] none = (parted, refl)
     by (worker ∷ workers) none = absurd (omega (arith, none))
 
--- the first seat heard the others, and by its pen what was granted is kept
-pub swept_kept : {P : Type 0} (keeps : P → ℕ → Type 0) (others seats : List Seated) (pens : List P) (outcomes : List Outcome) (had told : Seated) (pen knows : P) → 0 < length seats → 0 < length pens
-    → had ≡ get_or seats 0 had → pen ≡ get_or pens 0 pen → IsBrought others had told → StaysKept keeps pen knows → All (λ (receipt : Receipt). keeps knows receipt.place) (granted outcomes)
-    → AreKept keeps others seats pens outcomes (set seats 0 told) (set pens 0 knows)
-swept_kept keeps others [] pens outcomes had told pen knows some one is also brought stays is_kept = absurd (omega (arith, some))
-swept_kept keeps others (s ∷ more) [] outcomes had told pen knows some one is also brought stays is_kept = absurd (omega (arith, one))
-swept_kept keeps others (s ∷ more) (p ∷ other_pens) outcomes had told pen knows some one is also brought stays is_kept = record {
+-- the first seat heard the others, and by its committer what was granted is kept
+pub swept_kept : {P : Type 0} (keeps : P → ℕ → Type 0) (others seats : List Seated) (committers : List P) (outcomes : List Outcome) (had told : Seated) (committer knows : P) → 0 < length seats → 0 < length committers
+    → had ≡ get_or seats 0 had → committer ≡ get_or committers 0 committer → IsBrought others had told → StaysKept keeps committer knows → All (λ (receipt : Receipt). keeps knows receipt.place) (granted outcomes)
+    → AreKept keeps others seats committers outcomes (set seats 0 told) (set committers 0 knows)
+swept_kept keeps others [] committers outcomes had told committer knows some one is also brought stays is_kept = absurd (omega (arith, some))
+swept_kept keeps others (s ∷ more) [] outcomes had told committer knows some one is also brought stays is_kept = absurd (omega (arith, one))
+swept_kept keeps others (s ∷ more) (p ∷ other_committers) outcomes had told committer knows some one is also brought stays is_kept = record {
   seat = s;
   more = more;
-  pen = p;
-  other_pens = other_pens;
+  committer = p;
+  other_committers = other_committers;
   told = told;
   knows = knows;
   seats_were = refl;
-  pens_were = refl;
+  committers_were = refl;
   heard_is = refl;
   last_is = refl;
   brought = subst (λ (had : Seated). IsBrought others had told) is brought;
-  stays = subst (λ pen. StaysKept keeps pen knows) also stays;
+  stays = subst (λ committer. StaysKept keeps committer knows) also stays;
   granted_kept = is_kept;
 }
 
--- its pen goes on, and the others are as they were
-pub go_on_first : {P : Type 0} (keeps : P → ℕ → Type 0) (pens : List P) (pen knows : P) → 0 < length pens → pen ≡ get_or pens 0 pen → StaysKept keeps pen knows → GoOn keeps pens (set pens 0 knows)
-go_on_first keeps [] pen knows some is stays = absurd (omega (arith, some))
-go_on_first keeps (p ∷ others) pen knows some is stays = (knows, subst (λ pen. StaysKept keeps pen knows) is stays, refl)
+-- its committer goes on, and the others are as they were
+pub go_on_first : {P : Type 0} (keeps : P → ℕ → Type 0) (committers : List P) (committer knows : P) → 0 < length committers → committer ≡ get_or committers 0 committer → StaysKept keeps committer knows → GoOn keeps committers (set committers 0 knows)
+go_on_first keeps [] committer knows some is stays = absurd (omega (arith, some))
+go_on_first keeps (p ∷ others) committer knows some is stays = (knows, subst (λ committer. StaysKept keeps committer knows) is stays, refl)
 
 -- it knows that keeping has failed
-pub first_knows : {P : Type 0} (failed : P → Type 0) (pens : List P) (knows : P) → 0 < length pens → failed knows → OneKnows failed (set pens 0 knows)
+pub first_knows : {P : Type 0} (failed : P → Type 0) (committers : List P) (knows : P) → 0 < length committers → failed knows → OneKnows failed (set committers 0 knows)
 first_knows failed [] knows some broken = absurd (omega (arith, some))
 first_knows failed (p ∷ others) knows some broken = (knows, (0, omega arith, refl), broken)
 
 -- where the sittings have served, there is a first seat
-pub first_is_there : {L P : Type 0} (keeps : P → ℕ → Type 0) (track : Track) (coming : Option (List Coming)) (partings : List Parting) (staff : Staff L P) (seats : List Seated) (pens : List P) (old new : Option (List ℕ))
-    → 1 ≤ vec_len staff.sittings → IsAttended keeps track coming partings staff seats pens old new → 0 < length seats
-first_is_there {L} {P} keeps track coming partings staff seats pens old new some attended = by staff.workers.items attended.sweep
+pub first_is_there : {L P : Type 0} (keeps : P → ℕ → Type 0) (track : Track) (coming : Option (List Coming)) (partings : List Parting) (staff : Staff L P) (seats : List Seated) (committers : List P) (old new : Option (List ℕ))
+    → 1 ≤ vec_len staff.sittings → IsAttended keeps track coming partings staff seats committers old new → 0 < length seats
+first_is_there {L} {P} keeps track coming partings staff seats committers old new some attended = by staff.workers.items attended.sweep
   where
-    by : (workers : List Seated) → IsSweptBy workers keeps coming partings staff seats pens attended.outcomes → 0 < length seats
+    by : (workers : List Seated) → IsSweptBy workers keeps coming partings staff seats committers attended.outcomes → 0 < length seats
     by [] unswept =
         let parted = unswept.0 in
         let cs = parted.connections.connections in
@@ -131,22 +131,22 @@ first_is_there {L} {P} keeps track coming partings staff seats pens old new some
         let is_kept = sweep.is_kept in
         omega (arith, ap (λ (l : List Seated). length l) (sweep.all ∙ ap (λ l. l ++ sweep.swept) is_kept.heard_is), length-append (is_kept.told ∷ is_kept.more) sweep.swept)
 
-pub served_then : {L P E : Type 0} (keeps : P → ℕ → Type 0) (r : Result HistoryOnTrack E) (opened : HistoryOnTrack) (coming : Option (List Coming)) (partings : List Parting) (staff : Staff L P) (seats : List Seated) (pens : List P)
-    (old so_far new : Option (List ℕ)) → IsAttended keeps opened.track coming partings staff seats pens old so_far → IfOk r (IsClosed opened seats)
-    → IfOk r (λ log. Appends so_far new (closed_line (length log.entries))) → IfOk r (IsServed keeps opened coming partings staff pens old new)
-served_then keeps (Ok log) opened coming partings staff seats pens old so_far new attended closing closed =
+pub served_then : {L P E : Type 0} (keeps : P → ℕ → Type 0) (r : Result HistoryOnTrack E) (opened : HistoryOnTrack) (coming : Option (List Coming)) (partings : List Parting) (staff : Staff L P) (seats : List Seated) (committers : List P)
+    (old so_far new : Option (List ℕ)) → IsAttended keeps opened.track coming partings staff seats committers old so_far → IfOk r (IsClosed opened seats)
+    → IfOk r (λ log. Appends so_far new (closed_line (length log.entries))) → IfOk r (IsServed keeps opened coming partings staff committers old new)
+served_then keeps (Ok log) opened coming partings staff seats committers old so_far new attended closing closed =
     record { seats = seats; so_far = so_far; attended = attended; closing = closing; closed = closed }
-served_then keeps (Err fault) opened coming partings staff seats pens old so_far new attended closing closed = tt
+served_then keeps (Err fault) opened coming partings staff seats committers old so_far new attended closing closed = tt
 
 -- ---- faults
 
--- pens that are as they were
+-- committers that are as they were
 pub go_on_as : {P : Type 0} (keeps : P → ℕ → Type 0) (had has : List P) → has ≡ had → GoOn keeps had has
 go_on_as keeps [] has is = is
 go_on_as keeps (p ∷ others) has is = (p, (λ place k. k), is)
 
-pub go_on_same : {P : Type 0} (keeps : P → ℕ → Type 0) (pens : List P) → GoOn keeps pens pens
-go_on_same keeps pens = go_on_as keeps pens pens refl
+pub go_on_same : {P : Type 0} (keeps : P → ℕ → Type 0) (committers : List P) → GoOn keeps committers committers
+go_on_same keeps committers = go_on_as keeps committers committers refl
 
 -- no connection fails to be written
 pub no_write : (connect : ConnectFault) → serve_fault connect ≡ Write → ⊥
@@ -195,39 +195,39 @@ fewer_come {L} {P} keeps coming sittings served partings all =
 
 module _ {L P : Type 0} (keeps : P → ℕ → Type 0) (opened : HistoryOnTrack) (coming to_come : Option (List Coming)) (parts : ℕ) (partings : List Parting) (staff : Staff L P) (old new : Option (List ℕ)) where
   -- the desk could not be closed, or the last line not be told
-  pub unclosed_told : (seats : List Seated) (pens : List P) (so_far : Option (List ℕ)) (fault : ServeFault) → IsAttended keeps opened.track coming partings staff seats pens old so_far
-      → IsCloseFault opened parts seats so_far new fault → IsServeFault keeps opened coming to_come parts partings staff pens old new fault
-  unclosed_told seats pens so_far Port attended is = absurd is
-  unclosed_told seats pens so_far Write attended is = inr (record { seats = seats; so_far = so_far; attended = attended; unclosed = is })
-  unclosed_told seats pens so_far Memory attended is = absurd is
-  unclosed_told seats pens so_far Journal attended is = absurd is
-  unclosed_told seats pens so_far (Close fault) attended is = record { seats = seats; so_far = so_far; attended = attended; unclosed = is }
+  pub unclosed_told : (seats : List Seated) (committers : List P) (so_far : Option (List ℕ)) (fault : ServeFault) → IsAttended keeps opened.track coming partings staff seats committers old so_far
+      → IsCloseFault opened parts seats so_far new fault → IsServeFault keeps opened coming to_come parts partings staff committers old new fault
+  unclosed_told seats committers so_far Port attended is = absurd is
+  unclosed_told seats committers so_far Write attended is = inr (record { seats = seats; so_far = so_far; attended = attended; unclosed = is })
+  unclosed_told seats committers so_far Memory attended is = absurd is
+  unclosed_told seats committers so_far Journal attended is = absurd is
+  unclosed_told seats committers so_far (Close fault) attended is = record { seats = seats; so_far = so_far; attended = attended; unclosed = is }
 
-  by_connect : (pens : List P) (connect : ConnectFault) → StandsConnected keeps coming to_come staff.sittings.items pens partings (Some connect)
-      → IsServeFault keeps opened coming to_come parts partings staff pens old new (serve_fault connect)
-  by_connect pens NoConnection stands = stands
-  by_connect pens NoThread stands = (stands.0, stands.1, go_on_as keeps (map (λ (s : Sitting L P). s.pen) stands.0) pens stands.2)
-  by_connect pens NotKeptInSession stands = (stands.0, stands.1, go_on_as keeps (map (λ (s : Sitting L P). s.pen) stands.0) pens stands.2)
+  by_connect : (committers : List P) (connect : ConnectFault) → StandsConnected keeps coming to_come staff.sittings.items committers partings (Some connect)
+      → IsServeFault keeps opened coming to_come parts partings staff committers old new (serve_fault connect)
+  by_connect committers NoConnection stands = stands
+  by_connect committers NoThread stands = (stands.0, stands.1, go_on_as keeps (map (λ (s : Sitting L P). s.committer) stands.0) committers stands.2)
+  by_connect committers NotKeptInSession stands = (stands.0, stands.1, go_on_as keeps (map (λ (s : Sitting L P). s.committer) stands.0) committers stands.2)
 
   -- not all connections could be served
-  pub connect_told : (pens : List P) (connect : ConnectFault) (fault : ServeFault) → fault ≡ serve_fault connect → StandsConnected keeps coming to_come staff.sittings.items pens partings (Some connect)
-      → IsServeFault keeps opened coming to_come parts partings staff pens old new fault
-  connect_told pens connect fault is stands = subst (IsServeFault keeps opened coming to_come parts partings staff pens old new) (sym is) (by_connect pens connect stands)
+  pub connect_told : (committers : List P) (connect : ConnectFault) (fault : ServeFault) → fault ≡ serve_fault connect → StandsConnected keeps coming to_come staff.sittings.items committers partings (Some connect)
+      → IsServeFault keeps opened coming to_come parts partings staff committers old new fault
+  connect_told committers connect fault is stands = subst (IsServeFault keeps opened coming to_come parts partings staff committers old new) (sym is) (by_connect committers connect stands)
 
   -- a sweep behind them failed
-  pub sweep_told : (had pens : List P) (fault : ServeFault) → StandsConnected keeps coming to_come staff.sittings.items had partings None → GoOn keeps had pens → IsSweepFault fault
-      → (fault ≡ Write → IsCutOff keeps opened.track coming partings staff pens old new) → IsServeFault keeps opened coming to_come parts partings staff pens old new fault
-  sweep_told had pens Port stands go which cut = absurd which
-  sweep_told had pens Write stands go which cut = inl (cut refl)
-  sweep_told had pens Memory stands go which cut =
-      (stands.0, all_but_none keeps coming to_come staff.sittings.items stands.0 partings stands.1, subst (λ (l : List P). GoOn keeps l pens) stands.2 go)
-  sweep_told had pens Journal stands go which cut = (stands.0, stands.1, subst (λ (l : List P). GoOn keeps l pens) stands.2 go)
-  sweep_told had pens (Close fault) stands go which cut = absurd which
+  pub sweep_told : (had committers : List P) (fault : ServeFault) → StandsConnected keeps coming to_come staff.sittings.items had partings None → GoOn keeps had committers → IsSweepFault fault
+      → (fault ≡ Write → IsCutOff keeps opened.track coming partings staff committers old new) → IsServeFault keeps opened coming to_come parts partings staff committers old new fault
+  sweep_told had committers Port stands go which cut = absurd which
+  sweep_told had committers Write stands go which cut = inl (cut refl)
+  sweep_told had committers Memory stands go which cut =
+      (stands.0, all_but_none keeps coming to_come staff.sittings.items stands.0 partings stands.1, subst (λ (l : List P). GoOn keeps l committers) stands.2 go)
+  sweep_told had committers Journal stands go which cut = (stands.0, stands.1, subst (λ (l : List P). GoOn keeps l committers) stands.2 go)
+  sweep_told had committers (Close fault) stands go which cut = absurd which
 
   -- fewer come than are to be served
-  pub fewer_told : (pens : List P) (fault : ServeFault) → IsServeFault keeps opened coming to_come parts partings staff pens old new fault → fault ≡ Port → FewerCome coming (length staff.sittings.items)
-  fewer_told pens fault told is =
-      let stands = subst (IsServeFault keeps opened coming to_come parts partings staff pens old new) is told in
+  pub fewer_told : (committers : List P) (fault : ServeFault) → IsServeFault keeps opened coming to_come parts partings staff committers old new fault → fault ≡ Port → FewerCome coming (length staff.sittings.items)
+  fewer_told committers fault told is =
+      let stands = subst (IsServeFault keeps opened coming to_come parts partings staff committers old new) is told in
       fewer_come keeps coming staff.sittings.items stands.0 partings stands.1
 
 module _ {T : Type 0} (r : Result T ServeFault) (fault : ServeFault) (is : r ≡ Err fault) where

@@ -12,18 +12,18 @@ use Rattle.rbc_sessions.specs.declared.sitting.Sitting.{Sitting}
 use Rattle.rbc_server.specs.declared.connections.ConnectFault.{ConnectFault}
 use Rattle.rbc_server.specs.declared.connections.ConnectFault.TheVariants.{Port as NoConnection, Memory as NoThread, Journal as NotKeptInSession}
 
--- a client that came, the seat that it was served from with its pen, before that and after it, and how the client went
+-- a client that came, the seat that it was served from with its committer, before that and after it, and how the client went
 pub record Connection (L P : Type 0) : Type 0 where
   pub came : Coming
   pub before : Sitting L P
   pub after : Sitting L P
   pub went : Parting
 
--- the seat with its pen, where keeping has not failed yet
+-- the seat with its committer, where keeping has not failed yet
 abbrev pub afresh : {L P : Type 0} → Sitting L P → Sitting L P
-afresh sitting = record { seat = sitting.seat; pen = sitting.pen; has_failed = false }
+afresh sitting = record { seat = sitting.seat; committer = sitting.committer; has_failed = false }
 
--- The client was served from the seat. By what a pen knows, what led to an entry is kept.
+-- The client was served from the seat. By what a committer knows, what led to an entry is kept.
 pub record IsConnection {L P : Type 0} (kept : P → ℕ → Type 0) (c : Connection L P) : Type 0 where
   -- What was read of this client is the input of a session from the seat, line by line. What this client was told are the replies. So it ended.
   pub input : List ℕ
@@ -31,8 +31,8 @@ pub record IsConnection {L P : Type 0} (kept : P → ℕ → Type 0) (c : Connec
   pub session : IsSeatSession c.before.seat c.after.seat input c.came.told c.went.told c.went.ended
   pub answers : AreLineAnswers c.before.seat.told session.turns
   -- What it was told are the replies to the first lines, and what these led to is kept: so it is with all lines, unless keeping failed.
-  pub is_kept : AreToldKept (kept c.after.pen) c.after.has_failed session.turns c.came.told c.went.told
-  pub stays : StaysKept kept c.before.pen c.after.pen
+  pub is_kept : AreToldKept (kept c.after.committer) c.after.has_failed session.turns c.came.told c.went.told
+  pub stays : StaysKept kept c.before.committer c.after.committer
   -- It ended well only at the end of what this client says, which the last read found, and with a read or write fault exactly where a read or a write failed, or
   -- keeping.
   pub end : OnOk c.went.ended (IsAtEnd c.went.unread)
@@ -45,13 +45,13 @@ pub record IsConnection {L P : Type 0} (kept : P → ℕ → Type 0) (c : Connec
   -- All that this client was told was handed on to it, unless a write failed, or keeping.
   pub handed_on : (c.after.has_failed || c.went.write_failed) ≡ false → c.went.held_back ≡ []
 
--- where keeping has failed, the pen knows so
+-- where keeping has failed, the committer knows so
 abbrev pub TellsFailure : {L P : Type 0} → (P → Type 0) → Sitting L P → Type 0
-TellsFailure failed sitting = sitting.has_failed ≡ true → failed sitting.pen
+TellsFailure failed sitting = sitting.has_failed ≡ true → failed sitting.committer
 
--- one of these pens knows that keeping has failed
+-- one of these committers knows that keeping has failed
 abbrev pub OneKnows : {P : Type 0} → (P → Type 0) → List P → Type 0
-OneKnows {P} failed pens = (pen : P) × Contains pens pen × failed pen
+OneKnows {P} failed committers = (committer : P) × Contains committers committer × failed committer
 
 -- Of the clients that come, where it is known who comes, the first came, in order: one for each of these seats, also in order, which then were so. So
 -- the clients went.
@@ -65,13 +65,13 @@ pub record AreConnections {L P : Type 0} (kept : P → ℕ → Type 0) (coming :
   pub went : map (λ (c : Connection L P). c.went) connections ≡ partings
 
 -- Of the clients that come, where it is known who comes, the first came, in order: one for each of these seats, also in order. Keeping failed in none of their
--- sessions, and they went so. The seats and the pens came back, in order.
-pub record AreParted {L P : Type 0} (kept : P → ℕ → Type 0) (coming : Option (List Coming)) (sittings : List (Sitting L P)) (seats : List Seated) (pens : List P) (partings : List Parting) : Type 0 where
+-- sessions, and they went so. The seats and the committers came back, in order.
+pub record AreParted {L P : Type 0} (kept : P → ℕ → Type 0) (coming : Option (List Coming)) (sittings : List (Sitting L P)) (seats : List Seated) (committers : List P) (partings : List Parting) : Type 0 where
   pub served : List (Sitting L P)
   pub connections : AreConnections kept coming sittings served partings
   pub whole : All (λ (s : Sitting L P). s.has_failed ≡ false) served
   pub seats_are : seats ≡ map (λ (s : Sitting L P). s.seat) served
-  pub pens_are : pens ≡ map (λ (s : Sitting L P). s.pen) served
+  pub committers_are : committers ≡ map (λ (s : Sitting L P). s.committer) served
 
 -- ---- where not all sittings may have served
 
@@ -100,10 +100,10 @@ AreServed kept coming to_come sittings served partings (Some NoConnection) = All
 AreServed kept coming to_come sittings served partings (Some NoThread) = AllButOneServed kept coming to_come sittings served partings
 AreServed kept coming to_come sittings served partings (Some NotKeptInSession) = AllServed kept coming to_come sittings served partings
 
--- who was served, by what stood in the way of more, and the pens that they left
+-- who was served, by what stood in the way of more, and the committers that they left
 abbrev pub StandsConnected : {L P : Type 0} → (P → ℕ → Type 0) → Option (List Coming) → Option (List Coming) → List (Sitting L P) → List P → List Parting → Option ConnectFault → Type 0
-StandsConnected {L} {P} kept coming to_come sittings pens partings fault =
-    (served : List (Sitting L P)) × AreServed kept coming to_come sittings served partings fault × (pens ≡ map (λ (s : Sitting L P). s.pen) served)
+StandsConnected {L} {P} kept coming to_come sittings committers partings fault =
+    (served : List (Sitting L P)) × AreServed kept coming to_come sittings served partings fault × (committers ≡ map (λ (s : Sitting L P). s.committer) served)
 
 -- what stood in the way, or that a request could not be kept in a session
 abbrev pub fault_of : Option ConnectFault → Bool → Option ConnectFault

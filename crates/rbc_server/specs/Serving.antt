@@ -85,33 +85,33 @@ pub record IsBrought (others : List Seated) (had has : Seated) : Type 0 where
   pub told : Begins had.told has.told
   pub all : All (λ (other : Seated). Begins other.told has.told) others
 
--- The first of the seats was told all that these others were told, and by what its pen then knows what led to the entries that were granted is kept.
--- These seats and pens came back.
-pub record AreKept {P : Type 0} (kept : P → ℕ → Type 0) (others : List Seated) (seats : List Seated) (pens : List P) (outcomes : List Outcome) (heard : List Seated) (last : List P) : Type 0 where
+-- The first of the seats was told all that these others were told, and by what its committer then knows what led to the entries that were granted is kept.
+-- These seats and committers came back.
+pub record AreKept {P : Type 0} (kept : P → ℕ → Type 0) (others : List Seated) (seats : List Seated) (committers : List P) (outcomes : List Outcome) (heard : List Seated) (last : List P) : Type 0 where
   pub seat : Seated
   pub more : List Seated
-  pub pen : P
-  pub other_pens : List P
+  pub committer : P
+  pub other_committers : List P
   pub told : Seated
   pub knows : P
   pub seats_were : seats ≡ seat ∷ more
-  pub pens_were : pens ≡ pen ∷ other_pens
+  pub committers_were : committers ≡ committer ∷ other_committers
   pub heard_is : heard ≡ told ∷ more
-  pub last_is : last ≡ knows ∷ other_pens
+  pub last_is : last ≡ knows ∷ other_committers
   pub brought : IsBrought others seat told
-  pub stays : StaysKept kept pen knows
+  pub stays : StaysKept kept committer knows
   pub granted_kept : All (λ (receipt : Receipt). kept knows receipt.place) (granted outcomes)
 
 -- A client that comes was served from each of the sittings, and went so; and a sweep with these outcomes was made with the workers' seats. These seats
--- and these pens came back.
-pub record IsSwept {L P : Type 0} (kept : P → ℕ → Type 0) (coming : Option (List Coming)) (partings : List Parting) (staff : Staff L P) (seats : List Seated) (pens : List P) (outcomes : List Outcome) : Type 0 where
+-- and these committers came back.
+pub record IsSwept {L P : Type 0} (kept : P → ℕ → Type 0) (coming : Option (List Coming)) (partings : List Parting) (staff : Staff L P) (seats : List Seated) (committers : List P) (outcomes : List Outcome) : Type 0 where
   -- Each client was served from a sitting of its own, in order. Before the sweep, the workers' seats were told all that the others were told by the end of
   -- their sessions. These have first what they had then, of receipts and of what they were told.
   pub served : List Seated
-  pub served_pens : List P
+  pub served_committers : List P
   pub brought : List Seated
   pub swept : List Seated
-  pub after_connections : AreParted kept coming staff.sittings.items served served_pens partings
+  pub after_connections : AreParted kept coming staff.sittings.items served served_committers partings
   pub before_sweep : AllZip (IsBrought served) staff.workers.items brought
   pub after_sweep : AllZip AreFirst brought swept
   -- The sweep served, in order of arrival, each train that its first seat was told of, and each is answered as one of its seats was told. What the
@@ -121,20 +121,20 @@ pub record IsSwept {L P : Type 0} (kept : P → ℕ → Type 0) (coming : Option
   pub gained : IsPermutation (all_receipts brought ++ granted outcomes) (all_receipts swept)
   -- What led to the entries that it granted is kept.
   pub heard : List Seated
-  pub is_kept : AreKept kept swept served served_pens outcomes heard pens
+  pub is_kept : AreKept kept swept served served_committers outcomes heard committers
   pub all : seats ≡ heard ++ swept
 
 -- Clients were served, and went so. Where there are workers, a sweep with these outcomes was made behind that. Where there are none, none was made: the
--- seats and the pens came back as the clients left them, and there is no outcome.
+-- seats and the committers came back as the clients left them, and there is no outcome.
 abbrev pub IsSweptBy : {L P : Type 0} → List Seated → (P → ℕ → Type 0) → Option (List Coming) → List Parting → Staff L P → List Seated → List P → List Outcome → Type 0
-IsSweptBy [] kept coming partings staff seats pens outcomes = AreParted kept coming staff.sittings.items seats pens partings × (outcomes ≡ [])
-IsSweptBy (worker ∷ workers) kept coming partings staff seats pens outcomes = IsSwept kept coming partings staff seats pens outcomes
+IsSweptBy [] kept coming partings staff seats committers outcomes = AreParted kept coming staff.sittings.items seats committers partings × (outcomes ≡ [])
+IsSweptBy (worker ∷ workers) kept coming partings staff seats committers outcomes = IsSwept kept coming partings staff seats committers outcomes
 
 -- Clients were served from the sittings of this staff, and went so. Where it has workers, a sweep was made behind that with all of them; where it has none,
 -- none was made. What was written on this track tells the outcomes.
-pub record IsAttended {L P : Type 0} (kept : P → ℕ → Type 0) (track : Track) (coming : Option (List Coming)) (partings : List Parting) (staff : Staff L P) (seats : List Seated) (pens : List P) (old new : Option (List ℕ)) : Type 0 where
+pub record IsAttended {L P : Type 0} (kept : P → ℕ → Type 0) (track : Track) (coming : Option (List Coming)) (partings : List Parting) (staff : Staff L P) (seats : List Seated) (committers : List P) (old new : Option (List ℕ)) : Type 0 where
   pub outcomes : List Outcome
-  pub sweep : IsSweptBy staff.workers.items kept coming partings staff seats pens outcomes
+  pub sweep : IsSweptBy staff.workers.items kept coming partings staff seats committers outcomes
   pub told : List ℕ
   pub tells : TellsAll track outcomes told
   pub written : Appends old new told
@@ -146,11 +146,11 @@ pub record IsClosed (opened : HistoryOnTrack) (kept : List Seated) (log : Histor
   pub goes_on : All (λ (seat : Seated). IsLater seat.told log) kept
 
 -- Clients were served, and went so, at the desk that was opened with this history, and a sweep was made, if there are workers; then the desk was closed.
--- This was written, and these pens and this record came back.
-pub record IsServed {L P : Type 0} (kept : P → ℕ → Type 0) (opened : HistoryOnTrack) (coming : Option (List Coming)) (partings : List Parting) (staff : Staff L P) (pens : List P) (old new : Option (List ℕ)) (log : HistoryOnTrack) : Type 0 where
+-- This was written, and these committers and this record came back.
+pub record IsServed {L P : Type 0} (kept : P → ℕ → Type 0) (opened : HistoryOnTrack) (coming : Option (List Coming)) (partings : List Parting) (staff : Staff L P) (committers : List P) (old new : Option (List ℕ)) (log : HistoryOnTrack) : Type 0 where
   pub seats : List Seated
   pub so_far : Option (List ℕ)
-  pub attended : IsAttended kept opened.track coming partings staff seats pens old so_far
+  pub attended : IsAttended kept opened.track coming partings staff seats committers old so_far
   pub closing : IsClosed opened seats log
   -- Last of all it is told how many entries the record has.
   pub closed : Appends so_far new (closed_line (length log.entries))
@@ -179,10 +179,10 @@ IsCloseFault opened parts kept old new Write = (log : HistoryOnTrack) × IsClose
 IsCloseFault opened parts kept old new (Close fault) = IsUnmatched opened parts kept fault × (new ≡ old)
 
 -- The writer failed while the outcomes of a sweep were told. What was written is a part, from its start, of what tells the first of them.
-pub record IsCutOff {L P : Type 0} (kept : P → ℕ → Type 0) (track : Track) (coming : Option (List Coming)) (partings : List Parting) (staff : Staff L P) (pens : List P) (old new : Option (List ℕ)) : Type 0 where
+pub record IsCutOff {L P : Type 0} (kept : P → ℕ → Type 0) (track : Track) (coming : Option (List Coming)) (partings : List Parting) (staff : Staff L P) (committers : List P) (old new : Option (List ℕ)) : Type 0 where
   pub seats : List Seated
   pub outcomes : List Outcome
-  pub sweep : IsSweptBy staff.workers.items kept coming partings staff seats pens outcomes
+  pub sweep : IsSweptBy staff.workers.items kept coming partings staff seats committers outcomes
   pub count : ℕ
   pub told : List ℕ
   pub tells : TellsAll track (take count outcomes) told
@@ -190,30 +190,30 @@ pub record IsCutOff {L P : Type 0} (kept : P → ℕ → Type 0) (track : Track)
 
 -- Clients were served, a sweep was made, if there are workers, and its outcomes were told; then the writer failed while the last line was told, or the desk
 -- could not be closed.
-pub record IsUnclosed {L P : Type 0} (kept : P → ℕ → Type 0) (opened : HistoryOnTrack) (coming : Option (List Coming)) (parts : ℕ) (partings : List Parting) (staff : Staff L P) (pens : List P) (old new : Option (List ℕ)) (fault : ServeFault) : Type 0 where
+pub record IsUnclosed {L P : Type 0} (kept : P → ℕ → Type 0) (opened : HistoryOnTrack) (coming : Option (List Coming)) (parts : ℕ) (partings : List Parting) (staff : Staff L P) (committers : List P) (old new : Option (List ℕ)) (fault : ServeFault) : Type 0 where
   pub seats : List Seated
   pub so_far : Option (List ℕ)
-  pub attended : IsAttended kept opened.track coming partings staff seats pens old so_far
+  pub attended : IsAttended kept opened.track coming partings staff seats committers old so_far
   pub unclosed : IsCloseFault opened parts seats so_far new fault
 
--- What the first of the pens kept is kept by what it knows now. The others are as they were.
+-- What the first of the committers kept is kept by what it knows now. The others are as they were.
 abbrev pub GoOn : {P : Type 0} → (P → ℕ → Type 0) → List P → List P → Type 0
-GoOn kept [] pens = pens ≡ []
-GoOn {P} kept (pen ∷ others) pens = (knows : P) × StaysKept kept pen knows × (pens ≡ knows ∷ others)
+GoOn kept [] committers = committers ≡ []
+GoOn {P} kept (committer ∷ others) committers = (knows : P) × StaysKept kept committer knows × (committers ≡ knows ∷ others)
 
--- What stands after a fault: the clients that were served went so, and these pens came back. Where no client could be had, memory was refused or a request
--- could not be kept, these are the pens of the sittings that served, the first of which may have gone on behind a sweep.
+-- What stands after a fault: the clients that were served went so, and these committers came back. Where no client could be had, memory was refused or a request
+-- could not be kept, these are the committers of the sittings that served, the first of which may have gone on behind a sweep.
 abbrev pub IsServeFault : {L P : Type 0} → (P → ℕ → Type 0) → HistoryOnTrack → Option (List Coming) → Option (List Coming) → ℕ → List Parting → Staff L P → List P → Option (List ℕ) → Option (List ℕ) → ServeFault → Type 0
-IsServeFault {L} {P} kept opened coming to_come parts partings staff pens old new Port =
-    (served : List (Sitting L P)) × AllWhoComeServed kept coming staff.sittings.items served partings × (pens ≡ map (λ (s : Sitting L P). s.pen) served)
-IsServeFault {L} {P} kept opened coming to_come parts partings staff pens old new NoServeMemory =
-    (served : List (Sitting L P)) × AllButOneServed kept coming to_come staff.sittings.items served partings × GoOn kept (map (λ (s : Sitting L P). s.pen) served) pens
-IsServeFault {L} {P} kept opened coming to_come parts partings staff pens old new Journal =
-    (served : List (Sitting L P)) × AllServed kept coming to_come staff.sittings.items served partings × GoOn kept (map (λ (s : Sitting L P). s.pen) served) pens
-IsServeFault kept opened coming to_come parts partings staff pens old new Write =
-    IsCutOff kept opened.track coming partings staff pens old new ⊎ IsUnclosed kept opened coming parts partings staff pens old new Write
-IsServeFault kept opened coming to_come parts partings staff pens old new (Close fault) =
-    IsUnclosed kept opened coming parts partings staff pens old new (Close fault)
+IsServeFault {L} {P} kept opened coming to_come parts partings staff committers old new Port =
+    (served : List (Sitting L P)) × AllWhoComeServed kept coming staff.sittings.items served partings × (committers ≡ map (λ (s : Sitting L P). s.committer) served)
+IsServeFault {L} {P} kept opened coming to_come parts partings staff committers old new NoServeMemory =
+    (served : List (Sitting L P)) × AllButOneServed kept coming to_come staff.sittings.items served partings × GoOn kept (map (λ (s : Sitting L P). s.committer) served) committers
+IsServeFault {L} {P} kept opened coming to_come parts partings staff committers old new Journal =
+    (served : List (Sitting L P)) × AllServed kept coming to_come staff.sittings.items served partings × GoOn kept (map (λ (s : Sitting L P). s.committer) served) committers
+IsServeFault kept opened coming to_come parts partings staff committers old new Write =
+    IsCutOff kept opened.track coming partings staff committers old new ⊎ IsUnclosed kept opened coming parts partings staff committers old new Write
+IsServeFault kept opened coming to_come parts partings staff committers old new (Close fault) =
+    IsUnclosed kept opened coming parts partings staff committers old new (Close fault)
 
 -- why a sweep behind sessions is not told of whole
 abbrev pub IsSweepFault : ServeFault → Type 0

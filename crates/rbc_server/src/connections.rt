@@ -54,7 +54,7 @@ pub struct Visit<L: DeskName, Q, G> {
 #[derive(Drop)]
 struct Serves<L: DeskName, K, Q, C>(Snapshot<Sitting<L, Q>>, Snapshot<C>, PhantomData<K>);
 
-impl<L: DeskName, K: Keeper<L, Pen = Q>, Q, G, C: Client<Gone = G>> Promise<Visit<L, Q, G>>
+impl<L: DeskName, K: Keeper<L, Committer = Q>, Q, G, C: Client<Gone = G>> Promise<Visit<L, Q, G>>
     for Serves<L, K, Q, C> {
     ghost use Rattle.rbc_server.specs.Connections.{IsConnection, TellsFailure};
 
@@ -72,7 +72,7 @@ pub fn connection<
     L: DeskName,
     Q: Drop,
     X: Drop,
-    K: Keeper<L, Pen = Q, Text = X>,
+    K: Keeper<L, Committer = Q, Text = X>,
     I: Source + Drop,
     O: Sink + Drop,
     G,
@@ -93,10 +93,14 @@ pub fn connection<
     }) }
     ensures failed { TellsFailure K.failed result.sitting }
 {
-    let Sitting { seat, pen, .. } = sitting;
+    let Sitting {
+        seat,
+        committer,
+        ..
+    } = sitting;
     let sitting = Sitting {
         seat,
-        pen,
+        committer,
         has_failed: false,
     };
     let Ends {
@@ -121,7 +125,14 @@ pub fn connection<
 }
 
 /// Waits until these sessions have ended, and gives what came of them back in order, in the room that is there for them.
-fn join_all<L: DeskName, Q: Drop, K: Keeper<L, Pen = Q>, G: Drop, C: Client<Gone = G>, T: Threads>(
+fn join_all<
+    L: DeskName,
+    Q: Drop,
+    K: Keeper<L, Committer = Q>,
+    G: Drop,
+    C: Client<Gone = G>,
+    T: Threads,
+>(
     rt: &T,
     handles: Vec<PromisedHandle<Visit<L, Q, G>, Serves<L, K, Q, C>>>,
     mut back: Vec<Visit<L, Q, G>>,
@@ -142,33 +153,33 @@ fn join_all<L: DeskName, Q: Drop, K: Keeper<L, Pen = Q>, G: Drop, C: Client<Gone
     back
 }
 
-/// The seats, the pens and what is left of the clients, each in order.
+/// The seats, the committers and what is left of the clients, each in order.
 #[derive(Drop)]
 pub(crate) struct Parted<L: DeskName, Q, G> {
     pub(crate) seats: Vec<Seat<L>>,
-    pub(crate) pens: Vec<Q>,
+    pub(crate) committers: Vec<Q>,
     pub(crate) gone: Vec<G>,
 }
 
-/// The seats, the pens and what is left of the clients of these visits, each in order, in the room that is there for them.
+/// The seats, the committers and what is left of the clients of these visits, each in order, in the room that is there for them.
 fn part_all<L: DeskName, Q: Drop, G: Drop>(
     visits: Vec<Visit<L, Q, G>>,
     room: Parted<L, Q, G>,
 ) -> Parted<L, Q, G>
     requires no_seat { vec_len room.seats ≡ 0 }
-    requires no_pen { vec_len room.pens ≡ 0 }
+    requires no_committer { vec_len room.committers ≡ 0 }
     requires none_gone { vec_len room.gone ≡ 0 }
     requires room_for_seats { vec_len visits ≤ vec_capacity room.seats }
-    requires room_for_pens { vec_len visits ≤ vec_capacity room.pens }
+    requires room_for_committers { vec_len visits ≤ vec_capacity room.committers }
     requires room_for_gone { vec_len visits ≤ vec_capacity room.gone }
     ensures seats { result.seats.items ≡ map (λ visit. visit.sitting.seat) visits.items }
-    ensures pens { result.pens.items ≡ map (λ visit. visit.sitting.pen) visits.items }
+    ensures committers { result.committers.items ≡ map (λ visit. visit.sitting.committer) visits.items }
     ensures gone { result.gone.items ≡ map (λ visit. visit.gone) visits.items }
     ensures room { vec_capacity result.seats ≡ vec_capacity room.seats }
 {
     let Parted {
         mut seats,
-        mut pens,
+        mut committers,
         mut gone,
     } = room;
     for visit in visits {
@@ -176,12 +187,20 @@ fn part_all<L: DeskName, Q: Drop, G: Drop>(
             sitting,
             gone: left,
         } = visit;
-        let Sitting { seat, pen, .. } = sitting;
+        let Sitting {
+            seat,
+            committer,
+            ..
+        } = sitting;
         seats.push_reserved(seat);
-        pens.push_reserved(pen);
+        committers.push_reserved(committer);
         gone.push_reserved(left);
     }
-    Parted { seats, pens, gone }
+    Parted {
+        seats,
+        committers,
+        gone,
+    }
 }
 
 /// Whether a request could not be kept in one of these visits.
@@ -200,7 +219,7 @@ struct Visited<L: DeskName, P, Q, G> {
 }
 
 /// Room for the threads of this number of connections; or the fault that memory was refused.
-fn handles_for<L: DeskName, Q: Drop, K: Keeper<L, Pen = Q>, G: Drop, C: Client<Gone = G>>(
+fn handles_for<L: DeskName, Q: Drop, K: Keeper<L, Committer = Q>, G: Drop, C: Client<Gone = G>>(
     alloc: Global,
     count: usize,
 ) -> (
@@ -224,7 +243,7 @@ fn visit_all<
     L: DeskName + Send + Sync,
     Q: Send + Drop,
     X: Send + Drop,
-    K: Keeper<L, Pen = Q, Text = X> + Send + Sync,
+    K: Keeper<L, Committer = Q, Text = X> + Send + Sync,
     I: Source + Send + Drop,
     O: Sink + Send + Drop,
     G: Send + Drop,
@@ -331,20 +350,20 @@ fn room_for<L: DeskName, Q: Drop, G: Drop>(
     requires { count + more < 2 ^ 64 }
     ensures visits { IfOk result (λ room. (vec_len room.visits ≡ 0) × (vec_capacity room.visits ≡ count)) }
     ensures seats { IfOk result (λ room. (vec_len room.parted.seats ≡ 0) × (vec_capacity room.parted.seats ≡ count + more)) }
-    ensures pens { IfOk result (λ room. (vec_len room.parted.pens ≡ 0) × (vec_capacity room.parted.pens ≡ count)) }
+    ensures committers { IfOk result (λ room. (vec_len room.parted.committers ≡ 0) × (vec_capacity room.parted.committers ≡ count)) }
     ensures gone { IfOk result (λ room. (vec_len room.parted.gone ≡ 0) × (vec_capacity room.parted.gone ≡ count)) }
 {
     Ok(Room {
         visits: Vec::with_capacity(alloc, count)?,
         parted: Parted {
             seats: Vec::with_capacity(alloc, count + more)?,
-            pens: Vec::with_capacity(alloc, count)?,
+            committers: Vec::with_capacity(alloc, count)?,
             gone: Vec::with_capacity(alloc, count)?,
         },
     })
 }
 
-/// What came of connections: the seats, the pens and what is left of the clients that were served, each in order, and why not
+/// What came of connections: the seats, the committers and what is left of the clients that were served, each in order, and why not
 /// all were. No more clients are accepted.
 #[derive(Drop)]
 pub(crate) struct Connected<L: DeskName, P, Q, G> {
@@ -356,7 +375,7 @@ pub(crate) struct Connected<L: DeskName, P, Q, G> {
 /// Where there was no room for any connection.
 fn none_connected<L: DeskName, P: Drop, Q, G>(alloc: Global, port: P) -> Connected<L, P, Q, G>
     ensures seats { result.parted.seats.items ≡ [] }
-    ensures pens { result.parted.pens.items ≡ [] }
+    ensures committers { result.parted.committers.items ≡ [] }
     ensures gone { result.parted.gone.items ≡ [] }
     ensures fault { result.fault ≡ Some NoThread }
     ensures port { at_close result.port ≡ port }
@@ -364,7 +383,7 @@ fn none_connected<L: DeskName, P: Drop, Q, G>(alloc: Global, port: P) -> Connect
     Connected {
         parted: Parted {
             seats: Vec::new(alloc),
-            pens: Vec::new(alloc),
+            committers: Vec::new(alloc),
             gone: Vec::new(alloc),
         },
         fault: Some(ConnectFault::Memory),
@@ -386,7 +405,7 @@ fn fault_of<L: DeskName, Q, G>(
 }
 
 /// Accepts a client for each of the sittings, in order, each with a thread of its own, and closes the port. Once all
-/// sessions have ended it gives the seats and the pens back in their order, with room for as many seats more, and what is
+/// sessions have ended it gives the seats and the committers back in their order, with room for as many seats more, and what is
 /// left of the clients; and the first of these faults:
 /// - `Port`: a client could not be accepted,
 /// - `Memory`: no thread could be started for a connection, or there was no room for the seats,
@@ -398,7 +417,7 @@ pub(crate) fn connect<
     L: DeskName + Send + Sync,
     Q: Send + Drop,
     X: Send + Drop,
-    K: Keeper<L, Pen = Q, Text = X> + Send + Sync,
+    K: Keeper<L, Committer = Q, Text = X> + Send + Sync,
     I: Source + Send + Drop,
     O: Sink + Send + Drop,
     G: Send + Drop,
@@ -415,11 +434,11 @@ pub(crate) fn connect<
 ) -> Connected<L, P, Q, G>
     requires fits { vec_len sittings + more < 2 ^ 64 }
     ensures served { result.fault ≡ None → AreParted K.kept (P.coming port) sittings.items
-        result.parted.seats.items result.parted.pens.items (map C.parting result.parted.gone.items) }
+        result.parted.seats.items result.parted.committers.items (map C.parting result.parted.gone.items) }
     ensures stands { StandsConnected K.kept (P.coming port) (P.coming (at_close result.port)) sittings.items
-        result.parted.pens.items (map C.parting result.parted.gone.items) result.fault }
+        result.parted.committers.items (map C.parting result.parted.gone.items) result.fault }
     ensures room { result.fault ≡ None → vec_len result.parted.seats + more ≤ vec_capacity result.parted.seats }
-    ensures journal { result.fault ≡ Some NotKeptInSession → OneKnows K.failed result.parted.pens.items }
+    ensures journal { result.fault ≡ Some NotKeptInSession → OneKnows K.failed result.parted.committers.items }
 {
     let room = room_for(alloc, sittings.len(), more);
     let Ok(Room { visits, parted }) = room else {

@@ -13,8 +13,8 @@ pub use rbc_port::{Client, Clients, Closed, Ends, Port, PortFailed, Terms};
 pub use rbc_sessions::{
     Blank, Candidate, Centre, Desk, DeskName, EntryLimit, KeepFault, Keeper, NoJournal, NotKept,
     NullSink, Onlooker, OpenGate, Receipt, Record, Seat, SessionContext, SessionEnd, SessionFault,
-    Sight, Sitting, View, candidate, commit, demand_in, in_vain, looked_up, print_history, replies,
+    Sight, Sitting, View, candidate, command_in, commit, in_vain, print_history, replies, resolve,
     run, session, show, stopped, tell, words,
 };
 pub use serving::{ServeFault, Served, Unserved, close_desk, serve};
-pub use staff::{Staff, no_pens};
+pub use staff::{Staff, no_committers};

@@ -125,7 +125,7 @@ fn are_on_track<L: DeskName>(seats: &[Seat<L>])
     }
 }
 
-/// The first of the seats that served clients is told all that the workers' were told, and by its pen the requests of all
+/// The first of the seats that served clients is told all that the workers' were told, and by its committer the requests of all
 /// trains that were granted something are kept, in the order of the entries.
 ///
 /// # Errors
@@ -134,24 +134,28 @@ fn are_on_track<L: DeskName>(seats: &[Seat<L>])
 fn keep_swept<'a, L: DeskName, K: Keeper<L>, G, R: Wait>(
     alloc: Global,
     context: &SessionContext<'a, L, K, OpenGate, R>,
-    visited: &mut Parted<L, K::Pen, G>,
+    visited: &mut Parted<L, K::Committer, G>,
     swept: &[Seat<L>],
     outcomes: &[Outcome],
 ) -> Result<(), KeepFault>
     requires some { 1 ≤ vec_len visited.old.seats }
-    requires one_each { vec_len visited.old.pens ≡ vec_len visited.old.seats }
+    requires one_each { vec_len visited.old.committers ≡ vec_len visited.old.seats }
     requires told { (before : List Seated) × All (IsToldToOne before swept.now) outcomes.now }
-    ensures kept { OnOk result (AreKept K.kept swept.now visited.old.seats.items visited.old.pens.items outcomes.now
-        visited.new.seats.items visited.new.pens.items) }
-    ensures journal { result ≡ Err KeeperFailed → OneKnows K.failed visited.new.pens.items }
-    ensures pens { GoOn K.kept visited.old.pens.items visited.new.pens.items }
+    ensures kept { OnOk result (AreKept K.kept swept.now visited.old.seats.items visited.old.committers.items outcomes.now
+        visited.new.seats.items visited.new.committers.items) }
+    ensures journal { result ≡ Err KeeperFailed → OneKnows K.failed visited.new.committers.items }
+    ensures committers { GoOn K.kept visited.old.committers.items visited.new.committers.items }
     ensures room { vec_capacity visited.new.seats ≡ vec_capacity visited.old.seats }
     ensures gone { visited.new.gone.items ≡ visited.old.gone.items }
 {
-    let Parted { seats, pens, .. } = visited;
+    let Parted {
+        seats,
+        committers,
+        ..
+    } = visited;
     let first = &mut seats[0];
     bring(first, swept);
-    context.keep_grants(alloc, &mut pens[0], first, outcomes)
+    context.keep_grants(alloc, &mut committers[0], first, outcomes)
 }
 
 /// What the first of these seats was told, as a moment of the desk's history.
@@ -177,26 +181,26 @@ fn sweep_behind<'a, L: DeskName + Send + Sync, K: Keeper<L>, G, W: Sink, T: Thre
     rt: &T,
     alloc: Global,
     context: &SessionContext<'a, L, K, OpenGate, T>,
-    visited: &mut Parted<L, K::Pen, G>,
+    visited: &mut Parted<L, K::Committer, G>,
     workers: Vec<Seat<L>>,
     writer: &mut W,
 ) -> Result<(), ServeFault>
     requires going { W.failed writer.old ≡ false }
     requires some { 1 ≤ vec_len visited.old.seats }
-    requires one_each { vec_len visited.old.pens ≡ vec_len visited.old.seats }
+    requires one_each { vec_len visited.old.committers ≡ vec_len visited.old.seats }
     requires workers { 1 ≤ vec_len workers }
     requires few { vec_len workers ≤ 72 }
     requires room { vec_len visited.old.seats + vec_len workers ≤ vec_capacity visited.old.seats }
-    ensures attended { OnOk result ((coming : Option (List Coming)) (partings : List Parting) (staff : Serving L K.Pen) → staff.workers.items ≡ workers.items
-        → AreParted K.kept coming staff.sittings.items visited.old.seats.items visited.old.pens.items partings
-        → IsAttended K.kept L.opened.track coming partings staff visited.new.seats.items visited.new.pens.items (W.written writer.old) (W.written writer.new)) }
-    ensures cut_off { result ≡ Err WriteFault → (coming : Option (List Coming)) (partings : List Parting) (staff : Serving L K.Pen) → staff.workers.items ≡ workers.items
-        → AreParted K.kept coming staff.sittings.items visited.old.seats.items visited.old.pens.items partings
-        → IsCutOff K.kept L.opened.track coming partings staff visited.new.pens.items (W.written writer.old) (W.written writer.new) }
-    ensures pens { GoOn K.kept visited.old.pens.items visited.new.pens.items }
+    ensures attended { OnOk result ((coming : Option (List Coming)) (partings : List Parting) (staff : Serving L K.Committer) → staff.workers.items ≡ workers.items
+        → AreParted K.kept coming staff.sittings.items visited.old.seats.items visited.old.committers.items partings
+        → IsAttended K.kept L.opened.track coming partings staff visited.new.seats.items visited.new.committers.items (W.written writer.old) (W.written writer.new)) }
+    ensures cut_off { result ≡ Err WriteFault → (coming : Option (List Coming)) (partings : List Parting) (staff : Serving L K.Committer) → staff.workers.items ≡ workers.items
+        → AreParted K.kept coming staff.sittings.items visited.old.seats.items visited.old.committers.items partings
+        → IsCutOff K.kept L.opened.track coming partings staff visited.new.committers.items (W.written writer.old) (W.written writer.new) }
+    ensures committers { GoOn K.kept visited.old.committers.items visited.new.committers.items }
     ensures gone { visited.new.gone.items ≡ visited.old.gone.items }
     ensures unwritten { IfErr result (λ fault. fault ≢ WriteFault → writer.new ≡ writer.old) }
-    ensures journal_failed { result ≡ Err JournalFault → OneKnows K.failed visited.new.pens.items }
+    ensures journal_failed { result ≡ Err JournalFault → OneKnows K.failed visited.new.committers.items }
     ensures write { (result ≡ Err WriteFault) ↔ IsTrue (W.failed writer.new) }
     ensures which { IfErr result IsSweepFault }
 {
@@ -223,8 +227,8 @@ fn sweep_behind<'a, L: DeskName + Send + Sync, K: Keeper<L>, G, W: Sink, T: Thre
 pub struct Unserved<P, Q, G> {
     /// The fault.
     pub fault: ServeFault,
-    /// The pens of the connections that there were, in order, as the fault left them.
-    pub pens: Vec<Q>,
+    /// The committers of the connections that there were, in order, as the fault left them.
+    pub committers: Vec<Q>,
     /// What is left of each client that was served, in order.
     pub clients: Vec<G>,
     /// No more clients are accepted.
@@ -239,26 +243,26 @@ fn faulted<L: DeskName, P, Q, G>(
 ) -> Unserved<P, Q, G>
     ensures { result ≡ record {
       fault = fault;
-      pens = visited.pens;
+      committers = visited.committers;
       clients = visited.gone;
       port = port;
     } }
 {
     let Parted {
-        pens,
+        committers,
         gone: clients,
         ..
     } = visited;
     Unserved {
         fault,
-        pens,
+        committers,
         clients,
         port,
     }
 }
 
 /// Serves a client from each of the sittings. Once all sessions have ended a sweep is made with the workers' seats, if there
-/// are any. Gives all seats back, in their order, with the pens and what is left of the clients.
+/// are any. Gives all seats back, in their order, with the committers and what is left of the clients.
 ///
 /// # Errors
 ///
@@ -272,7 +276,7 @@ fn attend<
     L: DeskName + Send + Sync,
     Q: Send + Drop,
     X: Send + Drop,
-    K: Keeper<L, Pen = Q, Text = X> + Send + Sync,
+    K: Keeper<L, Committer = Q, Text = X> + Send + Sync,
     I: Source + Send + Drop,
     O: Sink + Send + Drop,
     G: Send + Drop,
@@ -292,12 +296,12 @@ fn attend<
     requires some { 1 ≤ vec_len staff.sittings }
     requires few { vec_len staff.sittings + vec_len staff.workers ≤ 72 }
     ensures attended { IfOk result (λ back. IsAttended K.kept L.opened.track (P.coming port) (map C.parting back.0.gone.items)
-        staff back.0.seats.items back.0.pens.items (W.written writer.old) (W.written writer.new)) }
+        staff back.0.seats.items back.0.committers.items (W.written writer.old) (W.written writer.new)) }
     ensures unwritten { IfErr result (λ unserved. unserved.fault ≢ WriteFault → writer.new ≡ writer.old) }
-    ensures journal_failed { IfErr result (λ unserved. unserved.fault ≡ JournalFault → OneKnows K.failed unserved.pens.items) }
+    ensures journal_failed { IfErr result (λ unserved. unserved.fault ≡ JournalFault → OneKnows K.failed unserved.committers.items) }
     ensures write { IsErrAnd result (λ unserved. unserved.fault ≡ WriteFault) ↔ IsTrue (W.failed writer.new) }
     ensures fault { IfErr result (λ unserved. IsServeFault K.kept L.opened (P.coming port) (P.coming (at_close unserved.port)) L.parts
-        (map C.parting unserved.clients.items) staff unserved.pens.items (W.written writer.old) (W.written writer.new) unserved.fault) }
+        (map C.parting unserved.clients.items) staff unserved.committers.items (W.written writer.old) (W.written writer.new) unserved.fault) }
 {
     let Staff { sittings, workers } = staff;
     let Connected {
@@ -348,7 +352,7 @@ pub fn close_desk<L: DeskName, W: Sink, T: Wait>(
     Ok(log)
 }
 
-/// What serving clients gives back: the record, what was told of it, the pens, and what is left of the clients, in the order
+/// What serving clients gives back: the record, what was told of it, the committers, and what is left of the clients, in the order
 /// in which they came.
 #[derive(Drop)]
 pub struct Served<Q, G> {
@@ -356,8 +360,8 @@ pub struct Served<Q, G> {
     pub record: Record,
     /// All that any seat was told before the desk was closed, as a moment of its history.
     pub told: Sight,
-    /// The pens of the connections, in order.
-    pub pens: Vec<Q>,
+    /// The committers of the connections, in order.
+    pub committers: Vec<Q>,
     /// What is left of each client, which tells how its session ended.
     pub clients: Vec<G>,
 }
@@ -370,7 +374,7 @@ pub struct Served<Q, G> {
 ///
 /// # Errors
 ///
-/// The first of these. The sessions that were begun have ended then; the pens come back, and what is left of each client that
+/// The first of these. The sessions that were begun have ended then; the committers come back, and what is left of each client that
 /// was served.
 /// - `Port`: a client could not be accepted; nothing was printed,
 /// - `Memory`: the allocator refused it, or no thread could be started for a connection; nothing was printed,
@@ -381,7 +385,7 @@ pub fn serve<
     L: DeskName + Send + Sync,
     Q: Send + Drop,
     X: Send + Drop,
-    K: Keeper<L, Pen = Q, Text = X> + Send + Sync,
+    K: Keeper<L, Committer = Q, Text = X> + Send + Sync,
     I: Source + Send + Drop,
     O: Sink + Send + Drop,
     G: Send + Drop,
@@ -415,7 +419,7 @@ pub fn serve<
     // granted is kept too; where there are none, there is none. No receipt is lost, and nothing that a seat was told. What was
     // written tells what came of the sweep, and then how many entries the record has.
     ensures served { IfOk result (λ served. IsServed K.kept L.opened (P.coming port) (map C.parting served.clients.items)
-        staff served.pens.items (W.written writer.old) (W.written writer.new) served.record) }
+        staff served.committers.items (W.written writer.old) (W.written writer.new) served.record) }
     ensures handed_on { OnOk result (W.held_back writer.new ≡ []) }
 
     // The record is what was told of it, or goes on from that.
@@ -423,20 +427,20 @@ pub fn serve<
     ensures told { IfOk result (λ served. IsLater served.told.history served.record) }
 
     // Where a client could not be had, memory was refused or a request could not be kept, nothing is written; and where it is
-    // known who comes, fewer come than are to be served. That a request could not be kept is told only where a pen knows that
+    // known who comes, fewer come than are to be served. That a request could not be kept is told only where a committer knows that
     // keeping has failed. A write fault is answered exactly where the writer failed.
     ensures port { IfErr result (λ unserved. unserved.fault ≡ PortFault → writer.new ≡ writer.old) }
     ensures no_client { IfErr result (λ unserved. unserved.fault ≡ PortFault → FewerCome (P.coming port) (vec_len staff.sittings)) }
     ensures memory { IfErr result (λ unserved. unserved.fault ≡ NoMemory → writer.new ≡ writer.old) }
     ensures journal { IfErr result (λ unserved. unserved.fault ≡ JournalFault → writer.new ≡ writer.old) }
-    ensures journal_failed { IfErr result (λ unserved. unserved.fault ≡ JournalFault → OneKnows K.failed unserved.pens.items) }
+    ensures journal_failed { IfErr result (λ unserved. unserved.fault ≡ JournalFault → OneKnows K.failed unserved.committers.items) }
     ensures write { IsErrAnd result (λ unserved. unserved.fault ≡ WriteFault) ↔ IsTrue (W.failed writer.new) }
 
     // What stands behind a fault: of the clients that came, in order, all were served, line by line, but maybe the last one where
-    // memory was refused. The pens come back, and what is left of these clients. Behind a write fault a part of the text is
+    // memory was refused. The committers come back, and what is left of these clients. Behind a write fault a part of the text is
     // written, from its start. Where the desk can't be closed the outcomes are told.
     ensures fault { IfErr result (λ unserved. IsServeFault K.kept L.opened (P.coming port) (P.coming (at_close unserved.port)) L.parts
-        (map C.parting unserved.clients.items) staff unserved.pens.items (W.written writer.old) (W.written writer.new) unserved.fault) }
+        (map C.parting unserved.clients.items) staff unserved.committers.items (W.written writer.old) (W.written writer.new) unserved.fault) }
 {
     let attended = attend(
         rt,
@@ -450,7 +454,7 @@ pub fn serve<
         Ok((visited, port)) => {
             let Parted {
                 seats,
-                pens,
+                committers,
                 gone: clients,
             } = visited;
             let told = first_sight(seats.as_slice());
@@ -458,12 +462,12 @@ pub fn serve<
                 Ok(record) => Ok(Served {
                     record,
                     told,
-                    pens,
+                    committers,
                     clients,
                 }),
                 Err(fault) => Err(Unserved {
                     fault,
-                    pens,
+                    committers,
                     clients,
                     port,
                 }),

@@ -6,7 +6,7 @@ use crate::Sitting;
 use rbc_sessions::{DeskName, Seat};
 use std::alloc::{AllocError, Global};
 
-/// Those who serve clients at a desk: each connection has a seat with its pen, and each worker of the sweep behind them a
+/// Those who serve clients at a desk: each connection has a seat with its committer, and each worker of the sweep behind them a
 /// seat.
 #[derive(Drop)]
 pub struct Staff<L: DeskName, Q> {
@@ -17,7 +17,7 @@ pub struct Staff<L: DeskName, Q> {
 }
 
 impl<L: DeskName, Q: Drop> Staff<L, Q> {
-    /// The first of the seats, in order, with the pens, in order, for connections; the other seats for workers.
+    /// The first of the seats, in order, with the committers, in order, for connections; the other seats for workers.
     ///
     /// # Errors
     ///
@@ -25,39 +25,39 @@ impl<L: DeskName, Q: Drop> Staff<L, Q> {
     pub fn new(
         alloc: Global,
         mut seats: Vec<Seat<L>>,
-        pens: Vec<Q>,
+        committers: Vec<Q>,
     ) -> Result<Staff<L, Q>, AllocError>
-        requires { vec_len pens ≤ vec_len seats }
+        requires { vec_len committers ≤ vec_len seats }
         ensures seats { IfOk result (λ staff.
-            map (λ sitting. sitting.seat) staff.sittings.items ≡ take (vec_len pens) seats.items) }
-        ensures pens { IfOk result (λ staff. map (λ sitting. sitting.pen) staff.sittings.items ≡ pens.items) }
-        ensures workers { IfOk result (λ staff. staff.workers.items ≡ drop (vec_len pens) seats.items) }
-        ensures connections { IfOk result (λ staff. vec_len staff.sittings ≡ vec_len pens) }
-        ensures others { IfOk result (λ staff. vec_len pens + vec_len staff.workers ≡ vec_len seats) }
+            map (λ sitting. sitting.seat) staff.sittings.items ≡ take (vec_len committers) seats.items) }
+        ensures committers { IfOk result (λ staff. map (λ sitting. sitting.committer) staff.sittings.items ≡ committers.items) }
+        ensures workers { IfOk result (λ staff. staff.workers.items ≡ drop (vec_len committers) seats.items) }
+        ensures connections { IfOk result (λ staff. vec_len staff.sittings ≡ vec_len committers) }
+        ensures others { IfOk result (λ staff. vec_len committers + vec_len staff.workers ≡ vec_len seats) }
     {
-        let mut sittings = Vec::with_capacity(alloc, pens.len())?;
-        let workers = seats.split_off(pens.len())?;
-        let mut pens = pens.into_iter();
+        let mut sittings = Vec::with_capacity(alloc, committers.len())?;
+        let workers = seats.split_off(committers.len())?;
+        let mut committers = committers.into_iter();
         for seat in seats {
-            if let Some(pen) = pens.next() {
-                sittings.push_reserved(Sitting::new(seat, pen));
+            if let Some(committer) = committers.next() {
+                sittings.push_reserved(Sitting::new(seat, committer));
             }
         }
         Ok(Staff { sittings, workers })
     }
 }
 
-/// This number of pens that keep nothing.
+/// This number of committers that keep nothing.
 ///
 /// # Errors
 ///
 /// The allocator refuses memory.
-pub fn no_pens(alloc: Global, count: usize) -> Result<Vec<()>, AllocError>
-    ensures { IfOk result (λ pens. vec_len pens ≡ count) }
+pub fn no_committers(alloc: Global, count: usize) -> Result<Vec<()>, AllocError>
+    ensures { IfOk result (λ committers. vec_len committers ≡ count) }
 {
-    let mut pens = Vec::with_capacity(alloc, count)?;
+    let mut committers = Vec::with_capacity(alloc, count)?;
     for _ in 0..count {
-        pens.push_reserved(());
+        committers.push_reserved(());
     }
-    Ok(pens)
+    Ok(committers)
 }

@@ -14,7 +14,7 @@ use Rattle.rbc_model.specs.Histories.{Beginning, Entry, Grants, replay}
 use Rattle.rbc_model.specs.SceneLines.{distance_word, end_word}
 use Rattle.rbc_model.specs.SessionReply.{grant_reply, obstacle_words, Full}
 use Rattle.rbc_grant_laws.proofs.CandidateLemmas.{view-train}
-use Rattle.rbc_session_laws.specs.Answers.{asker_answer, demand_answer, grant_answer, grant_of, line_answer, refused, speed_prices_of, grade_prices_of}
+use Rattle.rbc_session_laws.specs.Answers.{asker_answer, command_answer, grant_answer, grant_of, line_answer, refused, speed_prices_of, grade_prices_of}
 use Rattle.rbc_session_laws.specs.AskedNext.{AnswersAsNext, BeginsWith, NextsAreAsked}
 
 first_of_five : (a b c d e : List ℕ) → a ++ b ++ c ++ d ++ e ≡ a ++ (b ++ c ++ d ++ e)
@@ -62,6 +62,6 @@ nexts_are_asked begin before line number train there asks =
     let shown : view begin.track (replay begin before) number ≡ view_of begin.track (replay begin before) train =
     ap (λ found. option_map_or (view_of begin.track (replay begin before)) found (Err UnknownTrain)) there in
     let answer : line_answer begin before line ≡ asker_answer begin before number (view_of begin.track (replay begin before) train) =
-    ap (demand_answer begin before) asks ∙ ap (asker_answer begin before number) shown in
+    ap (command_answer begin before) asks ∙ ap (asker_answer begin before number) shown in
     subst (AnswersAsNext begin before number train (greatest_end begin.track (replay begin before) train)) (sym (ap (λ a. a.reply) answer))
     (by_end begin before number train (greatest_end begin.track (replay begin before) train) (λ v is. view-train begin.track (replay begin before) number v (shown ∙ is)))

@@ -14,11 +14,11 @@ use Rattle.rbc_model.specs.Events.{step}
 use Rattle.rbc_model.specs.Views.{View, view}
 use Rattle.rbc_model.specs.Histories.{Beginning, Entry, Granted, Grants, is_full, replay}
 use Rattle.rbc_model.specs.SessionReply.{SessionRefusal, BadEvent, Full, Memory, accepted_reply, grant_reply, refused_reply}
-use Rattle.rbc_session_laws.specs.declared.demand.Demand.{Demand}
-use Rattle.rbc_session_laws.specs.declared.demand.Demand.TheVariants.{Nothing, Event, Authority, Show}
-use Rattle.rbc_session_laws.specs.Demands.{demand_in}
-use Rattle.rbc_session_laws.specs.Turns.{IsRefused, IsGivenUp, IsToldInVain, IsAccepted, IsGranted, AnswersAsker, AnswersDemand, AnswersLine}
-use Rattle.rbc_session_laws.specs.Answers.{Answer, refused, told_answer, grant_answer, asker_answer, demand_answer, line_answer, grant_of, speed_prices_of, grade_prices_of}
+use Rattle.rbc_session_laws.specs.declared.command.Command.{Command}
+use Rattle.rbc_session_laws.specs.declared.command.Command.TheVariants.{Nothing, Event, Authority, Show}
+use Rattle.rbc_session_laws.specs.Commands.{command_in}
+use Rattle.rbc_session_laws.specs.Turns.{IsRefused, IsGivenUp, IsToldInVain, IsAccepted, IsGranted, AnswersAsker, AnswersCommand, AnswersLine}
+use Rattle.rbc_session_laws.specs.Answers.{Answer, refused, told_answer, grant_answer, asker_answer, command_answer, line_answer, grant_of, speed_prices_of, grade_prices_of}
 use Rattle.rbc_session_laws.specs.Laws.{LinesAreAnswered}
 use Rattle.rbc_session_laws.proofs.GrantLemmas.{grants_are_one}
 
@@ -64,18 +64,18 @@ module _ (begin : Beginning) (before : List Entry) (reply : List ℕ) (added : O
   asker train (Err (Blocked obstacle at)) e (inr h) = never h
   asker train (Err UnknownTrain) e h = h
 
-  demanded : (demand : Result Demand SessionRefusal) → AnswersDemand begin before reply added demand → Is (demand_answer begin before demand)
-  demanded (Ok Nothing) h = h
-  demanded (Ok (Event told)) h = told_by told (is_full begin before) (step begin.track (replay begin before) (Tell told)) h
-  demanded (Ok (Authority train)) h = asker train (view begin.track (replay begin before) train) refl h
-  demanded (Ok (Show AskedState)) h = h
-  demanded (Ok (Show AskedScene)) (inl h) = h
-  demanded (Ok (Show AskedScene)) (inr h) = never h
-  demanded (Err refusal) h = h
+  commanded : (command : Result Command SessionRefusal) → AnswersCommand begin before reply added command → Is (command_answer begin before command)
+  commanded (Ok Nothing) h = h
+  commanded (Ok (Event told)) h = told_by told (is_full begin before) (step begin.track (replay begin before) (Tell told)) h
+  commanded (Ok (Authority train)) h = asker train (view begin.track (replay begin before) train) refl h
+  commanded (Ok (Show AskedState)) h = h
+  commanded (Ok (Show AskedScene)) (inl h) = h
+  commanded (Ok (Show AskedScene)) (inr h) = never h
+  commanded (Err refusal) h = h
 
 pub lines_are_answered : LinesAreAnswered
 unfolding line_answer
-lines_are_answered begin before line reply added form answers kept = demanded begin before reply added form kept (demand_in begin.track line) answers
+lines_are_answered begin before line reply added form answers kept = commanded begin before reply added form kept (command_in begin.track line) answers
 
 -- ---- what memory was refused for adds nothing
 
@@ -104,15 +104,15 @@ module _ (begin : Beginning) (before : List Entry) (reply : List ℕ) (added : O
   none_by_view train (Err (Blocked obstacle at)) (inr h) = h.1
   none_by_view train (Err UnknownTrain) h = h.1
 
-  none_demanded : (demand : Result Demand SessionRefusal) → AnswersDemand begin before reply added demand → added ≡ None
-  none_demanded (Ok Nothing) h = h.1
-  none_demanded (Ok (Event told)) h = none_told told (is_full begin before) (step begin.track (replay begin before) (Tell told)) h
-  none_demanded (Ok (Authority train)) h = none_by_view train (view begin.track (replay begin before) train) h
-  none_demanded (Ok (Show AskedState)) h = h.1
-  none_demanded (Ok (Show AskedScene)) (inl h) = h.1
-  none_demanded (Ok (Show AskedScene)) (inr h) = h.1
-  none_demanded (Err refusal) h = h.1
+  none_commanded : (command : Result Command SessionRefusal) → AnswersCommand begin before reply added command → added ≡ None
+  none_commanded (Ok Nothing) h = h.1
+  none_commanded (Ok (Event told)) h = none_told told (is_full begin before) (step begin.track (replay begin before) (Tell told)) h
+  none_commanded (Ok (Authority train)) h = none_by_view train (view begin.track (replay begin before) train) h
+  none_commanded (Ok (Show AskedState)) h = h.1
+  none_commanded (Ok (Show AskedScene)) (inl h) = h.1
+  none_commanded (Ok (Show AskedScene)) (inr h) = h.1
+  none_commanded (Err refusal) h = h.1
 
 pub given_up_adds_none : (begin : Beginning) (before : List Entry) (line reply : List ℕ) (added : Option Entry) → AnswersLine begin before line reply added
     → reply ≡ refused_reply begin.track Memory → added ≡ None
-given_up_adds_none begin before line reply added answers lost = none_demanded begin before reply added lost (demand_in begin.track line) answers
+given_up_adds_none begin before line reply added answers lost = none_commanded begin before reply added lost (command_in begin.track line) answers

@@ -1,4 +1,4 @@
--- What an entry of a history that is retold tells is of the track: its line was looked up there.
+-- What an entry of a history that is retold tells is of the track: its line was resolved there.
 use Rattle.std.proofs.Common.{◌≡◌, ℕ, ◌<◌, List, length, take, Option, Some, None, Result, Ok, Err, refl, subst}
 use Rattle.std.specs.Prelude.{bytes_eq}
 use Rattle.std.specs.List.{position}
@@ -18,12 +18,12 @@ use Rattle.rbc_model.specs.Histories.{Beginning, Entry, Granted, is_full, replay
 use Rattle.rbc_model.specs.SessionText.{SessionLine, Blank, Report, Lock, Free, Leave, GiveBack, Ask, Inquire, parse_session}
 use Rattle.rbc_model.specs.SessionReply.{SessionRefusal, BadLine, UnknownName}
 use Rattle.rbc_model.specs.HistoryText.{entry_line}
-use Rattle.rbc_session_laws.specs.declared.demand.Demand.{Demand}
-use Rattle.rbc_session_laws.specs.declared.demand.Demand.TheVariants.{Nothing, Event, Authority, Show}
-use Rattle.rbc_session_laws.specs.Demands.{known, looked_up, demand_in, IsDemandOfTrack}
-use Rattle.rbc_session_laws.specs.Answers.{asker_answer, demand_answer, line_answer, grant_of}
+use Rattle.rbc_session_laws.specs.declared.command.Command.{Command}
+use Rattle.rbc_session_laws.specs.declared.command.Command.TheVariants.{Nothing, Event, Authority, Show}
+use Rattle.rbc_session_laws.specs.Commands.{known, resolve, command_in, IsCommandOfTrack}
+use Rattle.rbc_session_laws.specs.Answers.{asker_answer, command_answer, line_answer, grant_of}
 use Rattle.rbc_session_laws.specs.Retelling.{IsEntryOfTrack, RetoldEntriesAreOfTrack}
-use Rattle.rbc_session_laws.proofs.RetellingLemmas.{found_at, the_demand, no_demand, told_entry, granted_entry}
+use Rattle.rbc_session_laws.proofs.RetellingLemmas.{found_at, the_command, no_command, told_entry, granted_entry}
 
 -- what is found by its name in a table stands in it
 within : {X : Type 0} (name_of : X → List ℕ) (xs : List X) (name : List ℕ) (place : ℕ) → position (λ x. bytes_eq (name_of x) name) xs ≡ Some place → place < length xs
@@ -31,28 +31,28 @@ within name_of xs name place h =
     let a = found_at (λ x. bytes_eq (name_of x) name) xs place h in
     slice_get_within xs place a.x a.here
 
-looked_up_there : (track : Track) (said : SessionLine) (demand : Demand) → looked_up track said ≡ Ok demand → IsDemandOfTrack track demand
-looked_up_there track Blank demand h = subst (IsDemandOfTrack track) (the_demand Nothing demand h) tt
-looked_up_there track (Report report) demand h = subst (IsDemandOfTrack track) (the_demand (Event (ToldReport report)) demand h) tt
-looked_up_there track (Lock name) demand h = by_place (route_named track name) refl h
+resolved_there : (track : Track) (said : SessionLine) (command : Command) → resolve track said ≡ Ok command → IsCommandOfTrack track command
+resolved_there track Blank command h = subst (IsCommandOfTrack track) (the_command Nothing command h) tt
+resolved_there track (Report report) command h = subst (IsCommandOfTrack track) (the_command (Event (ToldReport report)) command h) tt
+resolved_there track (Lock name) command h = by_place (route_named track name) refl h
   where
-    by_place : (o : Option ℕ) → route_named track name ≡ o → line_in (λ route. Event (ToldLock route)) (known name o) ≡ Ok demand → IsDemandOfTrack track demand
-    by_place None e f = absurd (no_demand (UnknownName name) demand f)
-    by_place (Some route) e f = subst (IsDemandOfTrack track) (the_demand (Event (ToldLock route)) demand f) (within (λ r. r.name) track.routes name route e)
-looked_up_there track (Free name) demand h = by_place (section_named track name) refl h
+    by_place : (o : Option ℕ) → route_named track name ≡ o → line_in (λ route. Event (ToldLock route)) (known name o) ≡ Ok command → IsCommandOfTrack track command
+    by_place None e f = absurd (no_command (UnknownName name) command f)
+    by_place (Some route) e f = subst (IsCommandOfTrack track) (the_command (Event (ToldLock route)) command f) (within (λ r. r.name) track.routes name route e)
+resolved_there track (Free name) command h = by_place (section_named track name) refl h
   where
-    by_place : (o : Option ℕ) → section_named track name ≡ o → line_in (λ section. Event (ToldFree section)) (known name o) ≡ Ok demand → IsDemandOfTrack track demand
-    by_place None e f = absurd (no_demand (UnknownName name) demand f)
-    by_place (Some section) e f = subst (IsDemandOfTrack track) (the_demand (Event (ToldFree section)) demand f) (within (λ s. s.name) track.sections name section e)
-looked_up_there track (Leave train) demand h = subst (IsDemandOfTrack track) (the_demand (Event (ToldLeave train)) demand h) tt
-looked_up_there track (GiveBack train end) demand h = subst (IsDemandOfTrack track) (the_demand (Event (ToldGiveBack train end)) demand h) tt
-looked_up_there track (Ask train) demand h = subst (IsDemandOfTrack track) (the_demand (Authority train) demand h) tt
-looked_up_there track (Inquire inquiry) demand h = subst (IsDemandOfTrack track) (the_demand (Show inquiry) demand h) tt
+    by_place : (o : Option ℕ) → section_named track name ≡ o → line_in (λ section. Event (ToldFree section)) (known name o) ≡ Ok command → IsCommandOfTrack track command
+    by_place None e f = absurd (no_command (UnknownName name) command f)
+    by_place (Some section) e f = subst (IsCommandOfTrack track) (the_command (Event (ToldFree section)) command f) (within (λ s. s.name) track.sections name section e)
+resolved_there track (Leave train) command h = subst (IsCommandOfTrack track) (the_command (Event (ToldLeave train)) command h) tt
+resolved_there track (GiveBack train end) command h = subst (IsCommandOfTrack track) (the_command (Event (ToldGiveBack train end)) command h) tt
+resolved_there track (Ask train) command h = subst (IsCommandOfTrack track) (the_command (Authority train) command h) tt
+resolved_there track (Inquire inquiry) command h = subst (IsCommandOfTrack track) (the_command (Show inquiry) command h) tt
 
-read_there : (track : Track) (read : Result SessionLine LineFault) (demand : Demand) → (result_map_both (λ said. said) BadLine read >>= looked_up track) ≡ Ok demand
-    → IsDemandOfTrack track demand
-read_there track (Ok said) demand h = looked_up_there track said demand h
-read_there track (Err fault) demand h = absurd (no_demand (BadLine fault) demand h)
+read_there : (track : Track) (read : Result SessionLine LineFault) (command : Command) → (result_map_both (λ said. said) BadLine read >>= resolve track) ≡ Ok command
+    → IsCommandOfTrack track command
+read_there track (Ok said) command h = resolved_there track said command h
+read_there track (Err fault) command h = absurd (no_command (BadLine fault) command h)
 
 module _ (begin : Beginning) (before : List Entry) (entry : Entry) where
   of_grant : (shown : View) → Granted (grant_of shown) ≡ entry → IsEntryOfTrack begin.track entry
@@ -63,19 +63,19 @@ module _ (begin : Beginning) (before : List Entry) (entry : Entry) where
   of_asker train (Err (Blocked obstacle at)) h = absurd (none-some entry h)
   of_asker train (Err UnknownTrain) h = absurd (none-some entry h)
 
-  of_demand : (line : List ℕ) (demand : Result Demand SessionRefusal) → demand_in begin.track line ≡ demand → (demand_answer begin before demand).added ≡ Some entry
+  of_command : (line : List ℕ) (command : Result Command SessionRefusal) → command_in begin.track line ≡ command → (command_answer begin before command).added ≡ Some entry
       → IsEntryOfTrack begin.track entry
-  of_demand line (Ok Nothing) e h = absurd (none-some entry h)
-  of_demand line (Ok (Event told)) e h =
+  of_command line (Ok Nothing) e h = absurd (none-some entry h)
+  of_command line (Ok (Event told)) e h =
       subst (IsEntryOfTrack begin.track) (told_entry begin before entry told (is_full begin before) (step begin.track (replay begin before) (Tell told)) h)
       (read_there begin.track (parse_session line) (Event told) e)
-  of_demand line (Ok (Authority train)) e h = of_asker train (view begin.track (replay begin before) train) h
-  of_demand line (Ok (Show inquiry)) e h = absurd (none-some entry h)
-  of_demand line (Err refusal) e h = absurd (none-some entry h)
+  of_command line (Ok (Authority train)) e h = of_asker train (view begin.track (replay begin before) train) h
+  of_command line (Ok (Show inquiry)) e h = absurd (none-some entry h)
+  of_command line (Err refusal) e h = absurd (none-some entry h)
 
   of_line : (line : List ℕ) → (line_answer begin before line).added ≡ Some entry → IsEntryOfTrack begin.track entry
   unfolding line_answer
-  of_line line h = of_demand line (demand_in begin.track line) refl h
+  of_line line h = of_command line (command_in begin.track line) refl h
 
 pub retold_entries_are_of_track : RetoldEntriesAreOfTrack
 retold_entries_are_of_track begin entries retold place entry here = of_line begin (take place entries) entry (entry_line begin.track entry) (retold place entry here)

@@ -29,11 +29,11 @@ use Rattle.rbc_model.specs.HistoryText.{told_request, entry_request, entry_line,
 use Rattle.rbc_model.proofs.CountingLemmas.{both_of}
 use Rattle.rbc_model.proofs.SaidLineLemmas.{said_is_text, said_line_read, read_is_sayable}
 use Rattle.rbc_grant_laws.proofs.CandidateLemmas.{view-train}
-use Rattle.rbc_session_laws.specs.declared.demand.Demand.{Demand}
-use Rattle.rbc_session_laws.specs.declared.demand.Demand.TheVariants.{Nothing, Event, Authority, Show}
-use Rattle.rbc_session_laws.specs.Demands.{known, looked_up, demand_in}
+use Rattle.rbc_session_laws.specs.declared.command.Command.{Command}
+use Rattle.rbc_session_laws.specs.declared.command.Command.TheVariants.{Nothing, Event, Authority, Show}
+use Rattle.rbc_session_laws.specs.Commands.{known, resolve, command_in}
 use Rattle.rbc_session_laws.specs.SessionRuns.{Turn, entries_of, entries_added, lines_treated}
-use Rattle.rbc_session_laws.specs.Answers.{refused, told_answer, grant_answer, asker_answer, demand_answer, line_answer, grant_of, turns_of}
+use Rattle.rbc_session_laws.specs.Answers.{refused, told_answer, grant_answer, asker_answer, command_answer, line_answer, grant_of, turns_of}
 use Rattle.rbc_session_laws.specs.Laws.{heard}
 use Rattle.rbc_session_laws.specs.Retelling.{EntriesAreToldAgain, IsRetold, IsItsSession, RetoldHistoriesAreSessions, SessionsAreRetold, HistoriesAreSessions}
 use Rattle.rbc_session_laws.proofs.SessionLemmas.{sessions_are_answered}
@@ -73,7 +73,7 @@ module _ {X : Type 0} (test : X → Bool) where
       by_test true e f = subst (IsAt xs) (the_place (position_or_len test xs) place f) (first_at xs (ltb-true (position_or_len test xs) (length xs) e))
       by_test false e f = absurd (no_place place f)
 
--- the name in a table is the name that was looked up
+-- the name in a table is the name that was resolved
 named_at : {X : Type 0} (name_of : X → List ℕ) (xs : List X) (name : List ℕ) (place : ℕ) → position (λ x. bytes_eq (name_of x) name) xs ≡ Some place → option_map_or name_of (slice_get xs place) [] ≡ name
 named_at name_of xs name place h =
     let a = found_at (λ x. bytes_eq (name_of x) name) xs place h in
@@ -82,35 +82,35 @@ named_at name_of xs name place h =
 -- ---- what a line asks for, said again
 
 -- the request for it
-abbrev demand_request : Track → Demand → SessionLine
-demand_request track Nothing = Blank
-demand_request track (Event told) = told_request track told
-demand_request track (Authority train) = Ask train
-demand_request track (Show inquiry) = Inquire inquiry
+abbrev command_request : Track → Command → SessionLine
+command_request track Nothing = Blank
+command_request track (Event told) = told_request track told
+command_request track (Authority train) = Ask train
+command_request track (Show inquiry) = Inquire inquiry
 
-pub the_demand : (a b : Demand) → (let r : Result Demand SessionRefusal = Ok a in r) ≡ Ok b → a ≡ b
-the_demand a b e = cc
+pub the_command : (a b : Command) → (let r : Result Command SessionRefusal = Ok a in r) ≡ Ok b → a ≡ b
+the_command a b e = cc
 
-pub no_demand : (refusal : SessionRefusal) (b : Demand) → (let r : Result Demand SessionRefusal = Err refusal in r) ≡ Ok b → ⊥
-no_demand refusal b e = cc
+pub no_command : (refusal : SessionRefusal) (b : Command) → (let r : Result Command SessionRefusal = Err refusal in r) ≡ Ok b → ⊥
+no_command refusal b e = cc
 
-looked_back : (track : Track) (said : SessionLine) (demand : Demand) → looked_up track said ≡ Ok demand → demand_request track demand ≡ said
-looked_back track Blank demand h = ap (demand_request track) (sym (the_demand Nothing demand h))
-looked_back track (Report report) demand h = ap (demand_request track) (sym (the_demand (Event (ToldReport report)) demand h))
-looked_back track (Lock name) demand h = by_place (route_named track name) refl h
+resolved_back : (track : Track) (said : SessionLine) (command : Command) → resolve track said ≡ Ok command → command_request track command ≡ said
+resolved_back track Blank command h = ap (command_request track) (sym (the_command Nothing command h))
+resolved_back track (Report report) command h = ap (command_request track) (sym (the_command (Event (ToldReport report)) command h))
+resolved_back track (Lock name) command h = by_place (route_named track name) refl h
   where
-    by_place : (o : Option ℕ) → route_named track name ≡ o → line_in (λ route. Event (ToldLock route)) (known name o) ≡ Ok demand → demand_request track demand ≡ Lock name
-    by_place None e f = absurd (no_demand (UnknownName name) demand f)
-    by_place (Some route) e f = ap (demand_request track) (sym (the_demand (Event (ToldLock route)) demand f)) ∙ ap Lock (named_at (λ r. r.name) track.routes name route e)
-looked_back track (Free name) demand h = by_place (section_named track name) refl h
+    by_place : (o : Option ℕ) → route_named track name ≡ o → line_in (λ route. Event (ToldLock route)) (known name o) ≡ Ok command → command_request track command ≡ Lock name
+    by_place None e f = absurd (no_command (UnknownName name) command f)
+    by_place (Some route) e f = ap (command_request track) (sym (the_command (Event (ToldLock route)) command f)) ∙ ap Lock (named_at (λ r. r.name) track.routes name route e)
+resolved_back track (Free name) command h = by_place (section_named track name) refl h
   where
-    by_place : (o : Option ℕ) → section_named track name ≡ o → line_in (λ section. Event (ToldFree section)) (known name o) ≡ Ok demand → demand_request track demand ≡ Free name
-    by_place None e f = absurd (no_demand (UnknownName name) demand f)
-    by_place (Some section) e f = ap (demand_request track) (sym (the_demand (Event (ToldFree section)) demand f)) ∙ ap Free (named_at (λ s. s.name) track.sections name section e)
-looked_back track (Leave train) demand h = ap (demand_request track) (sym (the_demand (Event (ToldLeave train)) demand h))
-looked_back track (GiveBack train end) demand h = ap (demand_request track) (sym (the_demand (Event (ToldGiveBack train end)) demand h))
-looked_back track (Ask train) demand h = ap (demand_request track) (sym (the_demand (Authority train) demand h))
-looked_back track (Inquire inquiry) demand h = ap (demand_request track) (sym (the_demand (Show inquiry) demand h))
+    by_place : (o : Option ℕ) → section_named track name ≡ o → line_in (λ section. Event (ToldFree section)) (known name o) ≡ Ok command → command_request track command ≡ Free name
+    by_place None e f = absurd (no_command (UnknownName name) command f)
+    by_place (Some section) e f = ap (command_request track) (sym (the_command (Event (ToldFree section)) command f)) ∙ ap Free (named_at (λ s. s.name) track.sections name section e)
+resolved_back track (Leave train) command h = ap (command_request track) (sym (the_command (Event (ToldLeave train)) command h))
+resolved_back track (GiveBack train end) command h = ap (command_request track) (sym (the_command (Event (ToldGiveBack train end)) command h))
+resolved_back track (Ask train) command h = ap (command_request track) (sym (the_command (Authority train) command h))
+resolved_back track (Inquire inquiry) command h = ap (command_request track) (sym (the_command (Show inquiry) command h))
 
 -- a line that says what leads to an entry
 record Leads (track : Track) (line : List ℕ) (entry : Entry) : Type 0 where
@@ -118,10 +118,10 @@ record Leads (track : Track) (line : List ℕ) (entry : Entry) : Type 0 where
   read : parse_session line ≡ Ok said
   is : entry_request track entry ≡ said
 
-leads_by : (track : Track) (line : List ℕ) (entry : Entry) (demand : Demand) (read : Result SessionLine LineFault) → parse_session line ≡ read
-    → (result_map_both (λ said. said) BadLine read >>= looked_up track) ≡ Ok demand → entry_request track entry ≡ demand_request track demand → Leads track line entry
-leads_by track line entry demand (Ok said) e h same = record { said = said; read = e; is = same ∙ looked_back track said demand h }
-leads_by track line entry demand (Err fault) e h same = absurd (no_demand (BadLine fault) demand h)
+leads_by : (track : Track) (line : List ℕ) (entry : Entry) (command : Command) (read : Result SessionLine LineFault) → parse_session line ≡ read
+    → (result_map_both (λ said. said) BadLine read >>= resolve track) ≡ Ok command → entry_request track entry ≡ command_request track command → Leads track line entry
+leads_by track line entry command (Ok said) e h same = record { said = said; read = e; is = same ∙ resolved_back track said command h }
+leads_by track line entry command (Err fault) e h same = absurd (no_command (BadLine fault) command h)
 
 -- ---- the entry that an answer adds
 
@@ -145,19 +145,19 @@ module _ (begin : Beginning) (before : List Entry) (entry : Entry) where
   asked_entry train (Err (Blocked obstacle at)) e h = absurd (none-some entry h)
   asked_entry train (Err UnknownTrain) e h = absurd (none-some entry h)
 
-  demanded_entry : (line : List ℕ) (demand : Result Demand SessionRefusal) → demand_in begin.track line ≡ demand → (demand_answer begin before demand).added ≡ Some entry → Leads begin.track line entry
-  demanded_entry line (Ok Nothing) e h = absurd (none-some entry h)
-  demanded_entry line (Ok (Event told)) e h =
+  commanded_entry : (line : List ℕ) (command : Result Command SessionRefusal) → command_in begin.track line ≡ command → (command_answer begin before command).added ≡ Some entry → Leads begin.track line entry
+  commanded_entry line (Ok Nothing) e h = absurd (none-some entry h)
+  commanded_entry line (Ok (Event told)) e h =
       leads_by begin.track line entry (Event told) (parse_session line) refl e
       (ap (entry_request begin.track) (sym (told_entry told (is_full begin before) (step begin.track (replay begin before) (Tell told)) h)))
-  demanded_entry line (Ok (Authority train)) e h =
+  commanded_entry line (Ok (Authority train)) e h =
       leads_by begin.track line entry (Authority train) (parse_session line) refl e (asked_entry train (view begin.track (replay begin before) train) refl h)
-  demanded_entry line (Ok (Show inquiry)) e h = absurd (none-some entry h)
-  demanded_entry line (Err refusal) e h = absurd (none-some entry h)
+  commanded_entry line (Ok (Show inquiry)) e h = absurd (none-some entry h)
+  commanded_entry line (Err refusal) e h = absurd (none-some entry h)
 
   leads : (line : List ℕ) → (line_answer begin before line).added ≡ Some entry → Leads begin.track line entry
   unfolding line_answer
-  leads line h = demanded_entry line (demand_in begin.track line) refl h
+  leads line h = commanded_entry line (command_in begin.track line) refl h
 
   sayable : (line : List ℕ) → Leads begin.track line entry → IsSayable (entry_request begin.track entry)
   sayable line l = subst IsSayable (sym l.is) (read_is_sayable line l.said l.read)
@@ -166,7 +166,7 @@ module _ (begin : Beginning) (before : List Entry) (entry : Entry) where
   unfolding line_answer
   again line l =
       let back : parse_session (entry_line begin.track entry) ≡ Ok l.said = said_line_read (entry_request begin.track entry) (sayable line l) ∙ ap Ok l.is in
-      ap (λ read. demand_answer begin before (result_map_both (λ said. said) BadLine read >>= looked_up begin.track)) (back ∙ sym l.read)
+      ap (λ read. command_answer begin before (result_map_both (λ said. said) BadLine read >>= resolve begin.track)) (back ∙ sym l.read)
 
 pub entries_are_told_again : EntriesAreToldAgain
 entries_are_told_again begin before line entry h = again begin before entry line (leads begin before entry line h)

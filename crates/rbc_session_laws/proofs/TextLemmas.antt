@@ -25,10 +25,10 @@ use Rattle.rbc_model.specs.Kinds.{speed_kind, grade_kind}
 use Rattle.rbc_model.specs.Messages.{message_bytes}
 use Rattle.rbc_model.specs.StepsReply.{certificate}
 use Rattle.rbc_model.specs.SessionReply.{SessionRefusal, BadEvent, Full, Memory, refusal_words, grant_reply, obstacle_words, refused_reply}
-use Rattle.rbc_session_laws.specs.declared.demand.Demand.{Demand}
-use Rattle.rbc_session_laws.specs.declared.demand.Demand.TheVariants.{Nothing, Event, Authority, Show}
-use Rattle.rbc_session_laws.specs.Demands.{demand_in}
-use Rattle.rbc_session_laws.specs.Turns.{IsRefused, IsToldInVain, IsAccepted, IsGranted, IsShown, AnswersAsker, AnswersDemand, AnswersInquiry, AnswersLine}
+use Rattle.rbc_session_laws.specs.declared.command.Command.{Command}
+use Rattle.rbc_session_laws.specs.declared.command.Command.TheVariants.{Nothing, Event, Authority, Show}
+use Rattle.rbc_session_laws.specs.Commands.{command_in}
+use Rattle.rbc_session_laws.specs.Turns.{IsRefused, IsToldInVain, IsAccepted, IsGranted, IsShown, AnswersAsker, AnswersCommand, AnswersInquiry, AnswersLine}
 
 -- ---- the lines of two texts
 
@@ -151,15 +151,15 @@ module _ (begin : Beginning) (before : List Entry) (reply : List ℕ) (added : O
   inquiry_whole AskedScene (inl h) = shown_whole AskedScene h
   inquiry_whole AskedScene (inr h) = refused_whole Memory h
 
-  demand_whole : (demand : Result Demand SessionRefusal) → AnswersDemand begin before reply added demand → IsWhole reply
-  demand_whole (Ok Nothing) h = inl h.0
-  demand_whole (Ok (Event told)) h = told_whole told (is_full begin before) (step begin.track (replay begin before) (Tell told)) h
-  demand_whole (Ok (Authority train)) h = asker_whole train (view begin.track (replay begin before) train) h
-  demand_whole (Ok (Show inquiry)) h = inquiry_whole inquiry h
-  demand_whole (Err refusal) h = refused_whole refusal h
+  command_whole : (command : Result Command SessionRefusal) → AnswersCommand begin before reply added command → IsWhole reply
+  command_whole (Ok Nothing) h = inl h.0
+  command_whole (Ok (Event told)) h = told_whole told (is_full begin before) (step begin.track (replay begin before) (Tell told)) h
+  command_whole (Ok (Authority train)) h = asker_whole train (view begin.track (replay begin before) train) h
+  command_whole (Ok (Show inquiry)) h = inquiry_whole inquiry h
+  command_whole (Err refusal) h = refused_whole refusal h
 
 pub reply_whole : (begin : Beginning) (before : List Entry) (line reply : List ℕ) (added : Option Entry) → AnswersLine begin before line reply added → IsWhole reply
-reply_whole begin before line reply added h = demand_whole begin before reply added (demand_in begin.track line) h
+reply_whole begin before line reply added h = command_whole begin before reply added (command_in begin.track line) h
 
 -- ---- the reply that says that memory was refused
 

@@ -16,9 +16,9 @@ use Rattle.rbc_model.specs.Views.{View, view}
 use Rattle.rbc_model.specs.Histories.{Beginning, Entry, Heard, Granted, Grants, is_full, replay}
 use Rattle.rbc_model.specs.SessionReply.{SessionRefusal, BadEvent, Full, accepted_reply, grant_reply, blocked_reply, refused_reply}
 use Rattle.rbc_table_laws.specs.LeastTables.{greatest_prices, chosen_steps}
-use Rattle.rbc_session_laws.specs.declared.demand.Demand.{Demand}
-use Rattle.rbc_session_laws.specs.declared.demand.Demand.TheVariants.{Nothing, Event, Authority, Show}
-use Rattle.rbc_session_laws.specs.Demands.{demand_in}
+use Rattle.rbc_session_laws.specs.declared.command.Command.{Command}
+use Rattle.rbc_session_laws.specs.declared.command.Command.TheVariants.{Nothing, Event, Authority, Show}
+use Rattle.rbc_session_laws.specs.Commands.{command_in}
 use Rattle.rbc_session_laws.specs.SessionRuns.{Turn, entries_of, entries_added, replies_to}
 
 -- ---- what a train is granted
@@ -84,16 +84,16 @@ module _ (begin : Beginning) (before : List Entry) where
   asker_answer train (Err UnknownTrain) = refused (BadEvent (NoSuchTrain train))
 
   -- to what is asked for
-  abbrev pub demand_answer : Result Demand SessionRefusal → Answer
-  demand_answer (Ok Nothing) = record { reply = []; added = None }
-  demand_answer (Ok (Event told)) = event_answer told
-  demand_answer (Ok (Authority train)) = asker_answer train (view begin.track (replay begin before) train)
-  demand_answer (Ok (Show inquiry)) = record { reply = inquiry_reply begin.track (length before) (replay begin before) inquiry; added = None }
-  demand_answer (Err refusal) = refused refusal
+  abbrev pub command_answer : Result Command SessionRefusal → Answer
+  command_answer (Ok Nothing) = record { reply = []; added = None }
+  command_answer (Ok (Event told)) = event_answer told
+  command_answer (Ok (Authority train)) = asker_answer train (view begin.track (replay begin before) train)
+  command_answer (Ok (Show inquiry)) = record { reply = inquiry_reply begin.track (length before) (replay begin before) inquiry; added = None }
+  command_answer (Err refusal) = refused refusal
 
   -- and to a line
   unfoldable pub line_answer : List ℕ → Answer
-  line_answer line = demand_answer (demand_in begin.track line)
+  line_answer line = command_answer (command_in begin.track line)
 
 -- ---- what a session answers
 

@@ -7,8 +7,8 @@ use Rattle.rbc_model.specs.Views.{greatest_end, reach, start_of, stop}
 use Rattle.rbc_model.specs.Histories.{Beginning, Entry, is_full, replay}
 use Rattle.rbc_model.specs.SceneLines.{distance_word, end_word}
 use Rattle.rbc_model.specs.SessionReply.{obstacle_words}
-use Rattle.rbc_session_laws.specs.declared.demand.Demand.TheVariants.{Authority}
-use Rattle.rbc_session_laws.specs.Demands.{demand_in}
+use Rattle.rbc_session_laws.specs.declared.command.Command.TheVariants.{Authority}
+use Rattle.rbc_session_laws.specs.Commands.{command_in}
 use Rattle.rbc_session_laws.specs.Answers.{line_answer}
 
 -- the text begins with the line of these words
@@ -32,4 +32,4 @@ AnswersAsNext begin before number train (Some end) reply =
 -- so it is with each train of the scene that a history leads to, and with each line that asks for its authority
 abbrev pub NextsAreAsked : Type 0
 NextsAreAsked = (begin : Beginning) (before : List Entry) (line : List ℕ) (number : ℕ) (train : Train) → train_numbered (replay begin before) number ≡ Some train
-    → demand_in begin.track line ≡ Ok (Authority number) → AnswersAsNext begin before number train (greatest_end begin.track (replay begin before) train) (line_answer begin before line).reply
+    → command_in begin.track line ≡ Ok (Authority number) → AnswersAsNext begin before number train (greatest_end begin.track (replay begin before) train) (line_answer begin before line).reply

@@ -1,4 +1,4 @@
-pub mod Demands
+pub mod Commands
 pub mod Turns
 pub mod SessionRuns
 pub mod Answers

@@ -23,9 +23,9 @@ use Rattle.rbc_model.specs.Events.{step}
 use Rattle.rbc_model.specs.Views.{View, view}
 use Rattle.rbc_model.specs.Histories.{Beginning, Entry, Heard, Granted, Grants, IsBest, is_full, replay}
 use Rattle.rbc_model.specs.SessionReply.{SessionRefusal, BadEvent, Full, Memory, accepted_reply, grant_reply, blocked_reply, refused_reply}
-use Rattle.rbc_session_laws.specs.declared.demand.Demand.{Demand}
-use Rattle.rbc_session_laws.specs.declared.demand.Demand.TheVariants.{Nothing, Event, Authority, Show}
-use Rattle.rbc_session_laws.specs.Demands.{demand_in}
+use Rattle.rbc_session_laws.specs.declared.command.Command.{Command}
+use Rattle.rbc_session_laws.specs.declared.command.Command.TheVariants.{Nothing, Event, Authority, Show}
+use Rattle.rbc_session_laws.specs.Commands.{command_in}
 
 -- ---- what a train is granted
 
@@ -104,13 +104,13 @@ module _ (begin : Beginning) (before : List Entry) (reply : List ℕ) (added : O
   AnswersInquiry AskedScene = IsShown AskedScene ⊎ IsGivenUp
 
   -- what is asked for
-  abbrev pub AnswersDemand : Result Demand SessionRefusal → Type 0
-  AnswersDemand (Ok Nothing) = (reply ≡ []) × (added ≡ None)
-  AnswersDemand (Ok (Event told)) = AnswersEvent told
-  AnswersDemand (Ok (Authority train)) = AnswersAuthority train
-  AnswersDemand (Ok (Show inquiry)) = AnswersInquiry inquiry
-  AnswersDemand (Err refusal) = IsRefused refusal
+  abbrev pub AnswersCommand : Result Command SessionRefusal → Type 0
+  AnswersCommand (Ok Nothing) = (reply ≡ []) × (added ≡ None)
+  AnswersCommand (Ok (Event told)) = AnswersEvent told
+  AnswersCommand (Ok (Authority train)) = AnswersAuthority train
+  AnswersCommand (Ok (Show inquiry)) = AnswersInquiry inquiry
+  AnswersCommand (Err refusal) = IsRefused refusal
 
 -- After these entries the line is answered by this reply, and adds this entry, or none.
 abbrev pub AnswersLine : Beginning → List Entry → List ℕ → List ℕ → Option Entry → Type 0
-AnswersLine begin before line reply added = AnswersDemand begin before reply added (demand_in begin.track line)
+AnswersLine begin before line reply added = AnswersCommand begin before reply added (command_in begin.track line)

@@ -2,9 +2,9 @@
 
 use rbc_model::{Inquiry, Told};
 
-/// What a line asks for, its names looked up in the track.
+/// What a line asks for, its names resolved in the track.
 #[derive(Clone, Copy, Debug, PartialEq, Eq)]
-pub enum Demand {
+pub enum Command {
     /// Nothing: the line has no reply.
     Nothing,
     /// Something is told.

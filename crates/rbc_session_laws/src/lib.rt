@@ -2,7 +2,7 @@
 //! was read. Nothing here runs.
 #![tactic(auto)]
 
-mod demand;
+mod command;
 
 ghost use Rattle.rbc_session_laws.specs.AskedNext.{NextsAreAsked};
 ghost use Rattle.rbc_session_laws.specs.CheckAnswers.{ChecksAreAnswered};
@@ -12,7 +12,7 @@ ghost use Rattle.rbc_session_laws.specs.Retelling.{LegalHistoriesAreRetold, Requ
 ghost use Rattle.rbc_session_laws.specs.Retelling.{RetoldEntriesAreOfTrack, RetoldHistoriesAreSessions, SessionsAreRetold};
 ghost use Rattle.rbc_session_laws.specs.StepsAnswers.{StepsLinesAreAnswered, StepsWrittenIsAnswered};
 
-pub use demand::Demand;
+pub use command::Command;
 
 /// What a session answers, line by line and as a whole, where memory is not refused.
 pub fn sessions_are_answered()

@@ -14,9 +14,9 @@ use Rattle.rbc_model.specs.SoundTracks.{IsInForm}
 use Rattle.rbc_model.specs.Views.{View, view}
 use Rattle.rbc_model.proofs.BasicLemmas.{slice_get-from_take}
 use Rattle.rbc_grant_laws.proofs.CandidateLemmas.{IsBest-candidate, view-train}
-use Rattle.rbc_session_laws.specs.declared.demand.Demand.TheVariants.{Authority}
-use Rattle.rbc_session_laws.specs.Answers.{asker_answer, demand_answer, grant_answer, grant_of, refused}
-use Rattle.rbc_session_laws.specs.Demands.{looked_up}
+use Rattle.rbc_session_laws.specs.declared.command.Command.TheVariants.{Authority}
+use Rattle.rbc_session_laws.specs.Answers.{asker_answer, command_answer, grant_answer, grant_of, refused}
+use Rattle.rbc_session_laws.specs.Commands.{resolve}
 use Rattle.rbc_session_laws.proofs.GrantLemmas.{the_grant}
 use Rattle.rbc_sweep.specs.Asking.{IsAnswered}
 use Rattle.rbc_sweep.specs.Granted.{Granted as Grant}
@@ -45,8 +45,8 @@ adds_still a b place said begins is =
     record {
       entry = is.entry;
       stands = slice_get-from_take n b.entries place is.entry (subst (λ l. slice_get l place ≡ Some is.entry) (sym begins.opening) is.stands);
-      adds = subst (λ (begin : Beginning). (demand_answer begin (take place b.entries) (looked_up begin.track said)).added ≡ Some is.entry) (sym same)
-          (subst (λ l. (demand_answer (begin_of a) l (looked_up a.track said)).added ≡ Some is.entry) (sym first) is.adds);
+      adds = subst (λ (begin : Beginning). (command_answer begin (take place b.entries) (resolve begin.track said)).added ≡ Some is.entry) (sym same)
+          (subst (λ l. (command_answer (begin_of a) l (resolve a.track said)).added ≡ Some is.entry) (sym first) is.adds);
     }
 
 -- where there is room, the one grant for what a train is shown is added
@@ -57,7 +57,7 @@ added_by begin entries shown false grant entry free is of_grant = ap (λ e. Some
 
 -- what a train is granted at a desk is what the centre adds for it
 grant_added : (begin : Beginning) (entries : List Entry) (train : ℕ) (grant : Grant) → IsInForm begin.track → IsAnswered (history_on begin entries) train (Ok grant)
-    → (demand_answer begin entries (Ok (Authority train))).added ≡ Some grant.receipt.entry
+    → (command_answer begin entries (Ok (Authority train))).added ≡ Some grant.receipt.entry
 grant_added begin entries train grant form is =
     let candidate = grant.candidate in
     let scene = replay begin entries in
@@ -80,7 +80,7 @@ grant_adds history train grant has form =
     let here : AddsEntry (with_entry before entry) (length before.entries) (Ask train) = record {
       entry = entry;
       stands = last_stands before.entries entry;
-      adds = subst (λ b. (demand_answer (begin_of before) b (looked_up before.track (Ask train))).added ≡ Some entry) (sym (take-append_seam before.entries (entry ∷ []))) adds;
+      adds = subst (λ b. (command_answer (begin_of before) b (resolve before.track (Ask train))).added ≡ Some entry) (sym (take-append_seam before.entries (entry ∷ []))) adds;
     } in
     subst (λ n. AddsEntry history n (Ask train)) (sym answered.2) (adds_still (with_entry before entry) history (length before.entries) (Ask train) begins here)
 

@@ -8,8 +8,8 @@ use Rattle.rbc_model.specs.HistoryText.{IsToldOfTrack}
 use Rattle.rbc_model.specs.Sessions.{Prints, WritesPart}
 use Rattle.rbc_model.specs.Tracks.{Track}
 use Rattle.rbc_model.specs.declared.reports.Told.{Told}
-use Rattle.rbc_session_laws.specs.Demands.{demand_in}
-use Rattle.rbc_session_laws.specs.declared.demand.Demand.TheVariants.{Event}
+use Rattle.rbc_session_laws.specs.Commands.{command_in}
+use Rattle.rbc_session_laws.specs.declared.command.Command.TheVariants.{Event}
 use Rattle.rbc_sweep.specs.Seats.{Seated}
 use Rattle.rbc_sessions.specs.Hearings.{Advances, CatchesUp, CatchesUpAndTreats, IsGoing, Rests}
 use Rattle.rbc_sessions.specs.SeatChanges.{SeatComes, SeatHears}
@@ -51,7 +51,7 @@ hears_all before after told index text past so_far = subst (λ ts. SeatHears bef
 
 module _ {L P : Type 0} where
   module _ (track : Track) (kept : P → ℕ → Type 0) where
-    pub none_left : (hearing : Hearing L P) → hearing.sitting.has_failed ≡ false → hearing.resting ≡ [] → IsGoing track kept hearing
+    pub none_left : (hearing : Hearing L P) → hearing.sitting.has_failed ≡ false → hearing.batch ≡ [] → IsGoing track kept hearing
     none_left hearing whole none = record {
       whole = whole;
       of_track = subst (All (IsToldOfTrack track)) (sym none) (All-nil (IsToldOfTrack track));
@@ -63,14 +63,14 @@ module _ {L P : Type 0} where
     rests_going before after line rests =
         let going = rests.going in record {
           whole = ap (λ s. s.has_failed) rests.sitting ∙ going.whole;
-          of_track = subst (All (IsToldOfTrack track)) (sym rests.behind) (All-push (IsToldOfTrack track) before.resting rests.told going.of_track rests.of_track);
+          of_track = subst (All (IsToldOfTrack track)) (sym rests.behind) (All-push (IsToldOfTrack track) before.batch rests.told going.of_track rests.of_track);
           free = inr rests.free;
         }
 
     -- ---- how a line is answered
 
-    pub advances_resting : (failed : P → Type 0) (before after : Hearing L P) (line : List ℕ) → Rests track kept before line after → Advances track kept failed before line [] after
-    advances_resting failed before after line rests =
+    pub advances_batch : (failed : P → Type 0) (before after : Hearing L P) (line : List ℕ) → Rests track kept before line after → Advances track kept failed before line [] after
+    advances_batch failed before after line rests =
         let going = rests_going before after line rests in
         record { how = inl (rests, refl); goes_on = λ whole. going; why = λ broken. absurd (both_ways _ going.whole broken) }
 
@@ -82,28 +82,28 @@ module _ {L P : Type 0} where
       why = λ broken. absurd (both_ways _ catches_up.still_whole broken);
     }
 
-    pub advances_treated : (failed : P → Type 0) (before after : Hearing L P) (line text : List ℕ) → CatchesUpAndTreats kept before line text after → (after.sitting.has_failed ≡ true → failed after.sitting.pen)
+    pub advances_treated : (failed : P → Type 0) (before after : Hearing L P) (line text : List ℕ) → CatchesUpAndTreats kept before line text after → (after.sitting.has_failed ≡ true → failed after.sitting.committer)
         → Advances track kept failed before line text after
     advances_treated failed before after line text treats why = record { how = inr (inr treats); goes_on = λ whole. none_left after whole treats.none_rests; why = why }
 
     -- a line that is told rests, or nothing changes where there was no room
-    pub rests_or_same : (before after : Hearing L P) (line : List ℕ) (told : Told) (is_room : Bool) → IsGoing track kept before → demand_in before.sitting.seat.told.track line ≡ Ok (Event told)
-        → IsToldOfTrack track told → ((pen : P) (place : ℕ) → kept pen place) → after.sitting ≡ before.sitting
-        → MatchBool is_room (after.resting ≡ before.resting ++ told ∷ []) (after.resting ≡ before.resting)
+    pub rests_or_same : (before after : Hearing L P) (line : List ℕ) (told : Told) (is_room : Bool) → IsGoing track kept before → command_in before.sitting.seat.told.track line ≡ Ok (Event told)
+        → IsToldOfTrack track told → ((committer : P) (place : ℕ) → kept committer place) → after.sitting ≡ before.sitting
+        → MatchBool is_room (after.batch ≡ before.batch ++ told ∷ []) (after.batch ≡ before.batch)
         → MatchBool is_room (Rests track kept before line after) (after ≡ before)
     rests_or_same before after line told true going asks of_track free sitting behind =
         record { going = going; told = told; asks = asks; of_track = of_track; free = free; behind = behind; sitting = sitting }
     rests_or_same before after line told false going asks of_track free sitting same =
-        ap (λ s. record { sitting = s; resting = after.resting }) sitting ∙ ap (λ r. record { sitting = before.sitting; resting = r }) same
+        ap (λ s. record { sitting = s; batch = after.batch }) sitting ∙ ap (λ r. record { sitting = before.sitting; batch = r }) same
 
   module _ (kept : P → ℕ → Type 0) where
     -- where nothing rests there is nothing to catch up with
-    pub nothing_rests : (track : Track) (hearing : Hearing L P) → IsGoing track kept hearing → hearing.resting ≡ [] → CatchesUp kept hearing [] hearing
+    pub nothing_rests : (track : Track) (hearing : Hearing L P) → IsGoing track kept hearing → hearing.batch ≡ [] → CatchesUp kept hearing [] hearing
     nothing_rests track hearing going none = record {
       whole = going.whole;
       free = going.free;
       hears = subst (λ (items : List Told). SeatHears hearing.sitting.seat items [] hearing.sitting.seat) (sym none) (refl, refl);
-      pen = refl;
+      committer = refl;
       still_whole = going.whole;
       none_rests = none;
     }

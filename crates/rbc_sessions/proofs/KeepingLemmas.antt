@@ -18,57 +18,57 @@ use Rattle.rbc_model.specs.SessionReply.{SessionRefusal, BadLine, Memory, refuse
 use Rattle.rbc_model.specs.SessionText.{SessionLine, IsSayable, parse_session, said_line}
 use Rattle.rbc_sweep.specs.Records.{begin_of, HistoryOnTrack}
 use Rattle.rbc_sweep.specs.Seats.{Seated}
-use Rattle.rbc_session_laws.specs.declared.demand.Demand.{Demand}
-use Rattle.rbc_session_laws.specs.Answers.{demand_answer, line_answer}
-use Rattle.rbc_session_laws.specs.Demands.{demand_in, looked_up}
-use Rattle.rbc_session_laws.specs.Turns.{AnswersDemand}
+use Rattle.rbc_session_laws.specs.declared.command.Command.{Command}
+use Rattle.rbc_session_laws.specs.Answers.{command_answer, line_answer}
+use Rattle.rbc_session_laws.specs.Commands.{command_in, resolve}
+use Rattle.rbc_session_laws.specs.Turns.{AnswersCommand}
 use Rattle.rbc_session_laws.proofs.LineLemmas.{lines_are_answered, given_up_adds_none}
 use Rattle.rbc_sessions.specs.Changes.{with_added}
 use Rattle.rbc_sessions.specs.Keeping.{AddsEntry}
-use Rattle.rbc_sessions.specs.SeatTurns.{AnswersDemandAtDesk, IsAnsweredSince}
+use Rattle.rbc_sessions.specs.SeatTurns.{AnswersCommandAtDesk, IsAnsweredSince}
 use Rattle.rbc_sessions.specs.Sittings.{StaysKept, Treats}
 use Rattle.rbc_sessions.specs.declared.sitting.Sitting.{Sitting}
 
 -- ---- what a request adds
 
--- what a line asks for is what it says, looked up
-pub line_asks : (track : Track) (line : List ℕ) (said : SessionLine) → parse_session line ≡ Ok said → demand_in track line ≡ looked_up track said
-line_asks track line said read = ap (λ r. result_map_both (λ x. x) BadLine r >>= looked_up track) read
+-- what a line asks for is what it says, resolved
+pub line_asks : (track : Track) (line : List ℕ) (said : SessionLine) → parse_session line ≡ Ok said → command_in track line ≡ resolve track said
+line_asks track line said read = ap (λ r. result_map_both (λ x. x) BadLine r >>= resolve track) read
 
-pub line_is_bad : (track : Track) (line : List ℕ) (fault : LineFault) → parse_session line ≡ Err fault → Err (BadLine fault) ≡ demand_in track line
-line_is_bad track line fault read = sym (ap (λ r. result_map_both (λ x. x) BadLine r >>= looked_up track) read)
+pub line_is_bad : (track : Track) (line : List ℕ) (fault : LineFault) → parse_session line ≡ Err fault → Err (BadLine fault) ≡ command_in track line
+line_is_bad track line fault read = sym (ap (λ r. result_map_both (λ x. x) BadLine r >>= resolve track) read)
 
-pub demand_adds : (begin : Beginning) (before : List Entry) (said : SessionLine) (demand : Result Demand SessionRefusal) (reply : List ℕ) (entry : Entry) → IsInForm begin.track → IsSayable said
-    → looked_up begin.track said ≡ demand → AnswersDemand begin before reply (Some entry) demand → (demand_answer begin before (looked_up begin.track said)).added ≡ Some entry
+pub command_adds : (begin : Beginning) (before : List Entry) (said : SessionLine) (command : Result Command SessionRefusal) (reply : List ℕ) (entry : Entry) → IsInForm begin.track → IsSayable said
+    → resolve begin.track said ≡ command → AnswersCommand begin before reply (Some entry) command → (command_answer begin before (resolve begin.track said)).added ≡ Some entry
 unfolding line_answer
-demand_adds begin before said demand reply entry form sayable is answers =
+command_adds begin before said command reply entry form sayable is answers =
     let line = said_line said in
     let asks = line_asks begin.track line said (said_line_read said sayable) in
-    let right = subst (λ d. AnswersDemand begin before reply (Some entry) d) (sym (asks ∙ is)) answers in
+    let right = subst (λ d. AnswersCommand begin before reply (Some entry) d) (sym (asks ∙ is)) answers in
     let heard = λ (lost : reply ≡ refused_reply begin.track Memory). none-some entry (sym (given_up_adds_none begin before line reply (Some entry) right lost)) in
     let same = lines_are_answered begin before line reply (Some entry) form right heard in
-    subst (λ d. (demand_answer begin before d).added ≡ Some entry) asks (sym same.1)
+    subst (λ d. (command_answer begin before d).added ≡ Some entry) asks (sym same.1)
 
 pub last_stands : (entries : List Entry) (entry : Entry) → slice_get (entries ++ entry ∷ []) (length entries) ≡ Some entry
 last_stands [] entry = refl
 last_stands (e ∷ entries) entry = last_stands entries entry
 
 -- what led to the entry that was answered for adds it
-pub since_adds : (Answers : Beginning → List Entry → Option Entry → Type 0) (begun after : HistoryOnTrack) (receipt : Receipt) (said : SessionLine) (demand : Result Demand SessionRefusal) (reply : List ℕ)
-    → (since : IsAnsweredSince Answers begun after (Some receipt)) → IsInForm begun.track → IsSayable said → looked_up begun.track said ≡ demand
-    → ((begin : Beginning) (entries : List Entry) → Answers begin entries (Some receipt.entry) → AnswersDemand begin entries reply (Some receipt.entry) demand)
+pub since_adds : (Answers : Beginning → List Entry → Option Entry → Type 0) (begun after : HistoryOnTrack) (receipt : Receipt) (said : SessionLine) (command : Result Command SessionRefusal) (reply : List ℕ)
+    → (since : IsAnsweredSince Answers begun after (Some receipt)) → IsInForm begun.track → IsSayable said → resolve begun.track said ≡ command
+    → ((begin : Beginning) (entries : List Entry) → Answers begin entries (Some receipt.entry) → AnswersCommand begin entries reply (Some receipt.entry) command)
     → AddsEntry after receipt.place said
-since_adds Answers begun after receipt said demand reply since form sayable is as_demanded =
+since_adds Answers begun after receipt said command reply since form sayable is as_commanded =
     let before = since.before in
     let later = since.later in
     let entry = receipt.entry in
-    let adds : (demand_answer (begin_of before) before.entries (looked_up before.track said)).added ≡ Some entry =
-    demand_adds (begin_of before) before.entries said demand reply entry (subst IsInForm (sym later.track) form) sayable
-    (ap (λ t. looked_up t said) later.track ∙ is) (as_demanded (begin_of before) before.entries since.answered) in
+    let adds : (command_answer (begin_of before) before.entries (resolve before.track said)).added ≡ Some entry =
+    command_adds (begin_of before) before.entries said command reply entry (subst IsInForm (sym later.track) form) sayable
+    (ap (λ t. resolve t said) later.track ∙ is) (as_commanded (begin_of before) before.entries since.answered) in
     let here : AddsEntry (with_added before (Some entry)) (length before.entries) said = record {
       entry = entry;
       stands = last_stands before.entries entry;
-      adds = subst (λ b. (demand_answer (begin_of before) b (looked_up before.track said)).added ≡ Some entry) (sym (take-append_seam before.entries (entry ∷ []))) adds;
+      adds = subst (λ b. (command_answer (begin_of before) b (resolve before.track said)).added ≡ Some entry) (sym (take-append_seam before.entries (entry ∷ []))) adds;
     } in
     subst (λ n. AddsEntry after n said) (sym since.next) (subst (λ (h : HistoryOnTrack). AddsEntry h (length before.entries) said) (sym since.told) here)
 
@@ -91,30 +91,30 @@ prints_said old new false writer_failed reply result said unsaid = said refl
 
 -- ---- what is treated
 
-module _ {L P : Type 0} (kept : P → ℕ → Type 0) (demand : Result Demand SessionRefusal) where
+module _ {L P : Type 0} (kept : P → ℕ → Type 0) (command : Result Command SessionRefusal) where
   -- nothing was entered
-  pub treats_idle : (before after : Sitting L P) (reply : List ℕ) → before.has_failed ≡ false → after.pen ≡ before.pen → after.has_failed ≡ before.has_failed
-      → AnswersDemandAtDesk before.seat.told after.seat.told reply None demand → after.seat.receipts ≡ before.seat.receipts → Treats kept demand before reply after
-  treats_idle before after reply whole pen same answers receipts = record {
+  pub treats_idle : (before after : Sitting L P) (reply : List ℕ) → before.has_failed ≡ false → after.committer ≡ before.committer → after.has_failed ≡ before.has_failed
+      → AnswersCommandAtDesk before.seat.told after.seat.told reply None command → after.seat.receipts ≡ before.seat.receipts → Treats kept command before reply after
+  treats_idle before after reply whole committer same answers receipts = record {
     whole = whole;
     reply = reply;
     comes = (None, answers, receipts ∙ sym (append-nil before.seat.receipts));
-    stays = subst (λ p. StaysKept kept before.pen p) (sym pen) (λ place k. k);
+    stays = subst (λ p. StaysKept kept before.committer p) (sym committer) (λ place k. k);
     said = λ _. (refl, tt);
     unsaid = λ failed. absurd (both_ways after.has_failed (same ∙ whole) failed);
   }
 
   -- an entry was, and it is kept, unless keeping has failed
   pub treats_entered : (before after : Sitting L P) (seat : Seated) (receipt : Receipt) (reply : List ℕ) → before.has_failed ≡ false → after.seat ≡ seat
-      → AnswersDemandAtDesk before.seat.told seat.told reply (Some receipt) demand → seat.receipts ≡ before.seat.receipts ++ receipt ∷ []
-      → StaysKept kept before.pen after.pen → (after.has_failed ≡ false → kept after.pen receipt.place)
-      → Treats kept demand before (cond after.has_failed [] reply) after
+      → AnswersCommandAtDesk before.seat.told seat.told reply (Some receipt) command → seat.receipts ≡ before.seat.receipts ++ receipt ∷ []
+      → StaysKept kept before.committer after.committer → (after.has_failed ≡ false → kept after.committer receipt.place)
+      → Treats kept command before (cond after.has_failed [] reply) after
   treats_entered before after seat receipt reply whole same answers receipts stays is_kept = record {
     whole = whole;
     reply = reply;
     comes = (
       Some receipt,
-      subst (λ (s : Seated). AnswersDemandAtDesk before.seat.told s.told reply (Some receipt) demand) (sym same) answers,
+      subst (λ (s : Seated). AnswersCommandAtDesk before.seat.told s.told reply (Some receipt) command) (sym same) answers,
       ap (λ (s : Seated). s.receipts) same ∙ receipts,
     );
     stays = stays;
@@ -122,6 +122,6 @@ module _ {L P : Type 0} (kept : P → ℕ → Type 0) (demand : Result Demand Se
     unsaid = λ failed. ap (λ b. cond b [] reply) failed;
   }
 
-pub treats_as : {L P : Type 0} (kept : P → ℕ → Type 0) (before after : Sitting L P) (text : List ℕ) (one other : Result Demand SessionRefusal) → one ≡ other → Treats kept one before text after
+pub treats_as : {L P : Type 0} (kept : P → ℕ → Type 0) (before after : Sitting L P) (text : List ℕ) (one other : Result Command SessionRefusal) → one ≡ other → Treats kept one before text after
     → Treats kept other before text after
 treats_as kept before after text one other is treats = subst (λ d. Treats kept d before text after) is treats

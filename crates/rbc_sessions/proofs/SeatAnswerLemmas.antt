@@ -7,15 +7,15 @@ use Rattle.rbc_model.specs.Histories.{Beginning, Entry}
 use Rattle.rbc_model.specs.SessionReply.{SessionRefusal, Full, Memory, refused_reply}
 use Rattle.rbc_sweep.specs.Later.{IsLater}
 use Rattle.rbc_sweep.specs.Records.{begin_of, HistoryOnTrack, history_on}
-use Rattle.rbc_session_laws.specs.declared.demand.Demand.{Demand}
-use Rattle.rbc_session_laws.specs.declared.demand.Demand.TheVariants.{Nothing, Event, Authority, Show}
-use Rattle.rbc_session_laws.specs.Demands.{demand_in}
-use Rattle.rbc_session_laws.specs.Turns.{AnswersLine, AnswersDemand, AnswersEvent, AnswersInquiry}
+use Rattle.rbc_session_laws.specs.declared.command.Command.{Command}
+use Rattle.rbc_session_laws.specs.declared.command.Command.TheVariants.{Nothing, Event, Authority, Show}
+use Rattle.rbc_session_laws.specs.Commands.{command_in}
+use Rattle.rbc_session_laws.specs.Turns.{AnswersLine, AnswersCommand, AnswersEvent, AnswersInquiry}
 use Rattle.rbc_session_laws.proofs.LineLemmas.{lines_are_answered}
 use Rattle.rbc_sessions.specs.Changes.{with_added}
 use Rattle.rbc_sessions.specs.SeatAnswers.{IsLineAnswer, IsHeldUp, AreLineAnswers}
 use Rattle.rbc_sessions.specs.SeatSessions.{SeatTurn, AreInTurn}
-use Rattle.rbc_sessions.specs.SeatTurns.{AnswersDemandAtDesk, AnswersAsked, IsAnsweredSince, entry_in, IsNext}
+use Rattle.rbc_sessions.specs.SeatTurns.{AnswersCommandAtDesk, AnswersAsked, IsAnsweredSince, entry_in, IsNext}
 use Rattle.rbc_sessions.proofs.SeatSessionLemmas.{turn_track}
 
 module _ (begun : HistoryOnTrack) (turn : SeatTurn) (form : IsInForm begun.track) where
@@ -29,50 +29,50 @@ module _ (begun : HistoryOnTrack) (turn : SeatTurn) (form : IsInForm begun.track
       record { before = before; since = since; reply = answer.0; added = answer.1; next = next; told = told }
 
   -- nothing was entered
-  idle : (demand : Result Demand SessionRefusal) → demand_in begun.track turn.line ≡ demand → AnswersDemand (begin_of begun) begun.entries turn.reply None demand
+  idle : (command : Result Command SessionRefusal) → command_in begun.track turn.line ≡ command → AnswersCommand (begin_of begun) begun.entries turn.reply None command
       → turn.receipt ≡ None → turn.told ≡ begun → turn.reply ≢ refused_reply begun.track Memory → IsLineAnswer begun turn
-  idle demand e answers none same kept =
+  idle command e answers none same kept =
       computed begun (inl refl) refl
-      (subst (λ d. AnswersDemand (begin_of begun) begun.entries turn.reply (entry_in turn.receipt) d) (sym e)
-      (subst (λ r. AnswersDemand (begin_of begun) begun.entries turn.reply (entry_in r) demand) (sym none) answers))
+      (subst (λ d. AnswersCommand (begin_of begun) begun.entries turn.reply (entry_in turn.receipt) d) (sym e)
+      (subst (λ r. AnswersCommand (begin_of begun) begun.entries turn.reply (entry_in r) command) (sym none) answers))
       (subst (IsNext begun.entries) (sym none) tt)
       (same ∙ sym (ap (history_on (begin_of begun)) (append-nil begun.entries)) ∙ ap (λ r. with_added begun (entry_in r)) (sym none))
       kept
 
   -- it was answered after a later history
-  since : (Answers : Beginning → List Entry → Option Entry → Type 0) (answered : IsAnsweredSince Answers begun turn.told turn.receipt) (demand : Result Demand SessionRefusal)
-      → demand_in begun.track turn.line ≡ demand → AnswersDemand (begin_of answered.before) answered.before.entries turn.reply (entry_in turn.receipt) demand
+  since : (Answers : Beginning → List Entry → Option Entry → Type 0) (answered : IsAnsweredSince Answers begun turn.told turn.receipt) (command : Result Command SessionRefusal)
+      → command_in begun.track turn.line ≡ command → AnswersCommand (begin_of answered.before) answered.before.entries turn.reply (entry_in turn.receipt) command
       → turn.reply ≢ refused_reply begun.track Memory → IsLineAnswer begun turn
-  since Answers answered demand e answers kept =
+  since Answers answered command e answers kept =
       let before = answered.before in
       let later = answered.later in
       computed before (inr later) later.track
-      (subst (λ d. AnswersDemand (begin_of before) before.entries turn.reply (entry_in turn.receipt) d) (sym (ap (λ t. demand_in t turn.line) later.track ∙ e)) answers)
+      (subst (λ d. AnswersCommand (begin_of before) before.entries turn.reply (entry_in turn.receipt) d) (sym (ap (λ t. command_in t turn.line) later.track ∙ e)) answers)
       answered.next answered.told kept
 
   asked : (train : ℕ) (answered : IsAnsweredSince (λ begin entries added. AnswersAsked begin entries turn.reply added train) begun turn.told turn.receipt)
-      → demand_in begun.track turn.line ≡ Ok (Authority train) → turn.reply ≢ refused_reply begun.track Memory
+      → command_in begun.track turn.line ≡ Ok (Authority train) → turn.reply ≢ refused_reply begun.track Memory
       → AnswersAsked (begin_of answered.before) answered.before.entries turn.reply (entry_in turn.receipt) train → IsHeldUp begun.track turn.reply ⊎ IsLineAnswer begun turn
   asked train answered e kept (inl answers) = inr (since (λ begin entries added. AnswersAsked begin entries turn.reply added train) answered (Ok (Authority train)) e answers kept)
   asked train answered e kept (inr (known, inl (full, (said, none)))) = let later = answered.later in inl (inr (subst (λ t. turn.reply ≡ refused_reply t Full) later.track said))
   asked train answered e kept (inr (known, inr (said, none))) = let later = answered.later in inl (inl (subst (λ t. turn.reply ≡ refused_reply t Memory) later.track said))
 
-  demanded : (demand : Result Demand SessionRefusal) → demand_in begun.track turn.line ≡ demand → AnswersDemandAtDesk begun turn.told turn.reply turn.receipt demand
+  commanded : (command : Result Command SessionRefusal) → command_in begun.track turn.line ≡ command → AnswersCommandAtDesk begun turn.told turn.reply turn.receipt command
       → turn.reply ≢ refused_reply begun.track Memory → IsHeldUp begun.track turn.reply ⊎ IsLineAnswer begun turn
-  demanded (Ok Nothing) e (said, (none, same)) kept = inr (idle (Ok Nothing) e (said, refl) none same kept)
-  demanded (Ok (Event told)) e answered kept =
+  commanded (Ok Nothing) e (said, (none, same)) kept = inr (idle (Ok Nothing) e (said, refl) none same kept)
+  commanded (Ok (Event told)) e answered kept =
       inr (since (λ begin entries added. AnswersEvent begin entries turn.reply added told) answered (Ok (Event told)) e answered.answered kept)
-  demanded (Ok (Authority train)) e answered kept = asked train answered e kept answered.answered
-  demanded (Ok (Show inquiry)) e answered kept =
+  commanded (Ok (Authority train)) e answered kept = asked train answered e kept answered.answered
+  commanded (Ok (Show inquiry)) e answered kept =
       inr (since (λ begin entries added. AnswersInquiry begin entries turn.reply added inquiry) answered (Ok (Show inquiry)) e answered.answered kept)
-  demanded (Err refusal) e (said, (none, same)) kept = inr (idle (Err refusal) e (said, refl) none same kept)
+  commanded (Err refusal) e (said, (none, same)) kept = inr (idle (Err refusal) e (said, refl) none same kept)
 
-  answered_so : AnswersDemandAtDesk begun turn.told turn.reply turn.receipt (demand_in begun.track turn.line) → IsHeldUp begun.track turn.reply ⊎ IsLineAnswer begun turn
+  answered_so : AnswersCommandAtDesk begun turn.told turn.reply turn.receipt (command_in begun.track turn.line) → IsHeldUp begun.track turn.reply ⊎ IsLineAnswer begun turn
   answered_so right = by_memory (bytes_eq turn.reply (refused_reply begun.track Memory)) refl
     where
       by_memory : (b : Bool) → bytes_eq turn.reply (refused_reply begun.track Memory) ≡ b → IsHeldUp begun.track turn.reply ⊎ IsLineAnswer begun turn
       by_memory true e = inl (inl ((bytes_eq-Decides turn.reply (refused_reply begun.track Memory)).0 e))
-      by_memory false e = demanded (demand_in begun.track turn.line) refl right (λ same. kept ((bytes_eq-Decides turn.reply (refused_reply begun.track Memory)).1 same) e)
+      by_memory false e = commanded (command_in begun.track turn.line) refl right (λ same. kept ((bytes_eq-Decides turn.reply (refused_reply begun.track Memory)).1 same) e)
         where
           kept : {b : Bool} → b ≡ true → b ≡ false → ⊥
           kept so not_so = cc
@@ -82,5 +82,5 @@ pub turns_are_answers : (begun last : HistoryOnTrack) (turns : List SeatTurn) �
 turns_are_answers begun last [] form same = tt
 turns_are_answers begun last (turn ∷ turns) form (first, more) = (
   answered_so begun turn form first,
-  turns_are_answers turn.told last turns (subst IsInForm (sym (turn_track begun turn.told turn.reply turn.receipt (demand_in begun.track turn.line) first)) form) more,
+  turns_are_answers turn.told last turns (subst IsInForm (sym (turn_track begun turn.told turn.reply turn.receipt (command_in begun.track turn.line) first)) form) more,
 )

@@ -8,7 +8,7 @@ use Rattle.rbc_model.specs.SessionReply.{Memory, refused_reply}
 use Rattle.rbc_model.specs.Sessions.{Prints}
 use Rattle.rbc_model.specs.Tracks.{Track}
 use Rattle.rbc_model.specs.Words.{line_of}
-use Rattle.rbc_session_laws.specs.declared.demand.Demand.TheVariants.{Show}
+use Rattle.rbc_session_laws.specs.declared.command.Command.TheVariants.{Show}
 use Rattle.rbc_session_laws.specs.Turns.{AnswersInquiry}
 use Rattle.rbc_sweep.specs.Later.{IsLater, scene_of}
 use Rattle.rbc_sweep.specs.Records.{begin_of, HistoryOnTrack, scene_now}
@@ -39,9 +39,9 @@ module _ (history : HistoryOnTrack) where
 
 -- what was asked for is shown from a seat
 module _ {L P E : Type 0} (kept : P → ℕ → Type 0) (before after : Sitting L P) (old new : Option (List ℕ)) (writer_failed : Bool) (result : Result (Unit {0}) E) where
-  pub shown_treated : (inquiry : Inquiry) (reply : List ℕ) → before.has_failed ≡ false → after.pen ≡ before.pen → after.has_failed ≡ before.has_failed → IsLater before.seat.told after.seat.told
+  pub shown_treated : (inquiry : Inquiry) (reply : List ℕ) → before.has_failed ≡ false → after.committer ≡ before.committer → after.has_failed ≡ before.has_failed → IsLater before.seat.told after.seat.told
       → AnswersInquiry (begin_of after.seat.told) after.seat.told.entries reply None inquiry → after.seat.receipts ≡ before.seat.receipts → Prints old new writer_failed reply result
       → IsTreated kept (Ok (Show inquiry)) before after old new writer_failed result
-  shown_treated inquiry reply whole pen same later answers receipts printed =
-      idle_treated kept before after old new writer_failed result (Ok (Show inquiry)) reply whole pen same
+  shown_treated inquiry reply whole committer same later answers receipts printed =
+      idle_treated kept before after old new writer_failed result (Ok (Show inquiry)) reply whole committer same
       (record { before = after.seat.told; later = later; answered = answers; next = tt; told = nothing_added after.seat.told }) receipts printed

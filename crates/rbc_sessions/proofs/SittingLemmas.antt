@@ -1,4 +1,4 @@
--- A talk at a desk from one seat with its pen, turn by turn. Lines that rest have their turns when they are entered.
+-- A talk at a desk from one seat with its committer, turn by turn. Lines that rest have their turns when they are entered.
 use Rattle.std.proofs.Common.{◌≡◌, ℕ, ◌≤◌, Bool, true, false, List, [], ◌∷◌, ◌++◌, length, take, Option, Some, None, Result, Ok, Err, inl, inr, refl, sym, ap, ◌∙◌, subst, append_assoc, append-nil, lit≤}
 use Rattle.std.proofs.Math.Seq.{take-append_seam}
 use Rattle.std.specs.Prelude.{All, IsTrue, ◌||◌, ◌⊎◌}
@@ -14,8 +14,8 @@ use Rattle.rbc_model.specs.Talks.{Answered, IsTalk, Ends}
 use Rattle.rbc_model.specs.Histories.{Receipt}
 use Rattle.rbc_model.specs.Tracks.{Track}
 use Rattle.rbc_model.specs.declared.reports.Told.{Told}
-use Rattle.rbc_session_laws.specs.Demands.{demand_in}
-use Rattle.rbc_session_laws.specs.declared.demand.Demand.TheVariants.{Event}
+use Rattle.rbc_session_laws.specs.Commands.{command_in}
+use Rattle.rbc_session_laws.specs.declared.command.Command.TheVariants.{Event}
 use Rattle.rbc_model.specs.Sessions.{WritesPart}
 use Rattle.rbc_sweep.specs.Outcomes.{AreFirst}
 use Rattle.rbc_sweep.specs.Seats.{Seated}
@@ -73,9 +73,9 @@ abbrev AreAsked : Track → List (List ℕ) → List Told → Type 0
 AreAsked track [] [] = Unit {0}
 AreAsked track [] (told ∷ more) = ⊥
 AreAsked track (line ∷ lines) [] = ⊥
-AreAsked track (line ∷ lines) (told ∷ more) = (demand_in track line ≡ Ok (Event told)) × AreAsked track lines more
+AreAsked track (line ∷ lines) (told ∷ more) = (command_in track line ≡ Ok (Event told)) × AreAsked track lines more
 
-asked_more : (track : Track) (lines : List (List ℕ)) (told : List Told) (line : List ℕ) (one : Told) → AreAsked track lines told → demand_in track line ≡ Ok (Event one)
+asked_more : (track : Track) (lines : List (List ℕ)) (told : List Told) (line : List ℕ) (one : Told) → AreAsked track lines told → command_in track line ≡ Ok (Event one)
     → AreAsked track (lines ++ line ∷ []) (told ++ one ∷ [])
 asked_more track [] [] line one none is = (is, tt)
 asked_more track [] (some ∷ told) line one none is = absurd none
@@ -99,8 +99,8 @@ module _ {L P : Type 0} (kept : P → ℕ → Type 0) where
     pub one_untold : length untold ≤ 1
     pub right : AreInTurn before.seat.told (told ++ untold) after.seat.told
     pub receipts : after.seat.receipts ≡ before.seat.receipts ++ receipts_gained (told ++ untold)
-    pub stays : StaysKept kept before.pen after.pen
-    pub each : All (λ (turn : SeatTurn). IsKept (kept after.pen) turn.receipt) told
+    pub stays : StaysKept kept before.committer after.committer
+    pub each : All (λ (turn : SeatTurn). IsKept (kept after.committer) turn.receipt) told
 
   no_turn : (before after : Sitting L P) (text : List ℕ) → text ≡ [] → after ≡ before → Turned before after [] text
   no_turn before after text none same = record {
@@ -112,8 +112,8 @@ module _ {L P : Type 0} (kept : P → ℕ → Type 0) where
     one_untold = lit≤ tt;
     right = ap (λ (s : Sitting L P). s.seat.told) same;
     receipts = ap (λ (s : Sitting L P). s.seat.receipts) same ∙ sym (append-nil before.seat.receipts);
-    stays = subst (λ (s : Sitting L P). StaysKept kept before.pen s.pen) (sym same) (λ place is. is);
-    each = All-nil (λ (turn : SeatTurn). IsKept (kept after.pen) turn.receipt);
+    stays = subst (λ (s : Sitting L P). StaysKept kept before.committer s.committer) (sym same) (λ place is. is);
+    each = All-nil (λ (turn : SeatTurn). IsKept (kept after.committer) turn.receipt);
   }
 
   -- a line whose reply was written
@@ -133,7 +133,7 @@ module _ {L P : Type 0} (kept : P → ℕ → Type 0) where
         right = (comes.1, more.right);
         receipts = more.receipts ∙ ap (λ b. b ++ receipts_gained (more.told ++ more.untold)) comes.2 ∙ append_assoc before.seat.receipts (receipts_of comes.0) (receipts_gained (more.told ++ more.untold));
         stays = λ place k. more.stays place (goes.stays place k);
-        each = All-cons (λ (t : SeatTurn). IsKept (kept after.pen) t.receipt) turn more.told (still_kept kept next.pen after.pen comes.0 more.stays said.1) more.each;
+        each = All-cons (λ (t : SeatTurn). IsKept (kept after.committer) t.receipt) turn more.told (still_kept kept next.committer after.committer comes.0 more.stays said.1) more.each;
       }
 
   -- a line behind which keeping has failed: the last
@@ -152,12 +152,12 @@ module _ {L P : Type 0} (kept : P → ℕ → Type 0) where
         right = (comes.1, refl);
         receipts = comes.2 ∙ ap (λ r. before.seat.receipts ++ r) (sym (append-nil (receipts_of comes.0)));
         stays = goes.stays;
-        each = All-nil (λ (t : SeatTurn). IsKept (kept next.pen) t.receipt);
+        each = All-nil (λ (t : SeatTurn). IsKept (kept next.committer) t.receipt);
       })
 
-  -- turns from a sitting are turns from every other with its seat and pen
-  turned_from : (before same after : Sitting L P) (lines : List (List ℕ)) (text : List ℕ) → same.seat ≡ before.seat → same.pen ≡ before.pen → Turned same after lines text → Turned before after lines text
-  turned_from before same after lines text seat pen turns = record {
+  -- turns from a sitting are turns from every other with its seat and committer
+  turned_from : (before same after : Sitting L P) (lines : List (List ℕ)) (text : List ℕ) → same.seat ≡ before.seat → same.committer ≡ before.committer → Turned same after lines text → Turned before after lines text
+  turned_from before same after lines text seat committer turns = record {
     told = turns.told;
     untold = turns.untold;
     of_lines = turns.of_lines;
@@ -166,16 +166,16 @@ module _ {L P : Type 0} (kept : P → ℕ → Type 0) where
     one_untold = turns.one_untold;
     right = subst (λ (s : Seated). AreInTurn s.told (turns.told ++ turns.untold) after.seat.told) seat turns.right;
     receipts = subst (λ (s : Seated). after.seat.receipts ≡ s.receipts ++ receipts_gained (turns.told ++ turns.untold)) seat turns.receipts;
-    stays = subst (λ p. StaysKept kept p after.pen) pen turns.stays;
+    stays = subst (λ p. StaysKept kept p after.committer) committer turns.stays;
     each = turns.each;
   }
 
   -- a line that rested, whose reply was written when it was entered
   told_turn : (before after : Sitting L P) (next : Seated) (line reply rest : List ℕ) (lines : List (List ℕ)) (text : List ℕ) → before.has_failed ≡ false
-      → ((pen : P) (place : ℕ) → kept pen place) → SeatComes (demand_in before.seat.told.track line) before.seat reply next → text ≡ reply ++ rest
-      → Turned (record { seat = next; pen = before.pen; has_failed = false }) after lines rest → Turned before after (line ∷ lines) text
+      → ((committer : P) (place : ℕ) → kept committer place) → SeatComes (command_in before.seat.told.track line) before.seat reply next → text ≡ reply ++ rest
+      → Turned (record { seat = next; committer = before.committer; has_failed = false }) after lines rest → Turned before after (line ∷ lines) text
   told_turn before after next line reply rest lines text whole free comes is more =
-      one_told before (record { seat = next; pen = before.pen; has_failed = false }) after line reply rest lines text (record {
+      one_told before (record { seat = next; committer = before.committer; has_failed = false }) after line reply rest lines text (record {
         whole = whole;
         reply = reply;
         comes = comes;
@@ -184,50 +184,50 @@ module _ {L P : Type 0} (kept : P → ℕ → Type 0) where
         unsaid = λ failed. absurd (both_ways _ refl failed);
       }) refl is more
     where
-      kept_at_once : (receipt : Option Receipt) → IsKept (kept before.pen) receipt
+      kept_at_once : (receipt : Option Receipt) → IsKept (kept before.committer) receipt
       kept_at_once None = tt
-      kept_at_once (Some receipt) = free before.pen receipt.place
+      kept_at_once (Some receipt) = free before.committer receipt.place
 
   -- all lines that rested
   told_turns : (before next after : Sitting L P) (lines : List (List ℕ)) (told : List Told) (text : List ℕ) (more : List (List ℕ)) (rest : List ℕ) → before.has_failed ≡ false
-      → ((pen : P) (place : ℕ) → kept pen place) → AreAsked before.seat.told.track lines told → SeatHears before.seat told text next.seat → next.pen ≡ before.pen
+      → ((committer : P) (place : ℕ) → kept committer place) → AreAsked before.seat.told.track lines told → SeatHears before.seat told text next.seat → next.committer ≡ before.committer
       → Turned next after more rest → Turned before after (lines ++ more) (text ++ rest)
-  told_turns before next after [] [] text more rest whole free none (silent, same) pen turns =
-      turned_from before next after more (text ++ rest) same pen (subst (λ t. Turned next after more t) (sym (ap (λ t. t ++ rest) silent)) turns)
-  told_turns before next after [] (one ∷ told) text more rest whole free none hears pen turns = absurd none
-  told_turns before next after (line ∷ lines) [] text more rest whole free none hears pen turns = absurd none
-  told_turns before next after (line ∷ lines) (one ∷ told) text more rest whole free (asks, others) (reply, behind, mid, comes, is, hears) pen turns =
+  told_turns before next after [] [] text more rest whole free none (silent, same) committer turns =
+      turned_from before next after more (text ++ rest) same committer (subst (λ t. Turned next after more t) (sym (ap (λ t. t ++ rest) silent)) turns)
+  told_turns before next after [] (one ∷ told) text more rest whole free none hears committer turns = absurd none
+  told_turns before next after (line ∷ lines) [] text more rest whole free none hears committer turns = absurd none
+  told_turns before next after (line ∷ lines) (one ∷ told) text more rest whole free (asks, others) (reply, behind, mid, comes, is, hears) committer turns =
       told_turn before after mid line reply (behind ++ rest) (lines ++ more) (text ++ rest) whole free (subst (λ d. SeatComes d before.seat reply mid) (sym asks) comes)
       (ap (λ t. t ++ rest) is ∙ append_assoc reply behind rest)
-      (told_turns (record { seat = mid; pen = before.pen; has_failed = false }) next after lines told behind more rest refl free
-      (subst (λ t. AreAsked t lines told) (sym (turn_track before.seat.told mid.told reply comes.0 (Ok (Event one)) comes.1)) others) hears pen turns)
+      (told_turns (record { seat = mid; committer = before.committer; has_failed = false }) next after lines told behind more rest refl free
+      (subst (λ t. AreAsked t lines told) (sym (turn_track before.seat.told mid.told reply comes.0 (Ok (Event one)) comes.1)) others) hears committer turns)
 
   -- what rested is entered, and then these lines
   caught_up : (before next : Hearing L P) (after : Sitting L P) (pending : List (List ℕ)) (text : List ℕ) (lines : List (List ℕ)) (rest : List ℕ)
-      → AreAsked before.sitting.seat.told.track pending before.resting → CatchesUp kept before text next → Turned next.sitting after lines rest
+      → AreAsked before.sitting.seat.told.track pending before.batch → CatchesUp kept before text next → Turned next.sitting after lines rest
       → Turned before.sitting after (pending ++ lines) (text ++ rest)
   caught_up before next after pending text lines rest asked catches_up turns = by catches_up.free
     where
-      by : (before.resting ≡ []) ⊎ ((pen : P) (place : ℕ) → kept pen place) → Turned before.sitting after (pending ++ lines) (text ++ rest)
+      by : (before.batch ≡ []) ⊎ ((committer : P) (place : ℕ) → kept committer place) → Turned before.sitting after (pending ++ lines) (text ++ rest)
       by (inl none) =
           let hears : SeatHears before.sitting.seat [] text next.sitting.seat = subst (λ (items : List Told). SeatHears before.sitting.seat items text next.sitting.seat) none catches_up.hears in
           let no_lines : pending ≡ [] = none_asked before.sitting.seat.told.track pending (subst (λ (items : List Told). AreAsked before.sitting.seat.told.track pending items) none asked) in
           subst (λ (ls : List (List ℕ)). Turned before.sitting after (ls ++ lines) (text ++ rest)) (sym no_lines)
-          (turned_from before.sitting next.sitting after lines (text ++ rest) hears.1 catches_up.pen
+          (turned_from before.sitting next.sitting after lines (text ++ rest) hears.1 catches_up.committer
           (subst (λ t. Turned next.sitting after lines t) (sym (ap (λ t. t ++ rest) hears.0)) turns))
-      by (inr free) = told_turns before.sitting next.sitting after pending before.resting text lines rest catches_up.whole free asked catches_up.hears catches_up.pen turns
+      by (inr free) = told_turns before.sitting next.sitting after pending before.batch text lines rest catches_up.whole free asked catches_up.hears catches_up.committer turns
 
   module _ (track : Track) (failed : P → Type 0) where
-    none_pending : (hearing : Hearing L P) → hearing.resting ≡ [] → AreAsked hearing.sitting.seat.told.track [] hearing.resting
+    none_pending : (hearing : Hearing L P) → hearing.batch ≡ [] → AreAsked hearing.sitting.seat.told.track [] hearing.batch
     none_pending hearing none = subst (λ (items : List Told). AreAsked hearing.sitting.seat.told.track [] items) (sym none) tt
 
     -- a line that is let rest is pending behind the others
-    pending_more : (before after : Hearing L P) (pending : List (List ℕ)) (line : List ℕ) → AreAsked before.sitting.seat.told.track pending before.resting → Rests track kept before line after
-        → AreAsked after.sitting.seat.told.track (pending ++ line ∷ []) after.resting
+    pending_more : (before after : Hearing L P) (pending : List (List ℕ)) (line : List ℕ) → AreAsked before.sitting.seat.told.track pending before.batch → Rests track kept before line after
+        → AreAsked after.sitting.seat.told.track (pending ++ line ∷ []) after.batch
     pending_more before after pending line asked rests =
-        subst (λ (s : Sitting L P). AreAsked s.seat.told.track (pending ++ line ∷ []) after.resting) (sym rests.sitting)
+        subst (λ (s : Sitting L P). AreAsked s.seat.told.track (pending ++ line ∷ []) after.batch) (sym rests.sitting)
         (subst (λ (items : List Told). AreAsked before.sitting.seat.told.track (pending ++ line ∷ []) items) (sym rests.behind)
-        (asked_more before.sitting.seat.told.track pending before.resting line rests.told asked rests.asks))
+        (asked_more before.sitting.seat.told.track pending before.batch line rests.told asked rests.asks))
 
     -- a line is not treated behind one where keeping failed
     advances_whole : (before after : Hearing L P) (line text : List ℕ) → Advances track kept failed before line text after → before.sitting.has_failed ≡ false
@@ -241,11 +241,11 @@ module _ {L P : Type 0} (kept : P → ℕ → Type 0) where
         by (inr (inr treats)) = let catches_up = treats.catches_up in catches_up.whole
 
     -- Lines are pending, and then come these: all have had their turns where none rests.
-    turned : (before after : Hearing L P) (pending lines : List (List ℕ)) (text : List ℕ) → AreAsked before.sitting.seat.told.track pending before.resting
-        → Answered (Advances track kept failed) before lines text after → after.resting ≡ [] → Turned before.sitting after.sitting (pending ++ lines) text
+    turned : (before after : Hearing L P) (pending lines : List (List ℕ)) (text : List ℕ) → AreAsked before.sitting.seat.told.track pending before.batch
+        → Answered (Advances track kept failed) before lines text after → after.batch ≡ [] → Turned before.sitting after.sitting (pending ++ lines) text
     turned before after pending [] text asked (silent, same) none =
         let asked_none : AreAsked before.sitting.seat.told.track pending [] =
-        subst (λ (items : List Told). AreAsked before.sitting.seat.told.track pending items) (ap (λ (h : Hearing L P). h.resting) (sym same) ∙ none) asked in
+        subst (λ (items : List Told). AreAsked before.sitting.seat.told.track pending items) (ap (λ (h : Hearing L P). h.batch) (sym same) ∙ none) asked in
         subst (λ (ls : List (List ℕ)). Turned before.sitting after.sitting (ls ++ []) text) (sym (none_asked before.sitting.seat.told.track pending asked_none))
         (no_turn before.sitting after.sitting text silent (ap (λ (h : Hearing L P). h.sitting) same))
     turned before after pending (line ∷ lines) text asked (reply, rest, next, advances, is, later) none =
@@ -253,9 +253,9 @@ module _ {L P : Type 0} (kept : P → ℕ → Type 0) where
       where
         -- the turns from here on, with those of the lines that are pending then
         Continues : Type 0
-        Continues = (others : List (List ℕ)) → AreAsked next.sitting.seat.told.track others next.resting → Turned next.sitting after.sitting (others ++ lines) rest
+        Continues = (others : List (List ℕ)) → AreAsked next.sitting.seat.told.track others next.batch → Turned next.sitting after.sitting (others ++ lines) rest
 
-        from_next : Continues → next.resting ≡ [] → Turned next.sitting after.sitting lines rest
+        from_next : Continues → next.batch ≡ [] → Turned next.sitting after.sitting lines rest
         from_next continue none_now = continue [] (none_pending next none_now)
 
         pending_then : List (List ℕ)
@@ -264,7 +264,7 @@ module _ {L P : Type 0} (kept : P → ℕ → Type 0) where
         shifted : (others : List ℕ) → Turned before.sitting after.sitting (pending_then ++ lines) others → Turned before.sitting after.sitting (pending ++ line ∷ lines) others
         shifted others turns = subst (λ (ls : List (List ℕ)). Turned before.sitting after.sitting ls others) (append_assoc pending (line ∷ []) lines) turns
 
-        treated : Continues → (mid : Hearing L P) (late : List ℕ) → TreatsLine kept mid.sitting line late next.sitting → next.resting ≡ [] → Turned mid.sitting after.sitting (line ∷ lines) (late ++ rest)
+        treated : Continues → (mid : Hearing L P) (late : List ℕ) → TreatsLine kept mid.sitting line late next.sitting → next.batch ≡ [] → Turned mid.sitting after.sitting (line ∷ lines) (late ++ rest)
         treated continue mid late treats none_now = by_failure next.sitting.has_failed refl lines later (from_next continue none_now)
           where
             by_failure : (broken : Bool) → next.sitting.has_failed ≡ broken → (more : List (List ℕ)) → Answered (Advances track kept failed) next more rest after → Turned next.sitting after.sitting more rest
@@ -279,12 +279,12 @@ module _ {L P : Type 0} (kept : P → ℕ → Type 0) where
             → Turned before.sitting after.sitting (pending ++ line ∷ lines) text
         by continue (inl (rests, silent)) =
             shifted text
-            (turned_from before.sitting next.sitting after.sitting (pending_then ++ lines) text (ap (λ (s : Sitting L P). s.seat) rests.sitting) (ap (λ (s : Sitting L P). s.pen) rests.sitting)
+            (turned_from before.sitting next.sitting after.sitting (pending_then ++ lines) text (ap (λ (s : Sitting L P). s.seat) rests.sitting) (ap (λ (s : Sitting L P). s.committer) rests.sitting)
             (subst (λ t. Turned next.sitting after.sitting (pending_then ++ lines) t) (sym (is ∙ ap (λ t. t ++ rest) silent))
             (continue pending_then (pending_more before next pending line asked rests))))
         by continue (inr (inl (behind, rests, catches_up))) =
             shifted text
-            (turned_from before.sitting behind.sitting after.sitting (pending_then ++ lines) text (ap (λ (s : Sitting L P). s.seat) rests.sitting) (ap (λ (s : Sitting L P). s.pen) rests.sitting)
+            (turned_from before.sitting behind.sitting after.sitting (pending_then ++ lines) text (ap (λ (s : Sitting L P). s.seat) rests.sitting) (ap (λ (s : Sitting L P). s.committer) rests.sitting)
             (subst (λ t. Turned behind.sitting after.sitting (pending_then ++ lines) t) (sym is)
             (caught_up behind next after.sitting pending_then reply lines rest (pending_more before behind pending line asked rests) catches_up (from_next continue catches_up.none_rests))))
         by continue (inr (inr treats)) =
@@ -292,8 +292,8 @@ module _ {L P : Type 0} (kept : P → ℕ → Type 0) where
             (caught_up before treats.next after.sitting pending treats.early (line ∷ lines) (treats.late ++ rest) asked treats.catches_up (treated continue treats.next treats.late treats.treats treats.none_rests))
 
     pub sitting_session : (first last : Hearing L P) (input : List ℕ) (old new : Option (List ℕ)) (result : Result (Unit {0}) SessionFault)
-        → IsTalk LONGEST_LINE (Advances track kept failed) first last input old new result → first.resting ≡ [] → last.resting ≡ [] → (last.sitting.has_failed ≡ true → result ≡ Err Write)
-        → (session : IsSeatSession first.sitting.seat last.sitting.seat input old new result) × AreToldKept (kept last.sitting.pen) last.sitting.has_failed session.turns old new
+        → IsTalk LONGEST_LINE (Advances track kept failed) first last input old new result → first.batch ≡ [] → last.batch ≡ [] → (last.sitting.has_failed ≡ true → result ≡ Err Write)
+        → (session : IsSeatSession first.sitting.seat last.sitting.seat input old new result) × AreToldKept (kept last.sitting.committer) last.sitting.has_failed session.turns old new
     sitting_session first last input old new result t none none_left cut =
         let told = turned first last [] t.treated t.text (none_pending first none) t.answered none_left in
         let after = last.sitting in
@@ -320,11 +320,11 @@ module _ {L P : Type 0} (kept : P → ℕ → Type 0) where
         )
 
     pub sitting_stays : (first last : Hearing L P) (input : List ℕ) (old new : Option (List ℕ)) (result : Result (Unit {0}) SessionFault)
-        → IsTalk LONGEST_LINE (Advances track kept failed) first last input old new result → first.resting ≡ [] → last.resting ≡ [] → StaysKept kept first.sitting.pen last.sitting.pen
+        → IsTalk LONGEST_LINE (Advances track kept failed) first last input old new result → first.batch ≡ [] → last.batch ≡ [] → StaysKept kept first.sitting.committer last.sitting.committer
     sitting_stays first last input old new result t none none_left = let told = turned first last [] t.treated t.text (none_pending first none) t.answered none_left in told.stays
 
     pub sitting_grown : (first last : Hearing L P) (input : List ℕ) (old new : Option (List ℕ)) (result : Result (Unit {0}) SessionFault)
-        → IsTalk LONGEST_LINE (Advances track kept failed) first last input old new result → first.resting ≡ [] → last.resting ≡ [] → AreFirst first.sitting.seat last.sitting.seat
+        → IsTalk LONGEST_LINE (Advances track kept failed) first last input old new result → first.batch ≡ [] → last.batch ≡ [] → AreFirst first.sitting.seat last.sitting.seat
     sitting_grown first last input old new result t none none_left =
         let told = turned first last [] t.treated t.text (none_pending first none) t.answered none_left in
         let before = first.sitting in
@@ -335,22 +335,22 @@ module _ {L P : Type 0} (kept : P → ℕ → Type 0) where
           told = begins_turns before.seat.told after.seat.told turns told.right;
         }
 
--- where keeping has failed, the pen knows so
+-- where keeping has failed, the committer knows so
 module _ {L P : Type 0} (kept : P → ℕ → Type 0) (track : Track) (failed : P → Type 0) where
   failed_last : (before after : Hearing L P) (lines : List (List ℕ)) (text : List ℕ) → Answered (Advances track kept failed) before lines text after → before.sitting.has_failed ≡ false
-      → after.sitting.has_failed ≡ true → failed after.sitting.pen
+      → after.sitting.has_failed ≡ true → failed after.sitting.committer
   failed_last before after [] text (silent, same) whole broken = absurd (both_ways _ (ap (λ (h : Hearing L P). h.sitting.has_failed) same ∙ whole) broken)
   failed_last before after (line ∷ lines) text (reply, rest, next, advances, is, later) whole broken =
       by (λ fine. failed_last next after lines rest later fine broken) next.sitting.has_failed refl lines later
     where
-      by : (next.sitting.has_failed ≡ false → failed after.sitting.pen) → (b : Bool) → next.sitting.has_failed ≡ b → (more : List (List ℕ)) → Answered (Advances track kept failed) next more rest after
-          → failed after.sitting.pen
+      by : (next.sitting.has_failed ≡ false → failed after.sitting.committer) → (b : Bool) → next.sitting.has_failed ≡ b → (more : List (List ℕ)) → Answered (Advances track kept failed) next more rest after
+          → failed after.sitting.committer
       by later_on false fine more then = later_on fine
-      by later_on true now [] (said, same) = subst (λ (h : Hearing L P). failed h.sitting.pen) (sym same) (advances.why now)
+      by later_on true now [] (said, same) = subst (λ (h : Hearing L P). failed h.sitting.committer) (sym same) (advances.why now)
       by later_on true now (other ∷ more) (said, others, behind, so, is, still) = absurd (both_ways _ (advances_whole kept track failed next behind other said so) now)
 
   pub sitting_failed : (first last : Hearing L P) (input : List ℕ) (old new : Option (List ℕ)) (result : Result (Unit {0}) SessionFault)
-      → IsTalk LONGEST_LINE (Advances track kept failed) first last input old new result → first.sitting.has_failed ≡ false → last.sitting.has_failed ≡ true → failed last.sitting.pen
+      → IsTalk LONGEST_LINE (Advances track kept failed) first last input old new result → first.sitting.has_failed ≡ false → last.sitting.has_failed ≡ true → failed last.sitting.committer
   sitting_failed first last input old new result t whole broken = failed_last first last t.treated t.text t.answered whole broken
 
 -- where keeping has failed, it is told as a write fault

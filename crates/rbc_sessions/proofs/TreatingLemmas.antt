@@ -1,4 +1,4 @@
--- What a line asks for, treated from a seat with its pen.
+-- What a line asks for, treated from a seat with its committer.
 use Rattle.std.proofs.Common.{◌≡◌, ℕ, ◌+◌, ◌<◌, Bool, true, false, cond, List, [], ◌∷◌, ◌++◌, length, Option, Some, None, Result, Ok, Err, refl, sym, ap, ◌∙◌, subst}
 use Rattle.std.specs.Prelude.{is_err, IfOk, OnErr}
 use Rattle.std.proofs.lemmas.Bool.{lt-ltb}
@@ -16,9 +16,9 @@ use Rattle.rbc_model.specs.SoundTracks.{IsInForm}
 use Rattle.rbc_model.specs.Tracks.{Track}
 use Rattle.rbc_replies.specs.Replies.{refusal_view}
 use Rattle.rbc_replies.specs.declared.replies.SessionRefusal.{SessionRefusal as ToldRefusal}
-use Rattle.rbc_session_laws.specs.declared.demand.Demand.{Demand}
-use Rattle.rbc_session_laws.specs.declared.demand.Demand.TheVariants.{Nothing, Event, Authority}
-use Rattle.rbc_session_laws.specs.Demands.{demand_in, looked_up}
+use Rattle.rbc_session_laws.specs.declared.command.Command.{Command}
+use Rattle.rbc_session_laws.specs.declared.command.Command.TheVariants.{Nothing, Event, Authority}
+use Rattle.rbc_session_laws.specs.Commands.{command_in, resolve}
 use Rattle.rbc_session_laws.specs.Turns.{AnswersEvent}
 use Rattle.rbc_sweep.specs.ApplyFault.{ApplyFault}
 use Rattle.rbc_sweep.specs.AskFault.{AskFault}
@@ -28,7 +28,7 @@ use Rattle.rbc_sweep.specs.Records.{begin_on, history_on}
 use Rattle.rbc_sweep.specs.Seats.{Seated}
 use Rattle.rbc_sweep.specs.Telling.{IsToldThen}
 use Rattle.rbc_sessions.specs.Keeping.{AddsEntry}
-use Rattle.rbc_sessions.specs.SeatTurns.{AnswersAsked, AnswersDemandAtDesk, IsAnsweredSince}
+use Rattle.rbc_sessions.specs.SeatTurns.{AnswersAsked, AnswersCommandAtDesk, IsAnsweredSince}
 use Rattle.rbc_sessions.specs.Shown.{told_refusal, entry_granted_in}
 use Rattle.rbc_sessions.specs.Sittings.{IsTreated, StaysKept, Treats}
 use Rattle.rbc_sessions.specs.declared.sitting.Sitting.{Sitting}
@@ -37,45 +37,45 @@ use Rattle.rbc_sessions.proofs.SeatLemmas.{asked_at_desk, granted_alone, not_tol
 
 module _ {L P E : Type 0} (kept : P → ℕ → Type 0) (before after : Sitting L P) (old new : Option (List ℕ)) (writer_failed : Bool) (result : Result (Unit {0}) E) where
   -- nothing was entered, and the reply was printed
-  pub idle_treated : (demand : Result Demand SessionRefusal) (reply : List ℕ) → before.has_failed ≡ false → after.pen ≡ before.pen → after.has_failed ≡ before.has_failed
-      → AnswersDemandAtDesk before.seat.told after.seat.told reply None demand → after.seat.receipts ≡ before.seat.receipts → Prints old new writer_failed reply result
-      → IsTreated kept demand before after old new writer_failed result
-  idle_treated demand reply whole pen same answers receipts printed = (
+  pub idle_treated : (command : Result Command SessionRefusal) (reply : List ℕ) → before.has_failed ≡ false → after.committer ≡ before.committer → after.has_failed ≡ before.has_failed
+      → AnswersCommandAtDesk before.seat.told after.seat.told reply None command → after.seat.receipts ≡ before.seat.receipts → Prints old new writer_failed reply result
+      → IsTreated kept command before after old new writer_failed result
+  idle_treated command reply whole committer same answers receipts printed = (
     reply,
-    treats_idle kept demand before after reply whole pen same answers receipts,
+    treats_idle kept command before after reply whole committer same answers receipts,
     prints_whole old new writer_failed reply result after.has_failed (same ∙ whole) printed,
   )
 
   -- an entry was, and the reply was printed once it was kept
-  pub entered_treated : (demand : Result Demand SessionRefusal) (seat : Seated) (receipt : Receipt) (reply : List ℕ) → before.has_failed ≡ false → after.seat ≡ seat
-      → AnswersDemandAtDesk before.seat.told seat.told reply (Some receipt) demand → seat.receipts ≡ before.seat.receipts ++ receipt ∷ []
-      → StaysKept kept before.pen after.pen → (after.has_failed ≡ false → kept after.pen receipt.place)
+  pub entered_treated : (command : Result Command SessionRefusal) (seat : Seated) (receipt : Receipt) (reply : List ℕ) → before.has_failed ≡ false → after.seat ≡ seat
+      → AnswersCommandAtDesk before.seat.told seat.told reply (Some receipt) command → seat.receipts ≡ before.seat.receipts ++ receipt ∷ []
+      → StaysKept kept before.committer after.committer → (after.has_failed ≡ false → kept after.committer receipt.place)
       → (after.has_failed ≡ false → Prints old new writer_failed reply result) → (after.has_failed ≡ true → (new ≡ old) × (is_err result ≡ true))
-      → IsTreated kept demand before after old new writer_failed result
-  entered_treated demand seat receipt reply whole same answers receipts stays is_kept said unsaid = (
+      → IsTreated kept command before after old new writer_failed result
+  entered_treated command seat receipt reply whole same answers receipts stays is_kept said unsaid = (
     cond after.has_failed [] reply,
-    treats_entered kept demand before after seat receipt reply whole same answers receipts stays is_kept,
+    treats_entered kept command before after seat receipt reply whole same answers receipts stays is_kept,
     prints_said old new after.has_failed writer_failed reply result said unsaid,
   )
 
   -- another spelling of what is asked for
-  pub treated_as : (one other : Result Demand SessionRefusal) → one ≡ other → IsTreated kept one before after old new writer_failed result → IsTreated kept other before after old new writer_failed result
+  pub treated_as : (one other : Result Command SessionRefusal) → one ≡ other → IsTreated kept one before after old new writer_failed result → IsTreated kept other before after old new writer_failed result
   treated_as one other is (text, treats, printed) = (text, treats_as kept before after text one other is treats, printed)
 
   -- ---- what is told
 
   pub told_treated : (told : Told) (receipt : Receipt) (place : ℕ) (seat : Seated) → before.has_failed ≡ false → after.seat ≡ seat → IsToldThen before.seat.told seat.told told (Ok receipt)
-      → place ≡ receipt.place → seat.receipts ≡ before.seat.receipts ++ receipt ∷ [] → StaysKept kept before.pen after.pen → (after.has_failed ≡ false → kept after.pen receipt.place)
+      → place ≡ receipt.place → seat.receipts ≡ before.seat.receipts ++ receipt ∷ [] → StaysKept kept before.committer after.committer → (after.has_failed ≡ false → kept after.committer receipt.place)
       → (after.has_failed ≡ false → Prints old new writer_failed (accepted_reply (place + 1)) result) → (after.has_failed ≡ true → (new ≡ old) × (is_err result ≡ true))
       → IsTreated kept (Ok (Event told)) before after old new writer_failed result
   told_treated told receipt place seat whole same since at receipts stays is_kept said unsaid =
       entered_treated (Ok (Event told)) seat receipt (accepted_reply (place + 1)) whole same (told_at_desk told receipt place before.seat seat since at) receipts stays is_kept said unsaid
 
-  pub not_told_treated : (told : Told) (fault : OrMemory ApplyFault) (refusal : ToldRefusal) (track : Track) → refusal ≡ told_refusal fault → before.has_failed ≡ false → after.pen ≡ before.pen
+  pub not_told_treated : (told : Told) (fault : OrMemory ApplyFault) (refusal : ToldRefusal) (track : Track) → refusal ≡ told_refusal fault → before.has_failed ≡ false → after.committer ≡ before.committer
       → after.has_failed ≡ before.has_failed → before.seat.told.track ≡ track → IsToldThen before.seat.told after.seat.told told (Err fault) → after.seat.receipts ≡ before.seat.receipts
       → Prints old new writer_failed (refused_reply track (refusal_view refusal)) result → IsTreated kept (Ok (Event told)) before after old new writer_failed result
-  not_told_treated told fault refusal track is whole pen same on since receipts printed =
-      idle_treated (Ok (Event told)) (refused_reply track (refusal_view (told_refusal fault))) whole pen same (not_told_at_desk told fault track before.seat after.seat on since) receipts
+  not_told_treated told fault refusal track is whole committer same on since receipts printed =
+      idle_treated (Ok (Event told)) (refused_reply track (refusal_view (told_refusal fault))) whole committer same (not_told_at_desk told fault track before.seat after.seat on since) receipts
       (subst (λ r. Prints old new writer_failed (refused_reply track (refusal_view r)) result) is printed)
 
   -- ---- what is asked
@@ -83,7 +83,7 @@ module _ {L P E : Type 0} (kept : P → ℕ → Type 0) (before after : Sitting 
   pub granted_treated : (train : ℕ) (track : Track) (reply : List ℕ) (granted : GrantedAtDesk) (answer : Result GrantedAtDesk (OrMemory AskFault)) (seat : Seated) → answer ≡ Ok granted → before.has_failed ≡ false
       → after.seat ≡ seat → before.seat.told.track ≡ track → IsAnsweredThen before.seat.told seat.told train answer
       → ((scene : Scene) (most : ℕ) (entries : List Entry) → IsAnswered (history_on (begin_on track scene most) entries) train answer → AnswersAsked (begin_on track scene most) entries reply (entry_granted_in answer) train)
-      → IfOk answer (λ granted. seat.receipts ≡ before.seat.receipts ++ granted.receipt ∷ []) → StaysKept kept before.pen after.pen → (after.has_failed ≡ false → kept after.pen granted.receipt.place)
+      → IfOk answer (λ granted. seat.receipts ≡ before.seat.receipts ++ granted.receipt ∷ []) → StaysKept kept before.committer after.committer → (after.has_failed ≡ false → kept after.committer granted.receipt.place)
       → (after.has_failed ≡ false → Prints old new writer_failed reply result) → (after.has_failed ≡ true → (new ≡ old) × (is_err result ≡ true))
       → IsTreated kept (Ok (Authority train)) before after old new writer_failed result
   granted_treated train track reply granted answer seat is whole same on since says receipts stays is_kept said unsaid =
@@ -93,11 +93,11 @@ module _ {L P E : Type 0} (kept : P → ℕ → Type 0) (before after : Sitting 
       (subst (λ a. IfOk a (λ (g : GrantedAtDesk). seat.receipts ≡ before.seat.receipts ++ g.receipt ∷ [])) is receipts) stays is_kept said unsaid
 
   pub denied_treated : (train : ℕ) (track : Track) (reply : List ℕ) (fault : OrMemory AskFault) (answer : Result GrantedAtDesk (OrMemory AskFault)) → answer ≡ Err fault → before.has_failed ≡ false
-      → after.pen ≡ before.pen → after.has_failed ≡ before.has_failed → before.seat.told.track ≡ track → IsAnsweredThen before.seat.told after.seat.told train answer
+      → after.committer ≡ before.committer → after.has_failed ≡ before.has_failed → before.seat.told.track ≡ track → IsAnsweredThen before.seat.told after.seat.told train answer
       → ((scene : Scene) (most : ℕ) (entries : List Entry) → IsAnswered (history_on (begin_on track scene most) entries) train answer → AnswersAsked (begin_on track scene most) entries reply (entry_granted_in answer) train)
       → OnErr answer (after.seat.receipts ≡ before.seat.receipts) → Prints old new writer_failed reply result → IsTreated kept (Ok (Authority train)) before after old new writer_failed result
-  denied_treated train track reply fault answer is whole pen same on since says receipts printed =
-      idle_treated (Ok (Authority train)) reply whole pen same
+  denied_treated train track reply fault answer is whole committer same on since says receipts printed =
+      idle_treated (Ok (Authority train)) reply whole committer same
       (subst (λ a. IsAnsweredSince (λ t entries added. AnswersAsked t entries reply added train) before.seat.told after.seat.told (receipt_in a)) is
       (asked_at_desk train track reply answer before.seat after.seat on since says))
       (subst (λ a. OnErr a (after.seat.receipts ≡ before.seat.receipts)) is receipts) printed
@@ -106,58 +106,58 @@ module _ {L P E : Type 0} (kept : P → ℕ → Type 0) (before after : Sitting 
 
 module _ {L P E : Type 0} (kept : P → ℕ → Type 0) (sitting : Sitting L P) (old new : Option (List ℕ)) (writer_failed : Bool) (result : Result (Unit {0}) E) (whole : sitting.has_failed ≡ false) where
   -- nothing is asked for
-  pub nothing_treated : (demand : Result Demand SessionRefusal) → Ok Nothing ≡ demand → Prints old new writer_failed [] result → IsTreated kept demand sitting sitting old new writer_failed result
-  nothing_treated demand is printed =
-      treated_as kept sitting sitting old new writer_failed result (Ok Nothing) demand is
+  pub nothing_treated : (command : Result Command SessionRefusal) → Ok Nothing ≡ command → Prints old new writer_failed [] result → IsTreated kept command sitting sitting old new writer_failed result
+  nothing_treated command is printed =
+      treated_as kept sitting sitting old new writer_failed result (Ok Nothing) command is
       (idle_treated kept sitting sitting old new writer_failed result (Ok Nothing) [] whole refl refl (refl, (refl, refl)) refl printed)
 
   -- it is refused at once
-  pub refused_treated : (demand : Result Demand SessionRefusal) (refusal : SessionRefusal) (track : Track) → track ≡ sitting.seat.told.track → Err refusal ≡ demand
-      → Prints old new writer_failed (refused_reply track refusal) result → IsTreated kept demand sitting sitting old new writer_failed result
-  refused_treated demand refusal track on is printed =
-      treated_as kept sitting sitting old new writer_failed result (Err refusal) demand is
+  pub refused_treated : (command : Result Command SessionRefusal) (refusal : SessionRefusal) (track : Track) → track ≡ sitting.seat.told.track → Err refusal ≡ command
+      → Prints old new writer_failed (refused_reply track refusal) result → IsTreated kept command sitting sitting old new writer_failed result
+  refused_treated command refusal track on is printed =
+      treated_as kept sitting sitting old new writer_failed result (Err refusal) command is
       (idle_treated kept sitting sitting old new writer_failed result (Err refusal) (refused_reply track refusal) whole refl refl (ap (λ t. refused_reply t refusal) on, (refl, refl)) refl printed)
 
   -- the line is no request
   pub bad_line_treated : (line : List ℕ) (fault : LineFault) (track : Track) → track ≡ sitting.seat.told.track → parse_session line ≡ Err fault
-      → Prints old new writer_failed (refused_reply track (BadLine fault)) result → IsTreated kept (demand_in sitting.seat.told.track line) sitting sitting old new writer_failed result
+      → Prints old new writer_failed (refused_reply track (BadLine fault)) result → IsTreated kept (command_in sitting.seat.told.track line) sitting sitting old new writer_failed result
   bad_line_treated line fault track on read printed =
-      refused_treated (demand_in sitting.seat.told.track line) (BadLine fault) track on (line_is_bad sitting.seat.told.track line fault read) printed
+      refused_treated (command_in sitting.seat.told.track line) (BadLine fault) track on (line_is_bad sitting.seat.told.track line fault read) printed
 
 pub refused_treats : {L P : Type 0} (kept : P → ℕ → Type 0) (sitting : Sitting L P) → sitting.has_failed ≡ false → (line : List ℕ) (fault : LineFault) (track : Track) → track ≡ sitting.seat.told.track
-    → parse_session line ≡ Err fault → Treats kept (demand_in sitting.seat.told.track line) sitting (refused_reply track (BadLine fault)) sitting
+    → parse_session line ≡ Err fault → Treats kept (command_in sitting.seat.told.track line) sitting (refused_reply track (BadLine fault)) sitting
 refused_treats kept sitting whole line fault track on read =
-    treats_as kept sitting sitting (refused_reply track (BadLine fault)) (Err (BadLine fault)) (demand_in sitting.seat.told.track line) (line_is_bad sitting.seat.told.track line fault read)
+    treats_as kept sitting sitting (refused_reply track (BadLine fault)) (Err (BadLine fault)) (command_in sitting.seat.told.track line) (line_is_bad sitting.seat.told.track line fault read)
     (treats_idle kept (Err (BadLine fault)) sitting sitting (refused_reply track (BadLine fault)) whole refl refl (ap (λ t. refused_reply t (BadLine fault)) on, (refl, refl)) refl)
 
 -- a line that is too long is no request
 pub overlong_read : (line : List ℕ) → LONGEST_LINE < length line → parse_session line ≡ Err Overlong
 overlong_read line long = rw (lt-ltb LONGEST_LINE (length line) long) refl
 
--- ---- the demand of a request
+-- ---- the command of a request
 
 -- what a request asks for, as it was found
-pub asked_for : (track other : Track) (said : SessionLine) (found demand : Demand) → track ≡ other → found ≡ demand → Ok found ≡ looked_up track said → Ok demand ≡ looked_up other said
-asked_for track other said found demand is same e = subst (λ t. Ok demand ≡ looked_up t said) is (subst (λ d. Ok d ≡ looked_up track said) same e)
+pub asked_for : (track other : Track) (said : SessionLine) (found command : Command) → track ≡ other → found ≡ command → Ok found ≡ resolve track said → Ok command ≡ resolve other said
+asked_for track other said found command is same e = subst (λ t. Ok command ≡ resolve t said) is (subst (λ d. Ok d ≡ resolve track said) same e)
 
-pub refused_for : (track other : Track) (said : SessionLine) (refusal : SessionRefusal) → track ≡ other → Err refusal ≡ looked_up track said → Err refusal ≡ looked_up other said
-refused_for track other said refusal is e = subst (λ t. Err refusal ≡ looked_up t said) is e
+pub refused_for : (track other : Track) (said : SessionLine) (refusal : SessionRefusal) → track ≡ other → Err refusal ≡ resolve track said → Err refusal ≡ resolve other said
+refused_for track other said refusal is e = subst (λ t. Err refusal ≡ resolve t said) is e
 
 -- ---- what a request adds
 
 -- what was told is the entry that its request adds
 pub told_adds : (told : Told) (receipt : Receipt) (place : ℕ) (old new : Seated) (said : SessionLine) (track opened : Track) → IsToldThen old.told new.told told (Ok receipt) → place ≡ receipt.place
-    → old.told.track ≡ opened → track ≡ opened → IsInForm track → IsSayable said → looked_up opened said ≡ Ok (Event told) → AddsEntry new.told receipt.place said
+    → old.told.track ≡ opened → track ≡ opened → IsInForm track → IsSayable said → resolve opened said ≡ Ok (Event told) → AddsEntry new.told receipt.place said
 told_adds told receipt place old new said track opened since at on is form sayable asks =
     since_adds (λ t entries added. AnswersEvent t entries (accepted_reply (place + 1)) added told) old.told new.told receipt said (Ok (Event told)) (accepted_reply (place + 1))
-    (told_at_desk told receipt place old new since at) (subst IsInForm (is ∙ sym on) form) sayable (ap (λ t. looked_up t said) on ∙ asks) (λ t entries answers. answers)
+    (told_at_desk told receipt place old new since at) (subst IsInForm (is ∙ sym on) form) sayable (ap (λ t. resolve t said) on ∙ asks) (λ t entries answers. answers)
 
 -- what was granted is the entry that the train's request adds
 pub granted_adds : (train : ℕ) (reply : List ℕ) (granted : GrantedAtDesk) (answer : Result GrantedAtDesk (OrMemory AskFault)) (old new : Seated) (said : SessionLine) (track opened : Track) → answer ≡ Ok granted
     → IsAnsweredThen old.told new.told train answer → ((scene : Scene) (most : ℕ) (entries : List Entry) → IsAnswered (history_on (begin_on track scene most) entries) train answer → AnswersAsked (begin_on track scene most) entries reply (entry_granted_in answer) train)
-    → old.told.track ≡ opened → track ≡ opened → IsInForm track → IsSayable said → looked_up opened said ≡ Ok (Authority train) → AddsEntry new.told granted.receipt.place said
+    → old.told.track ≡ opened → track ≡ opened → IsInForm track → IsSayable said → resolve opened said ≡ Ok (Authority train) → AddsEntry new.told granted.receipt.place said
 granted_adds train reply granted answer old new said track opened is since says on of_desk form sayable asks =
     let answered = asked_at_desk train track reply answer old new (on ∙ sym of_desk) since says in
     since_adds (λ t entries added. AnswersAsked t entries reply added train) old.told new.told granted.receipt said (Ok (Authority train)) reply
     (subst (λ a. IsAnsweredSince (λ t entries added. AnswersAsked t entries reply added train) old.told new.told (receipt_in a)) is answered)
-    (subst IsInForm (of_desk ∙ sym on) form) sayable (ap (λ t. looked_up t said) on ∙ asks) (λ t entries answers. granted_alone t entries reply granted.receipt.entry train answers)
+    (subst IsInForm (of_desk ∙ sym on) form) sayable (ap (λ t. resolve t said) on ∙ asks) (λ t entries answers. granted_alone t entries reply granted.receipt.entry train answers)

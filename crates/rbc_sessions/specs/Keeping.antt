@@ -9,14 +9,14 @@ use Rattle.rbc_sweep.specs.Records.{begin_of, HistoryOnTrack}
 use Rattle.rbc_sweep.specs.declared.outcome.Answer.{Answer}
 use Rattle.rbc_sweep.specs.declared.outcome.Answer.TheVariants.{Granted}
 use Rattle.rbc_sweep.specs.declared.outcome.Outcome.{Outcome}
-use Rattle.rbc_session_laws.specs.Answers.{demand_answer}
-use Rattle.rbc_session_laws.specs.Demands.{looked_up}
+use Rattle.rbc_session_laws.specs.Answers.{command_answer}
+use Rattle.rbc_session_laws.specs.Commands.{resolve}
 
 -- the request, after the entries before this place, adds the entry that stands there
 pub record AddsEntry (history : HistoryOnTrack) (place : ℕ) (request : SessionLine) : Type 0 where
   pub entry : Entry
   pub stands : slice_get history.entries place ≡ Some entry
-  pub adds : (demand_answer (begin_of history) (take place history.entries) (looked_up history.track request)).added ≡ Some entry
+  pub adds : (command_answer (begin_of history) (take place history.entries) (resolve history.track request)).added ≡ Some entry
 
 -- this begins with a history after which the train was granted this, and with the entry for it
 pub record HasGrant (history : HistoryOnTrack) (train : ℕ) (grant : Grant) : Type 0 where

@@ -5,10 +5,10 @@ use Rattle.rbc_model.specs.Scenes.{train_numbered}
 use Rattle.rbc_model.specs.SessionReply.{SessionRefusal, Full, refused_reply}
 use Rattle.rbc_sweep.specs.Later.{IsLater}
 use Rattle.rbc_sweep.specs.Records.{begin_of, HistoryOnTrack}
-use Rattle.rbc_session_laws.specs.declared.demand.Demand.{Demand}
-use Rattle.rbc_session_laws.specs.declared.demand.Demand.TheVariants.{Nothing, Event, Authority, Show}
+use Rattle.rbc_session_laws.specs.declared.command.Command.{Command}
+use Rattle.rbc_session_laws.specs.declared.command.Command.TheVariants.{Nothing, Event, Authority, Show}
 use Rattle.rbc_sessions.specs.Changes.{with_added}
-use Rattle.rbc_session_laws.specs.Demands.{demand_in}
+use Rattle.rbc_session_laws.specs.Commands.{command_in}
 use Rattle.rbc_session_laws.specs.Turns.{IsRefused, IsGivenUp, AnswersEvent, AnswersAuthority, AnswersInquiry}
 
 -- the entry that a receipt is for, if there is one
@@ -47,13 +47,13 @@ module _ (begun after : HistoryOnTrack) (reply : List ℕ) (receipt : Option Rec
   IsIdle = (receipt ≡ None) × (after ≡ begun)
 
   -- what is asked for
-  abbrev pub AnswersDemandAtDesk : Result Demand SessionRefusal → Type 0
-  AnswersDemandAtDesk (Ok Nothing) = (reply ≡ []) × IsIdle
-  AnswersDemandAtDesk (Ok (Event told)) = IsAnsweredSince (λ begin entries added. AnswersEvent begin entries reply added told) begun after receipt
-  AnswersDemandAtDesk (Ok (Authority train)) = IsAnsweredSince (λ begin entries added. AnswersAsked begin entries reply added train) begun after receipt
-  AnswersDemandAtDesk (Ok (Show inquiry)) = IsAnsweredSince (λ begin entries added. AnswersInquiry begin entries reply added inquiry) begun after receipt
-  AnswersDemandAtDesk (Err refusal) = (reply ≡ refused_reply begun.track refusal) × IsIdle
+  abbrev pub AnswersCommandAtDesk : Result Command SessionRefusal → Type 0
+  AnswersCommandAtDesk (Ok Nothing) = (reply ≡ []) × IsIdle
+  AnswersCommandAtDesk (Ok (Event told)) = IsAnsweredSince (λ begin entries added. AnswersEvent begin entries reply added told) begun after receipt
+  AnswersCommandAtDesk (Ok (Authority train)) = IsAnsweredSince (λ begin entries added. AnswersAsked begin entries reply added train) begun after receipt
+  AnswersCommandAtDesk (Ok (Show inquiry)) = IsAnsweredSince (λ begin entries added. AnswersInquiry begin entries reply added inquiry) begun after receipt
+  AnswersCommandAtDesk (Err refusal) = (reply ≡ refused_reply begun.track refusal) × IsIdle
 
   -- what the line asks for
   abbrev pub AnswersLineAtDesk : List ℕ → Type 0
-  AnswersLineAtDesk line = AnswersDemandAtDesk (demand_in begun.track line)
+  AnswersLineAtDesk line = AnswersCommandAtDesk (command_in begun.track line)

@@ -1,4 +1,4 @@
--- What the treatment of a line makes of a seat and its pen, and what of a session is kept.
+-- What the treatment of a line makes of a seat and its committer, and what of a session is kept.
 use Rattle.std.specs.Prelude.{◌≡◌, ◌<◌, ◌≤◌, ◌||◌, ℕ, Bool, true, false, List, [], ◌++◌, length, Option, Some, None, Result, All, slice_index_or}
 use Rattle.std.specs.List.{Contains}
 use Rattle.rbc_model.specs.Histories.{Receipt}
@@ -6,8 +6,8 @@ use Rattle.rbc_model.specs.SessionReply.{SessionRefusal}
 use Rattle.rbc_model.specs.Sessions.{Prints, WritesPart}
 use Rattle.rbc_sweep.specs.Outcomes.{receipts_of}
 use Rattle.rbc_sweep.specs.declared.outcome.Outcome.{Outcome}
-use Rattle.rbc_session_laws.specs.declared.demand.Demand.{Demand}
-use Rattle.rbc_session_laws.specs.Demands.{demand_in}
+use Rattle.rbc_session_laws.specs.declared.command.Command.{Command}
+use Rattle.rbc_session_laws.specs.Commands.{command_in}
 use Rattle.rbc_sessions.specs.SeatChanges.{SeatComes}
 use Rattle.rbc_sessions.specs.SeatSessions.{SeatTurn, replies_at_seat}
 use Rattle.rbc_sessions.specs.declared.grants.Rank.{Rank}
@@ -18,28 +18,28 @@ abbrev pub IsKept : (ℕ → Type 0) → Option Receipt → Type 0
 IsKept kept None = Unit {0}
 IsKept kept (Some receipt) = kept receipt.place
 
--- what was kept by the one pen is kept by the other
+-- what was kept by the one committer is kept by the other
 abbrev pub StaysKept : {P : Type 0} → (P → ℕ → Type 0) → P → P → Type 0
 StaysKept kept before after = (place : ℕ) → kept before place → kept after place
 
 -- What is asked for is answered by this reply, and leads from the one seat to the other. The reply is written once what led to the entry is kept; where that
 -- failed nothing is written.
-pub record Treats {L P : Type 0} (kept : P → ℕ → Type 0) (demand : Result Demand SessionRefusal) (before : Sitting L P) (text : List ℕ) (after : Sitting L P) : Type 0 where
+pub record Treats {L P : Type 0} (kept : P → ℕ → Type 0) (command : Result Command SessionRefusal) (before : Sitting L P) (text : List ℕ) (after : Sitting L P) : Type 0 where
   pub whole : before.has_failed ≡ false
   pub reply : List ℕ
-  pub comes : SeatComes demand before.seat reply after.seat
-  pub stays : StaysKept kept before.pen after.pen
-  pub said : after.has_failed ≡ false → (text ≡ reply) × IsKept (kept after.pen) comes.0
+  pub comes : SeatComes command before.seat reply after.seat
+  pub stays : StaysKept kept before.committer after.committer
+  pub said : after.has_failed ≡ false → (text ≡ reply) × IsKept (kept after.committer) comes.0
   pub unsaid : after.has_failed ≡ true → text ≡ []
 
 -- It is treated so, and its reply, or nothing, is printed; or a part of it, from its start, where the writer failed.
-abbrev pub IsTreated : {L P E : Type 0} → (P → ℕ → Type 0) → Result Demand SessionRefusal → Sitting L P → Sitting L P → Option (List ℕ) → Option (List ℕ) → Bool → Result (Unit {0}) E → Type 0
-IsTreated kept demand before after old new writer_failed result =
-    (text : List ℕ) × Treats kept demand before text after × Prints old new (after.has_failed || writer_failed) text result
+abbrev pub IsTreated : {L P E : Type 0} → (P → ℕ → Type 0) → Result Command SessionRefusal → Sitting L P → Sitting L P → Option (List ℕ) → Option (List ℕ) → Bool → Result (Unit {0}) E → Type 0
+IsTreated kept command before after old new writer_failed result =
+    (text : List ℕ) × Treats kept command before text after × Prints old new (after.has_failed || writer_failed) text result
 
 -- what a line asks for is treated so
 abbrev pub TreatsLine : {L P : Type 0} → (P → ℕ → Type 0) → Sitting L P → List ℕ → List ℕ → Sitting L P → Type 0
-TreatsLine kept before line text after = Treats kept (demand_in before.seat.told.track line) before text after
+TreatsLine kept before line text after = Treats kept (command_in before.seat.told.track line) before text after
 
 -- What was written by a session of these turns is made of the replies to the first of them, in order, and what led to the entries of all these is kept.
 -- These are all turns, unless keeping has failed: then all but the last.

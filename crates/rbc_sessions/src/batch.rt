@@ -18,12 +18,12 @@ use std::sync::Wait;
 
 /// What was told and rests, in order, and room for the replies to it. Contracts see it as what was told.
 #[derive(Drop)]
-pub(crate) struct Resting {
+pub(crate) struct Batch {
     told: Vec<Told>,
     replies: Vec<SessionReply<'static>>,
 }
 
-impl Model for Resting {
+impl Model for Batch {
     ghost use Rattle.std.specs.Prelude.{◌≡◌, ◌≤◌, List, vec_len, vec_capacity};
     ghost use Rattle.rbc_model.specs.declared.reports.Told.{Told};
 
@@ -55,12 +55,12 @@ fn print_all<W: Sink>(
     Ok(())
 }
 
-impl Resting {
+impl Batch {
     /// Nothing rests.
-    pub(crate) fn new(alloc: Global) -> Resting
+    pub(crate) fn new(alloc: Global) -> Batch
         ensures { result ≡ [] }
     {
-        Resting {
+        Batch {
             told: Vec::new(alloc),
             replies: Vec::new(alloc),
         }
@@ -77,14 +77,14 @@ impl Resting {
     pub(crate) fn push(&mut self, told: Told) -> bool
         ensures { MatchBool result (self.new ≡ self.old ++ told ∷ []) (self.new ≡ self.old) }
     {
-        let Resting {
-            told: resting,
+        let Batch {
+            told: batch,
             replies,
         } = self;
-        if replies.reserve(resting.len() + 1).is_err() || resting.reserve(1).is_err() {
+        if replies.reserve(batch.len() + 1).is_err() || batch.reserve(1).is_err() {
             return false;
         }
-        resting.push_reserved(told);
+        batch.push_reserved(told);
         true
     }
 
@@ -107,7 +107,7 @@ impl Resting {
         ensures heard { (text : List ℕ) × SeatHears seat.old self.old text seat.new
             × Prints (W.written writer.old) (W.written writer.new) (W.failed writer.new) text result }
     {
-        let Resting { told, replies } = self;
+        let Batch { told, replies } = self;
         context.hear_all(alloc, seat, told.as_slice(), more, replies);
         let printed = print_all(context.track, replies.as_slice(), writer);
         told.clear();

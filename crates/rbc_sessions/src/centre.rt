@@ -1,13 +1,13 @@
 //! The centre answers lines.
 
 use crate::asking::ask;
-use crate::demand::demand_in;
+use crate::command::command_in;
 use crate::showing::show;
 use crate::telling::tell;
 use rbc_model::limits::LONGEST_LINE;
 use rbc_model::{LineFault, TrainId};
 use rbc_replies::{SessionRefusal, SessionReply, print};
-use rbc_session_laws::Demand;
+use rbc_session_laws::Command;
 use rbc_streams::{Answers, Sink, WriteFailed};
 use rbc_sweep::Record;
 use std::alloc::Global;
@@ -57,14 +57,14 @@ impl Answers<Centre> for Record {
         _more: bool,
         writer: &mut W,
     ) -> Result<(), WriteFailed> {
-        match demand_in(self.track(), line) {
-            Ok(Demand::Nothing) => print(self.track(), &SessionReply::Nothing, writer),
-            Ok(Demand::Event(told)) => {
+        match command_in(self.track(), line) {
+            Ok(Command::Nothing) => print(self.track(), &SessionReply::Nothing, writer),
+            Ok(Command::Event(told)) => {
                 let reply = tell(alloc, self, &told);
                 print(self.track(), &reply, writer)
             }
-            Ok(Demand::Authority(number)) => ask(rt, alloc, self, TrainId::new(number), writer),
-            Ok(Demand::Show(inquiry)) => show(alloc, self, inquiry, writer),
+            Ok(Command::Authority(number)) => ask(rt, alloc, self, TrainId::new(number), writer),
+            Ok(Command::Show(inquiry)) => show(alloc, self, inquiry, writer),
             Err(refusal) => print(self.track(), &SessionReply::Refused(refusal), writer),
         }
     }

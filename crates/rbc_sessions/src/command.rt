@@ -3,13 +3,13 @@
 ghost use Rattle.std.specs.Prelude.{◌≡◌, IfOk};
 ghost use Rattle.std.specs.Result.{result_map_both};
 ghost use Rattle.rbc_replies.specs.Replies.{refusal_view};
-ghost use Rattle.rbc_session_laws.specs.Demands.{looked_up, demand_in, IsDemandOfTrack};
+ghost use Rattle.rbc_session_laws.specs.Commands.{resolve, command_in, IsCommandOfTrack};
 ghost use Rattle.rbc_replies.specs.SessionLines.{request_view};
 
 use rbc_model::Told;
 use rbc_replies::SessionRefusal;
 use rbc_replies::words::{Request, parse};
-use rbc_session_laws::Demand;
+use rbc_session_laws::Command;
 use rbc_sweep::Track;
 
 /// What the bytes of a line ask for. It takes no memory.
@@ -18,40 +18,40 @@ use rbc_sweep::Track;
 ///
 /// - `BadLine`: the line is no request.
 /// - `UnknownName`: the track has no route or section of the name that it tells.
-pub fn demand_in(track: &Track, line: &[u8]) -> Result<Demand, SessionRefusal>
-    ensures demand { result_map_both (λ demand. demand) refusal_view result ≡ demand_in track.now line.now }
-    ensures of_track { IfOk result (IsDemandOfTrack track.now) }
+pub fn command_in(track: &Track, line: &[u8]) -> Result<Command, SessionRefusal>
+    ensures command { result_map_both (λ command. command) refusal_view result ≡ command_in track.now line.now }
+    ensures of_track { IfOk result (IsCommandOfTrack track.now) }
 {
     match parse(line) {
-        Ok(request) => looked_up(track, request),
+        Ok(request) => resolve(track, request),
         Err(fault) => Err(SessionRefusal::BadLine(fault)),
     }
 }
 
-/// What a line says, its route or section looked up by its name.
+/// What a line says, its route or section resolved by its name.
 ///
 /// # Errors
 ///
 /// `UnknownName`: the track has none of the name.
-pub fn looked_up(track: &Track, request: Request) -> Result<Demand, SessionRefusal>
-    ensures demand { result_map_both (λ demand. demand) refusal_view result
-        ≡ looked_up track.now (request_view request) }
-    ensures of_track { IfOk result (IsDemandOfTrack track.now) }
+pub fn resolve(track: &Track, request: Request) -> Result<Command, SessionRefusal>
+    ensures command { result_map_both (λ command. command) refusal_view result
+        ≡ resolve track.now (request_view request) }
+    ensures of_track { IfOk result (IsCommandOfTrack track.now) }
 {
     match request {
-        Request::Blank => Ok(Demand::Nothing),
-        Request::Report(report) => Ok(Demand::Event(Told::Report(report))),
+        Request::Blank => Ok(Command::Nothing),
+        Request::Report(report) => Ok(Command::Event(Told::Report(report))),
         Request::Lock(name) => match track.route(name) {
-            Some(route) => Ok(Demand::Event(Told::Lock(route))),
+            Some(route) => Ok(Command::Event(Told::Lock(route))),
             None => Err(SessionRefusal::UnknownName(name)),
         },
         Request::Free(name) => match track.section(name) {
-            Some(section) => Ok(Demand::Event(Told::Free(section))),
+            Some(section) => Ok(Command::Event(Told::Free(section))),
             None => Err(SessionRefusal::UnknownName(name)),
         },
-        Request::Leave(train) => Ok(Demand::Event(Told::Leave(train))),
-        Request::GiveBack(train, end) => Ok(Demand::Event(Told::GiveBack(train, end))),
-        Request::Ask(train) => Ok(Demand::Authority(train.number())),
-        Request::Inquire(inquiry) => Ok(Demand::Show(inquiry)),
+        Request::Leave(train) => Ok(Command::Event(Told::Leave(train))),
+        Request::GiveBack(train, end) => Ok(Command::Event(Told::GiveBack(train, end))),
+        Request::Ask(train) => Ok(Command::Authority(train.number())),
+        Request::Inquire(inquiry) => Ok(Command::Show(inquiry)),
     }
 }

@@ -10,8 +10,8 @@ ghost use Rattle.rbc_model.specs.declared.limits.TheConstants.{MOST_ENTRIES};
 ghost use Rattle.rbc_sweep.specs.Records.{IsRight, begin_on, history_on};
 ghost use Rattle.rbc_sweep.specs.Asking.{IsAnswered};
 ghost use Rattle.rbc_replies.specs.Replies.{reply_text, ReplyIsWhole};
-ghost use Rattle.rbc_session_laws.specs.declared.demand.Demand.TheVariants.{Event, Authority, Show};
-ghost use Rattle.rbc_session_laws.specs.Demands.{demand_in, looked_up};
+ghost use Rattle.rbc_session_laws.specs.declared.command.Command.TheVariants.{Event, Authority, Show};
+ghost use Rattle.rbc_session_laws.specs.Commands.{command_in, resolve};
 ghost use Rattle.rbc_model.specs.HistoryText.{IsToldOfTrack};
 ghost use Rattle.rbc_replies.specs.SessionLines.{request_view};
 ghost use Rattle.rbc_sessions.specs.Keeping.{AddsEntry};
@@ -21,14 +21,14 @@ ghost use Rattle.rbc_sessions.specs.Shown.{entry_granted_in};
 ghost use Rattle.rbc_sessions.specs.Sittings.{IsTreated, StaysKept};
 
 use crate::asking::told_of;
-use crate::demand::looked_up;
+use crate::command::resolve;
 use crate::telling::refusal_of;
 use crate::{Keeper, NotKept, Sitting};
 use rbc_lines::{print_shown, print_state};
 use rbc_model::{Inquiry, OrMemory, Refusal, Told, TrainId};
 use rbc_replies::words::{Request, parse};
 use rbc_replies::{SessionRefusal, SessionReply, print};
-use rbc_session_laws::Demand;
+use rbc_session_laws::Command;
 use rbc_streams::{Sink, WriteFailed};
 use rbc_sweep::{AskFault, Desk, DeskName, Gate, Granted, Hold, Receipt, Seat, Track};
 use std::alloc::Global;
@@ -80,7 +80,7 @@ impl<'a, L: DeskName, K: Keeper<L>, G: Gate, R: Wait> SessionContext<'a, L, K, G
     /// It could not be kept. Then the sitting has failed.
     fn keep(
         &self,
-        sitting: &mut Sitting<L, K::Pen>,
+        sitting: &mut Sitting<L, K::Committer>,
         receipt: &Receipt,
         text: K::Text,
     ) -> Result<(), NotKept>
@@ -89,16 +89,18 @@ impl<'a, L: DeskName, K: Keeper<L>, G: Gate, R: Wait> SessionContext<'a, L, K, G
             × AddsEntry sitting.old.seat.told receipt.now.place request }
         ensures seat { sitting.new.seat ≡ sitting.old.seat }
         ensures failed { sitting.new.has_failed ≡ is_err result }
-        ensures why { sitting.new.has_failed ≡ true → K.failed sitting.new.pen }
-        ensures kept { OnOk result (K.kept sitting.new.pen receipt.now.place) }
-        ensures stays { StaysKept K.kept sitting.old.pen sitting.new.pen }
+        ensures why { sitting.new.has_failed ≡ true → K.failed sitting.new.committer }
+        ensures kept { OnOk result (K.kept sitting.new.committer receipt.now.place) }
+        ensures stays { StaysKept K.kept sitting.old.committer sitting.new.committer }
     {
         let Sitting {
             seat,
-            pen,
+            committer,
             has_failed,
         } = sitting;
-        let kept = self.keeper.keep(self.waiting, pen, seat, receipt, text);
+        let kept = self
+            .keeper
+            .keep(self.waiting, committer, seat, receipt, text);
         *has_failed = kept.is_err();
         kept
     }
@@ -110,7 +112,7 @@ impl<'a, L: DeskName, K: Keeper<L>, G: Gate, R: Wait> SessionContext<'a, L, K, G
     /// It could not be kept, and nothing is printed; or the writer failed.
     fn say<W: Sink>(
         &self,
-        sitting: &mut Sitting<L, K::Pen>,
+        sitting: &mut Sitting<L, K::Committer>,
         receipt: &Receipt,
         text: K::Text,
         reply: &SessionReply,
@@ -122,11 +124,11 @@ impl<'a, L: DeskName, K: Keeper<L>, G: Gate, R: Wait> SessionContext<'a, L, K, G
             × AddsEntry sitting.old.seat.told receipt.now.place request }
         requires reply { ReplyIsWhole self.now.track.now reply.now }
         ensures seat { sitting.new.seat ≡ sitting.old.seat }
-        ensures stays { StaysKept K.kept sitting.old.pen sitting.new.pen }
-        ensures kept { sitting.new.has_failed ≡ false → K.kept sitting.new.pen receipt.now.place }
+        ensures stays { StaysKept K.kept sitting.old.committer sitting.new.committer }
+        ensures kept { sitting.new.has_failed ≡ false → K.kept sitting.new.committer receipt.now.place }
         ensures said { sitting.new.has_failed ≡ false → Prints (W.written writer.old) (W.written writer.new)
             (W.failed writer.new) (reply_text self.now.track.now reply.now) result }
-        ensures why { sitting.new.has_failed ≡ true → K.failed sitting.new.pen }
+        ensures why { sitting.new.has_failed ≡ true → K.failed sitting.new.committer }
         ensures unsaid { sitting.new.has_failed ≡ true → (writer.new ≡ writer.old) × (is_err result ≡ true) }
     {
         match self.keep(sitting, receipt, text) {
@@ -143,7 +145,7 @@ impl<'a, L: DeskName, K: Keeper<L>, G: Gate, R: Wait> SessionContext<'a, L, K, G
     fn tell<W: Sink>(
         &self,
         alloc: Global,
-        sitting: &mut Sitting<L, K::Pen>,
+        sitting: &mut Sitting<L, K::Committer>,
         request: &Request,
         told: Told,
         writer: &mut W,
@@ -151,9 +153,9 @@ impl<'a, L: DeskName, K: Keeper<L>, G: Gate, R: Wait> SessionContext<'a, L, K, G
         requires going { W.failed writer.old ≡ false }
         requires whole { sitting.old.has_failed ≡ false }
         requires sayable { IsSayable (request_view request.now) }
-        requires demand { looked_up L.opened.track (request_view request.now) ≡ Ok (Event told) }
+        requires command { resolve L.opened.track (request_view request.now) ≡ Ok (Event told) }
         requires of_track { IsToldOfTrack L.opened.track told }
-        ensures why { sitting.new.has_failed ≡ true → K.failed sitting.new.pen }
+        ensures why { sitting.new.has_failed ≡ true → K.failed sitting.new.committer }
         ensures treated { IsTreated K.kept (Ok (Event told)) sitting.old sitting.new
             (W.written writer.old) (W.written writer.new) (W.failed writer.new) result }
     {
@@ -196,7 +198,7 @@ impl<'a, L: DeskName, K: Keeper<L>, G: Gate, R: Wait> SessionContext<'a, L, K, G
         &self,
         rt: &T,
         alloc: Global,
-        sitting: &mut Sitting<L, K::Pen>,
+        sitting: &mut Sitting<L, K::Committer>,
         request: &Request,
         train: TrainId,
         writer: &mut W,
@@ -204,8 +206,8 @@ impl<'a, L: DeskName, K: Keeper<L>, G: Gate, R: Wait> SessionContext<'a, L, K, G
         requires going { W.failed writer.old ≡ false }
         requires whole { sitting.old.has_failed ≡ false }
         requires sayable { IsSayable (request_view request.now) }
-        requires demand { looked_up L.opened.track (request_view request.now) ≡ Ok (Authority train) }
-        ensures why { sitting.new.has_failed ≡ true → K.failed sitting.new.pen }
+        requires command { resolve L.opened.track (request_view request.now) ≡ Ok (Authority train) }
+        ensures why { sitting.new.has_failed ≡ true → K.failed sitting.new.committer }
         ensures treated { IsTreated K.kept (Ok (Authority train)) sitting.old sitting.new
             (W.written writer.old) (W.written writer.new) (W.failed writer.new) result }
     {
@@ -235,7 +237,7 @@ impl<'a, L: DeskName, K: Keeper<L>, G: Gate, R: Wait> SessionContext<'a, L, K, G
     fn show<W: Sink>(
         &self,
         alloc: Global,
-        sitting: &mut Sitting<L, K::Pen>,
+        sitting: &mut Sitting<L, K::Committer>,
         inquiry: Inquiry,
         writer: &mut W,
     ) -> Result<(), WriteFailed>
@@ -273,27 +275,27 @@ impl<'a, L: DeskName, K: Keeper<L>, G: Gate, R: Wait> SessionContext<'a, L, K, G
         &self,
         rt: &T,
         alloc: Global,
-        sitting: &mut Sitting<L, K::Pen>,
+        sitting: &mut Sitting<L, K::Committer>,
         request: &Request,
         writer: &mut W,
     ) -> Result<(), WriteFailed>
         requires going { W.failed writer.old ≡ false }
         requires whole { sitting.old.has_failed ≡ false }
         requires sayable { IsSayable (request_view request.now) }
-        ensures why { sitting.new.has_failed ≡ true → K.failed sitting.new.pen }
-        ensures treated { IsTreated K.kept (looked_up sitting.old.seat.told.track (request_view request.now)) sitting.old sitting.new
+        ensures why { sitting.new.has_failed ≡ true → K.failed sitting.new.committer }
+        ensures treated { IsTreated K.kept (resolve sitting.old.seat.told.track (request_view request.now)) sitting.old sitting.new
             (W.written writer.old) (W.written writer.new) (W.failed writer.new) result }
     {
         // What the seat was told is on the desk's track.
         sitting.seat.known();
-        match looked_up(self.track, *request) {
-            Ok(Demand::Nothing) => print(self.track, &SessionReply::Nothing, writer),
-            Ok(Demand::Event(told)) => self.tell(alloc, sitting, request, told, writer),
-            Ok(Demand::Authority(number)) => {
+        match resolve(self.track, *request) {
+            Ok(Command::Nothing) => print(self.track, &SessionReply::Nothing, writer),
+            Ok(Command::Event(told)) => self.tell(alloc, sitting, request, told, writer),
+            Ok(Command::Authority(number)) => {
                 let train = TrainId::new(number);
                 self.ask(rt, alloc, sitting, request, train, writer)
             }
-            Ok(Demand::Show(inquiry)) => self.show(alloc, sitting, inquiry, writer),
+            Ok(Command::Show(inquiry)) => self.show(alloc, sitting, inquiry, writer),
             Err(refusal) => print(self.track, &SessionReply::Refused(refusal), writer),
         }
     }
@@ -307,14 +309,14 @@ impl<'a, L: DeskName, K: Keeper<L>, G: Gate, R: Wait> SessionContext<'a, L, K, G
         &self,
         rt: &T,
         alloc: Global,
-        sitting: &mut Sitting<L, K::Pen>,
+        sitting: &mut Sitting<L, K::Committer>,
         line: &[u8],
         writer: &mut W,
     ) -> Result<(), WriteFailed>
         requires going { W.failed writer.old ≡ false }
         requires whole { sitting.old.has_failed ≡ false }
-        ensures why { sitting.new.has_failed ≡ true → K.failed sitting.new.pen }
-        ensures treated { IsTreated K.kept (demand_in sitting.old.seat.told.track line.now) sitting.old sitting.new
+        ensures why { sitting.new.has_failed ≡ true → K.failed sitting.new.committer }
+        ensures treated { IsTreated K.kept (command_in sitting.old.seat.told.track line.now) sitting.old sitting.new
             (W.written writer.old) (W.written writer.new) (W.failed writer.new) result }
     {
         // What the seat was told is on the desk's track.

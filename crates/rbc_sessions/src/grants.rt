@@ -88,15 +88,15 @@ impl<'a, L: DeskName, K: Keeper<L>, G: Gate, R: Wait> SessionContext<'a, L, K, G
     fn keep_grant(
         &self,
         alloc: Global,
-        pen: &mut K::Pen,
+        committer: &mut K::Committer,
         seat: &Seat<L>,
         train: TrainId,
         granted: &Granted,
     ) -> Result<(), KeepFault>
         requires told { HasGrant seat.now.told train granted.now }
-        ensures kept { OnOk result (K.kept pen.new granted.now.receipt.place) }
-        ensures journal { result ≡ Err KeeperFailed → K.failed pen.new }
-        ensures stays { StaysKept K.kept pen.old pen.new }
+        ensures kept { OnOk result (K.kept committer.new granted.now.receipt.place) }
+        ensures journal { result ≡ Err KeeperFailed → K.failed committer.new }
+        ensures stays { StaysKept K.kept committer.old committer.new }
     {
         // What the seat was told is on the desk's track, in form.
         self.track.known();
@@ -106,7 +106,7 @@ impl<'a, L: DeskName, K: Keeper<L>, G: Gate, R: Wait> SessionContext<'a, L, K, G
         };
         match self
             .keeper
-            .keep(self.waiting, pen, seat, &granted.receipt, text)
+            .keep(self.waiting, committer, seat, &granted.receipt, text)
         {
             Ok(()) => Ok(()),
             Err(_) => Err(KeepFault::Journal),
@@ -121,17 +121,23 @@ impl<'a, L: DeskName, K: Keeper<L>, G: Gate, R: Wait> SessionContext<'a, L, K, G
     fn keep_outcome(
         &self,
         alloc: Global,
-        pen: &mut K::Pen,
+        committer: &mut K::Committer,
         seat: &Seat<L>,
         outcome: &Outcome,
     ) -> Result<(), KeepFault>
         requires told { HasOutcome seat.now.told outcome.now }
-        ensures kept { OnOk result (AreKeptOf (K.kept pen.new) outcome.now) }
-        ensures journal { result ≡ Err KeeperFailed → K.failed pen.new }
-        ensures stays { StaysKept K.kept pen.old pen.new }
+        ensures kept { OnOk result (AreKeptOf (K.kept committer.new) outcome.now) }
+        ensures journal { result ≡ Err KeeperFailed → K.failed committer.new }
+        ensures stays { StaysKept K.kept committer.old committer.new }
     {
         match &outcome.answer {
-            Answer::Granted(granted) => self.keep_grant(alloc, pen, seat, outcome.train, granted),
+            Answer::Granted(granted) => self.keep_grant(
+                alloc,
+                committer,
+                seat,
+                outcome.train,
+                granted,
+            ),
             _ => Ok(()),
         }
     }
@@ -144,18 +150,18 @@ impl<'a, L: DeskName, K: Keeper<L>, G: Gate, R: Wait> SessionContext<'a, L, K, G
     fn keep_numbered(
         &self,
         alloc: Global,
-        pen: &mut K::Pen,
+        committer: &mut K::Committer,
         seat: &Seat<L>,
         number: usize,
         outcomes: &[Outcome],
     ) -> Result<(), KeepFault>
         requires told { All (HasOutcome seat.now.told) outcomes.now }
-        ensures kept { OnOk result (IsKeptAt (K.kept pen.new) outcomes.now number) }
-        ensures journal { result ≡ Err KeeperFailed → K.failed pen.new }
-        ensures stays { StaysKept K.kept pen.old pen.new }
+        ensures kept { OnOk result (IsKeptAt (K.kept committer.new) outcomes.now number) }
+        ensures journal { result ≡ Err KeeperFailed → K.failed committer.new }
+        ensures stays { StaysKept K.kept committer.old committer.new }
     {
         match outcomes.get(number) {
-            Some(outcome) => self.keep_outcome(alloc, pen, seat, outcome),
+            Some(outcome) => self.keep_outcome(alloc, committer, seat, outcome),
             None => Ok(()),
         }
     }
@@ -168,19 +174,19 @@ impl<'a, L: DeskName, K: Keeper<L>, G: Gate, R: Wait> SessionContext<'a, L, K, G
     fn keep_ranked(
         &self,
         alloc: Global,
-        pen: &mut K::Pen,
+        committer: &mut K::Committer,
         seat: &Seat<L>,
         ranks: &[Rank],
         outcomes: &[Outcome],
     ) -> Result<(), KeepFault>
         requires told { All (HasOutcome seat.now.told) outcomes.now }
         requires each { (number : ℕ) → number < length outcomes.now → HasRank ranks.now number }
-        ensures kept { OnOk result (All (λ receipt. K.kept pen.new receipt.place) (granted outcomes.now)) }
-        ensures journal { result ≡ Err KeeperFailed → K.failed pen.new }
-        ensures stays { StaysKept K.kept pen.old pen.new }
+        ensures kept { OnOk result (All (λ receipt. K.kept committer.new receipt.place) (granted outcomes.now)) }
+        ensures journal { result ≡ Err KeeperFailed → K.failed committer.new }
+        ensures stays { StaysKept K.kept committer.old committer.new }
     {
         for rank in ranks {
-            self.keep_numbered(alloc, pen, seat, rank.number, outcomes)?;
+            self.keep_numbered(alloc, committer, seat, rank.number, outcomes)?;
         }
         Ok(())
     }
@@ -193,17 +199,17 @@ impl<'a, L: DeskName, K: Keeper<L>, G: Gate, R: Wait> SessionContext<'a, L, K, G
     pub fn keep_grants(
         &self,
         alloc: Global,
-        pen: &mut K::Pen,
+        committer: &mut K::Committer,
         seat: &Seat<L>,
         outcomes: &[Outcome],
     ) -> Result<(), KeepFault>
         requires told { All (HasOutcome seat.now.told) outcomes.now }
-        ensures kept { OnOk result (All (λ receipt. K.kept pen.new receipt.place) (granted outcomes.now)) }
-        ensures journal { result ≡ Err KeeperFailed → K.failed pen.new }
-        ensures stays { StaysKept K.kept pen.old pen.new }
+        ensures kept { OnOk result (All (λ receipt. K.kept committer.new receipt.place) (granted outcomes.now)) }
+        ensures journal { result ≡ Err KeeperFailed → K.failed committer.new }
+        ensures stays { StaysKept K.kept committer.old committer.new }
     {
         match ranked(alloc, outcomes) {
-            Ok(ranks) => self.keep_ranked(alloc, pen, seat, ranks.as_slice(), outcomes),
+            Ok(ranks) => self.keep_ranked(alloc, committer, seat, ranks.as_slice(), outcomes),
             Err(_) => Err(KeepFault::Memory),
         }
     }

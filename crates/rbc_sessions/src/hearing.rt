@@ -4,13 +4,13 @@ ghost use Rattle.std.specs.Prelude.{◌≡◌, ◌||◌, [], ℕ, List, true, fa
 ghost use Rattle.rbc_model.specs.Sessions.{Prints};
 ghost use Rattle.rbc_sessions.specs.Hearings.{CatchesUp, CatchesUpAndTreats, IsGoing, Rests};
 
+use crate::batch::Batch;
 use crate::null_sink::NullSink;
-use crate::resting::Resting;
-use crate::{Keeper, SessionContext, Sitting, demand_in};
+use crate::{Keeper, SessionContext, Sitting, command_in};
 use rbc_model::LineFault;
 use rbc_model::limits::LONGEST_LINE;
 use rbc_replies::{SessionRefusal, SessionReply, print};
-use rbc_session_laws::Demand;
+use rbc_session_laws::Command;
 use rbc_streams::{Answers, Sink, WriteFailed};
 use rbc_sweep::{DeskName, Gate};
 use std::alloc::Global;
@@ -24,23 +24,23 @@ const MOST_RESTING: usize = 64;
 #[derive(Drop)]
 pub(crate) struct Hearing<L: DeskName, P> {
     pub(crate) sitting: Sitting<L, P>,
-    resting: Resting,
+    batch: Batch,
 }
 
 impl<L: DeskName, P: Drop> Hearing<L, P> {
     /// The sitting, at which nothing was told yet.
     pub(crate) fn new(alloc: Global, sitting: Sitting<L, P>) -> Hearing<L, P>
         ensures sitting { result.sitting ≡ sitting }
-        ensures none_rests { result.resting ≡ [] }
+        ensures none_rests { result.batch ≡ [] }
     {
         Hearing {
             sitting,
-            resting: Resting::new(alloc),
+            batch: Batch::new(alloc),
         }
     }
 
     /// Lets a line rest, if it is told and nothing has to be kept of it, and tells whether it does.
-    fn rest<'a, K: Keeper<L, Pen = P>, G: Gate, R: Wait>(
+    fn rest<'a, K: Keeper<L, Committer = P>, G: Gate, R: Wait>(
         &mut self,
         context: &SessionContext<'a, L, K, G, R>,
         line: &[u8],
@@ -53,8 +53,8 @@ impl<L: DeskName, P: Drop> Hearing<L, P> {
         if !context.keeper.keeps_nothing() {
             return false;
         }
-        match demand_in(context.track, line) {
-            Ok(Demand::Event(told)) => self.resting.push(told),
+        match command_in(context.track, line) {
+            Ok(Command::Event(told)) => self.batch.push(told),
             _ => false,
         }
     }
@@ -64,7 +64,7 @@ impl<L: DeskName, P: Drop> Hearing<L, P> {
     /// # Errors
     ///
     /// The writer failed. All is entered.
-    fn catch_up<'a, K: Keeper<L, Pen = P>, G: Gate, R: Wait, W: Sink>(
+    fn catch_up<'a, K: Keeper<L, Committer = P>, G: Gate, R: Wait, W: Sink>(
         &mut self,
         alloc: Global,
         context: &SessionContext<'a, L, K, G, R>,
@@ -76,15 +76,15 @@ impl<L: DeskName, P: Drop> Hearing<L, P> {
         ensures { (text : List ℕ) × CatchesUp K.kept self.old text self.new
             × Prints (W.written writer.old) (W.written writer.new) (W.failed writer.new) text result }
     {
-        if self.resting.len() == 0 {
+        if self.batch.len() == 0 {
             return Ok(());
         }
-        let Hearing { sitting, resting } = self;
-        resting.enter(alloc, context, &mut sitting.seat, more, writer)
+        let Hearing { sitting, batch } = self;
+        batch.enter(alloc, context, &mut sitting.seat, more, writer)
     }
 
     /// Publishes what was told or granted before the connection is read again, or ends.
-    fn publish<'a, K: Keeper<L, Pen = P>, G: Gate, R: Wait>(
+    fn publish<'a, K: Keeper<L, Committer = P>, G: Gate, R: Wait>(
         &mut self,
         alloc: Global,
         context: &SessionContext<'a, L, K, G, R>,
@@ -104,7 +104,7 @@ impl<L: DeskName, P: Drop> Hearing<L, P> {
     /// # Errors
     ///
     /// The writer failed, or what led to the entry could not be kept.
-    fn treat<'a, K: Keeper<L, Pen = P>, G: Gate, R: Wait, T: Threads + Sync, W: Sink>(
+    fn treat<'a, K: Keeper<L, Committer = P>, G: Gate, R: Wait, T: Threads + Sync, W: Sink>(
         &mut self,
         rt: &T,
         alloc: Global,
@@ -114,7 +114,7 @@ impl<L: DeskName, P: Drop> Hearing<L, P> {
     ) -> Result<(), WriteFailed>
         requires going { W.failed writer.old ≡ false }
         requires ready { IsGoing L.opened.track K.kept self.old }
-        ensures why { self.new.sitting.has_failed ≡ true → K.failed self.new.sitting.pen }
+        ensures why { self.new.sitting.has_failed ≡ true → K.failed self.new.sitting.committer }
         ensures treated { (reply : List ℕ) × CatchesUpAndTreats K.kept self.old line.now reply self.new
             × Prints (W.written writer.old) (W.written writer.new) (self.new.sitting.has_failed || W.failed writer.new) reply result }
     {
@@ -128,7 +128,7 @@ impl<L: DeskName, P: Drop> Hearing<L, P> {
     }
 }
 
-impl<'a, L: DeskName, P: Drop, K: Keeper<L, Pen = P>, G: Gate, R: Wait> Answers<
+impl<'a, L: DeskName, P: Drop, K: Keeper<L, Committer = P>, G: Gate, R: Wait> Answers<
     SessionContext<'a, L, K, G, R>,
 > for Hearing<L, P> {
     type State = Hearing<L, P>;
@@ -143,7 +143,7 @@ impl<'a, L: DeskName, P: Drop, K: Keeper<L, Pen = P>, G: Gate, R: Wait> Answers<
 
     ghost answers = { Advances L.opened.track K.kept K.failed };
 
-    ghost rests = { λ hearing. length hearing.resting };
+    ghost rests = { λ hearing. length hearing.batch };
 
     ghost ready = { IsGoing L.opened.track K.kept };
 
@@ -170,7 +170,7 @@ impl<'a, L: DeskName, P: Drop, K: Keeper<L, Pen = P>, G: Gate, R: Wait> Answers<
         writer: &mut W,
     ) -> Result<(), WriteFailed> {
         if self.rest(context, line) {
-            if more && self.resting.len() < MOST_RESTING {
+            if more && self.batch.len() < MOST_RESTING {
                 return Ok(());
             }
             let said = self.catch_up(alloc, context, more, writer);

@@ -28,26 +28,26 @@ pub enum KeepFault {
     Memory,
 }
 
-/// Keeps the requests that led to the entries of a desk. Each of its seats has a pen.
+/// Keeps the requests that led to the entries of a desk. Each of its seats has a committer.
 pub trait Keeper<L: DeskName> {
     /// What a seat keeps with.
-    type Pen: Drop;
+    type Committer: Drop;
 
     /// A request that can be kept: there was memory for it.
     type Text: Drop;
 
-    /// By what the pen knows, the request that led to the entry at this place is kept.
-    ghost kept: { Self.Pen → ℕ → Type 0 };
+    /// By what the committer knows, the request that led to the entry at this place is kept.
+    ghost kept: { Self.Committer → ℕ → Type 0 };
 
-    /// By what the pen knows, keeping has failed. Of a keeper that never fails no pen knows so.
-    ghost failed: { Self.Pen → Type 0 };
+    /// By what the committer knows, keeping has failed. Of a keeper that never fails no committer knows so.
+    ghost failed: { Self.Committer → Type 0 };
 
     /// The text says this.
     ghost says: { Self.Text → SessionLine → Type 0 };
 
     /// Whether it keeps nothing, since nothing has to be kept. Then any entry counts as kept at once.
     fn keeps_nothing(&self) -> bool
-        ensures { IsTrue result → (pen : Self.Pen) (place : ℕ) → kept pen place };
+        ensures { IsTrue result → (committer : Self.Committer) (place : ℕ) → kept committer place };
 
     /// Takes memory for a request, before anything is made of it.
     ///
@@ -67,15 +67,15 @@ pub trait Keeper<L: DeskName> {
     fn keep<R: Wait>(
         &self,
         rt: &R,
-        pen: &mut Self::Pen,
+        committer: &mut Self::Committer,
         seat: &Seat<L>,
         receipt: &Receipt,
         text: Self::Text,
     ) -> Result<(), NotKept>
         requires told { (request : SessionLine) × says text request × AddsEntry seat.now.told receipt.now.place request }
-        ensures kept { OnOk result (kept pen.new receipt.now.place) }
-        ensures failed { OnErr result (failed pen.new) }
-        ensures stays { (place : ℕ) → kept pen.old place → kept pen.new place };
+        ensures kept { OnOk result (kept committer.new receipt.now.place) }
+        ensures failed { OnErr result (failed committer.new) }
+        ensures stays { (place : ℕ) → kept committer.old place → kept committer.new place };
 }
 
 /// No journal: nothing is kept.
@@ -83,7 +83,7 @@ pub trait Keeper<L: DeskName> {
 pub struct NoJournal;
 
 impl<L: DeskName> Keeper<L> for NoJournal {
-    type Pen = ();
+    type Committer = ();
 
     type Text = ();
 
@@ -110,7 +110,7 @@ impl<L: DeskName> Keeper<L> for NoJournal {
     fn keep<R: Wait>(
         &self,
         _rt: &R,
-        _pen: &mut (),
+        _committer: &mut (),
         _seat: &Seat<L>,
         _receipt: &Receipt,
         _text: (),

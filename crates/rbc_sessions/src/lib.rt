@@ -3,15 +3,15 @@
 #![tactic(auto)]
 
 mod asking;
+mod batch;
 mod centre;
+mod command;
 mod context;
-mod demand;
 mod grants;
 mod hearing;
 mod histories;
 mod keeping;
 mod null_sink;
-mod resting;
 mod sessions;
 mod showing;
 mod sitting;
@@ -19,8 +19,8 @@ mod telling;
 
 pub use asking::{commit, stopped, told_of};
 pub use centre::Centre;
+pub use command::{command_in, resolve};
 pub use context::SessionContext;
-pub use demand::{demand_in, looked_up};
 pub use histories::print_history;
 pub use keeping::{KeepFault, Keeper, NoJournal, NotKept};
 pub use null_sink::NullSink;

@@ -116,8 +116,8 @@ pub fn session<
     reader: &mut I,
     writer: &mut W,
     context: &SessionContext<'a, L, K, G, R>,
-    sitting: Sitting<L, K::Pen>,
-) -> SessionEnd<L, K::Pen>
+    sitting: Sitting<L, K::Committer>,
+) -> SessionEnd<L, K::Committer>
     requires lines { lines ≡ at_start LONGEST_LINE }
     requires reader { I.failed reader.old ≡ false }
     requires writer { W.failed writer.old ≡ false }
@@ -140,13 +140,13 @@ pub fn session<
     ensures grown { AreFirst sitting.seat result.sitting.seat }
     ensures session { (input : List ℕ) × Consumes (I.left reader.old) (I.left reader.new) input
         × (session : IsSeatSession sitting.seat result.sitting.seat input (W.written writer.old) (W.written writer.new) result.ended)
-        × AreToldKept (K.kept result.sitting.pen) result.sitting.has_failed session.turns (W.written writer.old) (W.written writer.new) }
+        × AreToldKept (K.kept result.sitting.committer) result.sitting.has_failed session.turns (W.written writer.old) (W.written writer.new) }
 
-    // Keeping failed only where the pen knows so.
-    ensures failed { result.sitting.has_failed ≡ true → K.failed result.sitting.pen }
+    // Keeping failed only where the committer knows so.
+    ensures failed { result.sitting.has_failed ≡ true → K.failed result.sitting.committer }
 
     // What was kept before still is.
-    ensures stays { StaysKept K.kept sitting.pen result.sitting.pen }
+    ensures stays { StaysKept K.kept sitting.committer result.sitting.committer }
 
     // Each reply is the one that is computed for its line, after the history that the seat was told with it, but where
     // memory was refused, or the history was full by the time of a grant.

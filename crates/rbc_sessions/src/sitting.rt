@@ -1,30 +1,30 @@
-//! A seat with its pen.
+//! A seat with its committer.
 
 ghost use Rattle.std.specs.Prelude.{◌≡◌, false};
 
 use rbc_sweep::{DeskName, Seat};
 
-/// A seat at a desk, with the pen by which the requests are kept that led to its entries.
+/// A seat at a desk, with the committer by which the requests are kept that led to its entries.
 #[derive(Drop)]
 pub struct Sitting<L: DeskName, P> {
     /// The seat.
     pub seat: Seat<L>,
-    /// Its pen.
-    pub pen: P,
+    /// Its committer.
+    pub committer: P,
     /// Whether a request could not be kept. Then the last line was not answered.
     pub has_failed: bool,
 }
 
 impl<L: DeskName, P> Sitting<L, P> {
-    /// The seat with a pen.
-    pub fn new(seat: Seat<L>, pen: P) -> Sitting<L, P>
+    /// The seat with a committer.
+    pub fn new(seat: Seat<L>, committer: P) -> Sitting<L, P>
         ensures seat { result.seat ≡ seat }
-        ensures pen { result.pen ≡ pen }
+        ensures committer { result.committer ≡ committer }
         ensures whole { result.has_failed ≡ false }
     {
         Sitting {
             seat,
-            pen,
+            committer,
             has_failed: false,
         }
     }

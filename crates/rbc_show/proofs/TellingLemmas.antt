@@ -20,13 +20,13 @@ use Rattle.rbc_model.specs.Rows.{Row, rows_text}
 use Rattle.rbc_model.specs.Scenes.{Scene}
 use Rattle.rbc_model.specs.SceneLines.{scene_lines, scene_body}
 use Rattle.rbc_model.specs.Words.{line_of, without_return}
-use Rattle.rbc_session_laws.specs.declared.demand.Demand.{Demand}
-use Rattle.rbc_session_laws.specs.declared.demand.Demand.TheVariants.{Nothing, Event, Authority, Show}
+use Rattle.rbc_session_laws.specs.declared.command.Command.{Command}
+use Rattle.rbc_session_laws.specs.declared.command.Command.TheVariants.{Nothing, Event, Authority, Show}
 use Rattle.rbc_session_laws.specs.Answers.{line_answer}
-use Rattle.rbc_session_laws.specs.Demands.{demand_in}
+use Rattle.rbc_session_laws.specs.Commands.{command_in}
 use Rattle.rbc_session_laws.specs.Laws.{SaysNoMemory}
 use Rattle.rbc_session_laws.specs.SessionRuns.{entries_of}
-use Rattle.rbc_session_laws.specs.Turns.{AnswersDemand, AnswersLine}
+use Rattle.rbc_session_laws.specs.Turns.{AnswersCommand, AnswersLine}
 use Rattle.rbc_session_laws.proofs.LineLemmas.{lines_are_answered}
 use Rattle.rbc_session_laws.proofs.TextLemmas.{EndsLine, IsWhole, IsNotMemory, all_of_both, ends_behind, line_ends, lines_of-whole, not_memory, reply_whole}
 use Rattle.rbc_show.specs.declared.each.Telling.{Telling}
@@ -93,8 +93,8 @@ module _ (begin : Beginning) (before : List Entry) (request reply change : List 
   within none = not_memory begin.track reply (split reply change whole (split request (reply ++ change) (inr asks) none).1).0
 
   -- where no line that is written says that memory was refused, the reply does not
-  kept : (demand : Result Demand SessionRefusal) → AnswersDemand begin before reply added demand
-      → AllByRecursion IsNotMemory (lines_of (cond (has_reply demand) (request ++ (reply ++ change)) [])) → reply ≢ refused_reply begin.track Memory
+  kept : (command : Result Command SessionRefusal) → AnswersCommand begin before reply added command
+      → AllByRecursion IsNotMemory (lines_of (cond (has_reply command) (request ++ (reply ++ change)) [])) → reply ≢ refused_reply begin.track Memory
   kept (Ok Nothing) answers none = subst (λ r. r ≢ refused_reply begin.track Memory) (sym answers.0) (not_memory begin.track [] tt)
   kept (Ok (Event told)) answers none = within none
   kept (Ok (Authority train)) answers none = within none
@@ -102,7 +102,7 @@ module _ (begin : Beginning) (before : List Entry) (request reply change : List 
   kept (Err refusal) answers none = within none
 
 told_whole : (number : ℕ) (begin : Beginning) (before : List Entry) (line reply : List ℕ) (added : Option Entry) → IsWhole reply → IsWhole (told_text number begin before line reply added)
-told_whole number begin before line reply added whole = by_reply (has_reply (demand_in begin.track line))
+told_whole number begin before line reply added whole = by_reply (has_reply (command_in begin.track line))
   where
     by_reply : (has : Bool) → IsWhole (cond has (request_text number line ++ (reply ++ change_text begin before added)) [])
     by_reply true = whole_behind (request_text number line) (reply ++ change_text begin before added) (request_ends number line)
@@ -114,7 +114,7 @@ answer_is : (number : ℕ) (begin : Beginning) (before : List Entry) (line reply
     → AllByRecursion IsNotMemory (lines_of (told_text number begin before line reply added)) → (reply ≡ (line_answer begin before line).reply) × (added ≡ (line_answer begin before line).added)
 answer_is number begin before line reply added form answers none =
     lines_are_answered begin before line reply added form answers
-    (kept begin before (request_text number line) reply (change_text begin before added) added (request_ends number line) (reply_whole begin before line reply added answers) (demand_in begin.track line) answers none)
+    (kept begin before (request_text number line) reply (change_text begin before added) added (request_ends number line) (reply_whole begin before line reply added answers) (command_in begin.track line) answers none)
 
 -- ---- lines
 

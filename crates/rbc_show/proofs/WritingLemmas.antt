@@ -7,10 +7,10 @@ use Rattle.std.proofs.KnownBytes.{Appends-trans}
 use Rattle.rbc_model.specs.Histories.{Beginning, Entry}
 use Rattle.rbc_model.specs.SessionReply.{SessionRefusal}
 use Rattle.rbc_model.specs.Sessions.{WritesPart, WritesText}
-use Rattle.rbc_session_laws.specs.declared.demand.Demand.{Demand}
-use Rattle.rbc_session_laws.specs.declared.demand.Demand.TheVariants.{Nothing, Event, Authority, Show}
+use Rattle.rbc_session_laws.specs.declared.command.Command.{Command}
+use Rattle.rbc_session_laws.specs.declared.command.Command.TheVariants.{Nothing, Event, Authority, Show}
 use Rattle.rbc_session_laws.specs.SessionRuns.{entries_of}
-use Rattle.rbc_session_laws.specs.Turns.{AnswersDemand}
+use Rattle.rbc_session_laws.specs.Turns.{AnswersCommand}
 use Rattle.rbc_kept.specs.Records.{begin_of, HistoryOnTrack}
 use Rattle.rbc_show.specs.Showing.{change_text, has_reply, scene_text}
 
@@ -62,7 +62,7 @@ unchanged before after (Some entry) entries least =
 
 -- ---- a line without a reply
 
-pub silent : (begin : Beginning) (before : List Entry) (demand : Result Demand SessionRefusal) → has_reply demand ≡ false → AnswersDemand begin before [] None demand
+pub silent : (begin : Beginning) (before : List Entry) (command : Result Command SessionRefusal) → has_reply command ≡ false → AnswersCommand begin before [] None command
 silent begin before (Ok Nothing) none = (refl, refl)
 silent begin before (Ok (Event told)) none = absurd (let c : ⊥ = cc in c)
 silent begin before (Ok (Authority train)) none = absurd (let c : ⊥ = cc in c)

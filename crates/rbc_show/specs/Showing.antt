@@ -9,10 +9,10 @@ use Rattle.rbc_model.specs.SessionReply.{SessionRefusal}
 use Rattle.rbc_model.specs.Sessions.{lines_of}
 use Rattle.rbc_model.specs.TrackLines.{track_lines}
 use Rattle.rbc_model.specs.Words.{line_of, without_return}
-use Rattle.rbc_session_laws.specs.declared.demand.Demand.{Demand}
-use Rattle.rbc_session_laws.specs.declared.demand.Demand.TheVariants.{Nothing}
+use Rattle.rbc_session_laws.specs.declared.command.Command.{Command}
+use Rattle.rbc_session_laws.specs.declared.command.Command.TheVariants.{Nothing}
 use Rattle.rbc_session_laws.specs.Answers.{line_answer, entries_after}
-use Rattle.rbc_session_laws.specs.Demands.{demand_in}
+use Rattle.rbc_session_laws.specs.Commands.{command_in}
 use Rattle.rbc_session_laws.specs.Laws.{SaysNoMemory}
 use Rattle.rbc_session_laws.specs.SessionRuns.{entries_of}
 use Rattle.rbc_session_laws.specs.Turns.{AnswersLine}
@@ -42,14 +42,14 @@ change_text begin before None = []
 change_text begin before (Some entry) = scene_text begin (before ++ entry ∷ [])
 
 -- whether a line has a reply
-abbrev pub has_reply : Result Demand SessionRefusal → Bool
+abbrev pub has_reply : Result Command SessionRefusal → Bool
 has_reply (Ok Nothing) = false
 has_reply _ = true
 
 -- the line of this number, its reply, and the scene that it leads to, if it adds an entry
 abbrev pub told_text : ℕ → Beginning → List Entry → List ℕ → List ℕ → Option Entry → List ℕ
 told_text number begin before line reply added =
-    if has_reply (demand_in begin.track line) then request_text number line ++ (reply ++ change_text begin before added) else []
+    if has_reply (command_in begin.track line) then request_text number line ++ (reply ++ change_text begin before added) else []
 
 -- lines in order, each behind the entries of those before it
 abbrev pub lines_text : ℕ → Beginning → List Entry → List (List ℕ) → List ℕ

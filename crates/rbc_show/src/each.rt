@@ -9,7 +9,7 @@ ghost use Rattle.rbc_model.specs.Histories.{Entry};
 ghost use Rattle.rbc_model.specs.Sessions.{Prints, WritesText};
 ghost use Rattle.rbc_model.specs.Talks.{IsTalk};
 ghost use Rattle.rbc_model.specs.TrackLines.{track_lines};
-ghost use Rattle.rbc_session_laws.specs.Demands.{demand_in};
+ghost use Rattle.rbc_session_laws.specs.Commands.{command_in};
 ghost use Rattle.rbc_session_laws.specs.SessionRuns.{entries_of};
 ghost use Rattle.rbc_session_laws.specs.Turns.{AnswersLine};
 ghost use Rattle.rbc_lines.specs.declared.scene.LinesFault.TheVariants.{Memory as NoMemory, Write as NoWrite};
@@ -19,8 +19,8 @@ use crate::scene::print_now;
 use rbc_kept::server::words::{Word, print_line, without_return};
 use rbc_lines::{LinesFault, print_track};
 use rbc_model::limits::LONGEST_LINE;
-use rbc_session_laws::Demand;
-use rbc_sessions::{Centre, NullSink, Record, demand_in};
+use rbc_session_laws::Command;
+use rbc_sessions::{Centre, NullSink, Record, command_in};
 use rbc_streams::{Answers, SessionFault, Sink, Source, WriteFailed, converse};
 use rbc_track::Track;
 use std::alloc::Global;
@@ -48,9 +48,9 @@ impl Telling {
 
 /// Whether a line has a reply.
 fn has_reply(track: &Track, line: &[u8]) -> bool
-    ensures { result ≡ has_reply (demand_in track.now line.now) }
+    ensures { result ≡ has_reply (command_in track.now line.now) }
 {
-    !matches!(demand_in(track, line), Ok(Demand::Nothing))
+    !matches!(command_in(track, line), Ok(Command::Nothing))
 }
 
 /// Writes a line as it was read, with its number.

@@ -1,7 +1,6 @@
 //! What the lines of `rbc steps` and of a session say, and how replies are printed.
 #![tactic(auto)]
 
-mod gathered;
 mod line_words;
 mod price_table;
 mod printing;
@@ -10,9 +9,9 @@ mod session_request;
 mod spelled;
 mod steps_reply;
 mod steps_request;
+mod tail_buffer;
 mod words;
 
-pub use gathered::Gathered;
 pub use line_words::{Word, leg_word, print_line, print_words, section_word};
 pub use printing::{print_hex, print_number, print_signed};
 pub use rbc_model::{LineFault, OrMemory, StepsRefusal};
@@ -24,6 +23,7 @@ pub use steps_reply::{
     Basis, print_certificate, print_certified, print_last, print_refusal, print_runs,
 };
 pub use steps_request::{StepsLine, StepsRequest, parse_steps, request_in};
+pub use tail_buffer::TailBuffer;
 pub use words::{
     around, integer, is_blank, is_text, next_word, number, number_at, number_from_to, only_word,
     request_text, take_word, without_return,

@@ -5,7 +5,7 @@ ghost use Rattle.rbc_model.specs.Sessions.{Prints};
 ghost use Rattle.rbc_model.specs.Words.{line_of};
 ghost use Rattle.rbc_words.specs.PriceText.{spaced, prices_text};
 
-use crate::gathered::Gathered;
+use crate::tail_buffer::TailBuffer;
 use rbc_streams::{Sink, WriteFailed, put};
 
 /// Writes a table of prices, a line for each row, counted from 1.
@@ -28,7 +28,7 @@ fn print_row<W: Sink>(number: u64, row: &[u64], writer: &mut W) -> Result<(), Wr
     ensures { Prints (W.written writer.old) (W.written writer.new) (W.failed writer.new)
         (line_of (codes "prices" ∷ decimal number ∷ map decimal row.now)) result }
 {
-    let mut text = Gathered::new();
+    let mut text = TailBuffer::new();
     if row.len() > SHORT {
         gather_head(number, &mut text);
         put(writer, text.bytes())?;
@@ -46,7 +46,7 @@ const SHORT: usize = 10;
 
 /// Puts how the line of the row of this number begins before a text.
 #[inline(always)]
-fn gather_head(number: u64, text: &mut Gathered)
+fn gather_head(number: u64, text: &mut TailBuffer)
     requires { length text.old + 27 ≤ 256 }
     ensures { text.new ≡ codes "prices " ++ (decimal number ++ text.old) }
 {
@@ -79,14 +79,14 @@ fn print_piece<W: Sink>(piece: &[u64], writer: &mut W) -> Result<(), WriteFailed
     ensures { Prints (W.written writer.old) (W.written writer.new) (W.failed writer.new)
         (spaced (map decimal piece.now)) result }
 {
-    let mut text = Gathered::new();
+    let mut text = TailBuffer::new();
     gather_prices(piece, &mut text);
     put(writer, text.bytes())
 }
 
 /// Puts prices, each behind a space, before a text.
 #[inline(always)]
-fn gather_prices(prices: &[u64], text: &mut Gathered)
+fn gather_prices(prices: &[u64], text: &mut TailBuffer)
     requires { length text.old + 21 * length prices.now ≤ 256 }
     ensures text { text.new ≡ spaced (map decimal prices.now) ++ text.old }
     ensures length { length text.new ≤ length text.old + 21 * length prices.now }

@@ -5,7 +5,7 @@ ghost use Rattle.std.specs.Fmt.{signed_decimal};
 ghost use Rattle.rbc_model.specs.Sessions.{Prints};
 ghost use Rattle.rbc_model.specs.Words.{hex_of};
 
-use crate::gathered::Gathered;
+use crate::tail_buffer::TailBuffer;
 use rbc_streams::{Sink, WriteFailed, put};
 
 /// Writes a number in base 10.
@@ -61,7 +61,7 @@ fn print_piece<W: Sink>(piece: &[u8], writer: &mut W) -> Result<(), WriteFailed>
     requires short { length piece.now ≤ 128 }
     ensures { Prints (W.written writer.old) (W.written writer.new) (W.failed writer.new) (hex_of piece.now) result }
 {
-    let mut text = Gathered::new();
+    let mut text = TailBuffer::new();
     text.hex(piece);
     put(writer, text.bytes())
 }

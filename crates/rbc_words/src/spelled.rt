@@ -4,7 +4,7 @@ ghost use Rattle.std.specs.Prelude.{◌≡◌, ◌+◌, ◌≤◌, ◌++◌, len
 ghost use Rattle.rbc_model.specs.Kinds.{Kind, speed_kind, grade_kind};
 ghost use Rattle.rbc_words.specs.Values.{value_in};
 
-use crate::gathered::Gathered;
+use crate::tail_buffer::TailBuffer;
 use crate::words::{integer, number};
 use rbc_steps::{Grade, Level, Speed};
 
@@ -23,7 +23,7 @@ pub trait Spelled: Level {
         ensures { result ≡ value_in kind word.now };
 
     /// Puts the level as a word before a text.
-    fn gather(self, text: &mut Gathered)
+    fn gather(self, text: &mut TailBuffer)
         requires { length text.old + 21 ≤ 256 }
         ensures text { text.new ≡ kind.print self ++ text.old }
         ensures length { length text.new ≤ length text.old + 21 };
@@ -44,7 +44,7 @@ impl Spelled for Speed {
         Speed::new(u16::try_from(number(word)?).ok()?)
     }
 
-    fn gather(self, text: &mut Gathered) {
+    fn gather(self, text: &mut TailBuffer) {
         text.number(u64::from(self.kmh()));
     }
 
@@ -63,7 +63,7 @@ impl Spelled for Grade {
         Grade::new(i16::try_from(integer(word)?).ok()?)
     }
 
-    fn gather(self, text: &mut Gathered) {
+    fn gather(self, text: &mut TailBuffer) {
         text.signed(i64::from(self.per_mille()));
     }
 

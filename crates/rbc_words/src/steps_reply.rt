@@ -7,8 +7,8 @@ ghost use Rattle.rbc_model.specs.StepsReply.{fault_words, refusal_words, refusal
 ghost use Rattle.rbc_model.specs.StepsReply.{profile_line, packet_lines};
 ghost use Rattle.rbc_words.specs.Replies.{runs_text, track_text, certificate_lines, certified_text};
 
-use crate::gathered::Gathered;
 use crate::price_table::print_table;
+use crate::tail_buffer::TailBuffer;
 use crate::{Spelled, print_hex};
 use rbc_model::{LineFault, StepsRefusal};
 use rbc_steps::{Profile, Runs};
@@ -69,7 +69,7 @@ pub fn print_last<W: Sink>(name: &[u8], number: u64, writer: &mut W) -> Result<(
     ensures { Prints (W.written writer.old) (W.written writer.new) (W.failed writer.new)
         (name.now ++ (decimal number ++ 10 ∷ [])) result }
 {
-    let mut text = Gathered::new();
+    let mut text = TailBuffer::new();
     text.byte(b'\n');
     text.number(number);
     if name.len() > LONGEST_NAME {
@@ -148,7 +148,7 @@ fn print_track<V: Spelled, W: Sink>(
         print_command::<V, W>(limit, writer)?;
         return print_line_end(runs, b" end ", end, writer);
     }
-    let mut text = Gathered::new();
+    let mut text = TailBuffer::new();
     gather_line_end(runs, b" end ", end, &mut text);
     gather_command::<V>(limit, &mut text);
     put(writer, text.bytes())
@@ -163,14 +163,14 @@ fn print_command<V: Spelled, W: Sink>(limit: usize, writer: &mut W) -> Result<()
     ensures { Prints (W.written writer.old) (W.written writer.new) (W.failed writer.new)
         (V.kind.command ++ (32 ∷ decimal limit)) result }
 {
-    let mut text = Gathered::new();
+    let mut text = TailBuffer::new();
     gather_command::<V>(limit, &mut text);
     put(writer, text.bytes())
 }
 
 /// Puts the command for such levels, and the limit of steps behind it, before a text.
 #[inline(always)]
-fn gather_command<V: Spelled>(limit: usize, text: &mut Gathered)
+fn gather_command<V: Spelled>(limit: usize, text: &mut TailBuffer)
     requires { length text.old + 37 ≤ 256 }
     ensures { text.new ≡ (V.kind.command ++ (32 ∷ decimal limit)) ++ text.old }
 {
@@ -194,7 +194,7 @@ fn print_profile<V: Spelled, W: Sink>(
         put(writer, b"steps")?;
         return print_line_end(steps, b" loss ", loss, writer);
     }
-    let mut text = Gathered::new();
+    let mut text = TailBuffer::new();
     gather_line_end(steps, b" loss ", loss, &mut text);
     text.text(b"steps");
     put(writer, text.bytes())
@@ -217,7 +217,7 @@ fn print_line_end<V: Spelled, W: Sink>(
 
 /// Puts the end of a line before a text: runs or steps, and the number at its end behind what it is.
 #[inline(always)]
-fn gather_line_end<V: Spelled>(runs: &[(u32, V)], name: &[u8], number: u64, text: &mut Gathered)
+fn gather_line_end<V: Spelled>(runs: &[(u32, V)], name: &[u8], number: u64, text: &mut TailBuffer)
     requires { length text.old + length name.now + 43 * length runs.now + 21 ≤ 256 }
     ensures text { text.new ≡ runs_text V.kind runs.now ++ (name.now ++ (decimal number ++ 10 ∷ text.old)) }
     ensures length { length text.new ≤ length text.old + length name.now + 43 * length runs.now + 21 }
@@ -242,7 +242,7 @@ fn print_packet<W: Sink>(packet: &[u8], writer: &mut W) -> Result<(), WriteFaile
         print_hex(packet, writer)?;
         return put(writer, b"\ndone\n");
     }
-    let mut text = Gathered::new();
+    let mut text = TailBuffer::new();
     text.text(b"\ndone\n");
     text.hex(packet);
     text.text(b"packet ");
@@ -278,14 +278,14 @@ fn print_piece<V: Spelled, W: Sink>(piece: &[(u32, V)], writer: &mut W) -> Resul
     ensures { Prints (W.written writer.old) (W.written writer.new) (W.failed writer.new)
         (runs_text V.kind piece.now) result }
 {
-    let mut text = Gathered::new();
+    let mut text = TailBuffer::new();
     gather_runs(piece, &mut text);
     put(writer, text.bytes())
 }
 
 /// Puts runs or steps, each behind a space, before a text.
 #[inline(always)]
-fn gather_runs<V: Spelled>(runs: &[(u32, V)], text: &mut Gathered)
+fn gather_runs<V: Spelled>(runs: &[(u32, V)], text: &mut TailBuffer)
     requires { length text.old + 43 * length runs.now ≤ 256 }
     ensures text { text.new ≡ runs_text V.kind runs.now ++ text.old }
     ensures length { length text.new ≤ length text.old + 43 * length runs.now }

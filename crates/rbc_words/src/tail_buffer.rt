@@ -21,12 +21,12 @@ fn write_hex(bytes: &[u8], digits: &mut [u8])
 
 /// A short text that is gathered from its end to its start, so that no digit is moved, and is then written at once.
 #[derive(Drop)]
-pub struct Gathered {
+pub struct TailBuffer {
     bytes: [u8; ROOM],
     start: usize,
 }
 
-impl Model for Gathered {
+impl Model for TailBuffer {
     ghost use Rattle.std.specs.Prelude.{◌≤◌, ℕ, List, drop};
 
     ghost Value = { List ℕ };
@@ -36,13 +36,13 @@ impl Model for Gathered {
     ghost invariant = { λ text. text.start ≤ 256 };
 }
 
-impl Gathered {
+impl TailBuffer {
     /// An empty text.
     #[inline(always)]
-    pub fn new() -> Gathered
+    pub fn new() -> TailBuffer
         ensures { result ≡ [] }
     {
-        Gathered {
+        TailBuffer {
             bytes: [0; ROOM],
             start: ROOM,
         }

@@ -6,9 +6,9 @@ ghost use Rattle.rbc_journal.specs.Journal.{recovered};
 ghost use Rattle.rbc_journal.specs.Settled.{IsSettled, staged};
 
 use super::journals::{Noted, image_of, lines_in, new_journal, opened};
+use rbc_group_commit::{Blank, CommitName, Committer, GroupCommit, Line, Start, Told};
 use rbc_journal::{Device, is_told};
 use rbc_journal_file::Recorded;
-use rbc_scribe::{Blank, Line, Pen, Scribe, ScribeName, Start, Told};
 use std::alloc::{AllocError, Global};
 use std::marker::Brand;
 use std::sync::Wait;
@@ -37,11 +37,11 @@ fn line_at(alloc: Global, place: u64) -> Result<Vec<u8>, AllocError> {
 }
 
 /// Keeps the lines at every fourth place from this one on, up to the first that is not kept. Tells how many were.
-fn keep_some<D: Device, N: ScribeName, R: Wait>(
+fn keep_some<D: Device, N: CommitName, R: Wait>(
     rt: &R,
     alloc: Global,
-    scribe: &Scribe<Anything, D, N>,
-    mut pen: Pen<N>,
+    group_commit: &GroupCommit<Anything, D, N>,
+    mut committer: Committer<N>,
     first: u64,
 ) -> u64
     requires { first < 4 }
@@ -54,8 +54,8 @@ fn keep_some<D: Device, N: ScribeName, R: Wait>(
         if !is_told(text.as_slice()) || text.len() > 4_096 {
             return turn;
         }
-        if scribe
-            .keep(rt, &mut pen, Line::new(Anything, place, text))
+        if group_commit
+            .keep(rt, &mut committer, Line::new(Anything, place, text))
             .is_err()
         {
             return turn;
@@ -65,29 +65,29 @@ fn keep_some<D: Device, N: ScribeName, R: Wait>(
 }
 
 /// Two seats, side by side.
-fn keep_two<D: Device + Send, N: ScribeName + Send + Sync, R: Threads + Wait + Sync>(
+fn keep_two<D: Device + Send, N: CommitName + Send + Sync, R: Threads + Wait + Sync>(
     rt: &R,
     alloc: Global,
-    scribe: &Scribe<Anything, D, N>,
-    pens: (Pen<N>, Pen<N>),
+    group_commit: &GroupCommit<Anything, D, N>,
+    committers: (Committer<N>, Committer<N>),
     first: u64,
 ) -> (u64, u64)
     requires { first < 3 }
 {
-    let (left, right) = pens;
+    let (left, right) = committers;
     join(
         rt,
         move || -> u64
             requires { IsSync R.row × IsSend D.row × IsSend N.row × IsSync N.row × (first < 3) }
-        { keep_some(rt, alloc, scribe, left, first) },
+        { keep_some(rt, alloc, group_commit, left, first) },
         move || -> u64
             requires { IsSync R.row × IsSend D.row × IsSend N.row × IsSync N.row × (first < 3) }
-        { keep_some(rt, alloc, scribe, right, first + 1) },
+        { keep_some(rt, alloc, group_commit, right, first + 1) },
     )
 }
 
 /// Four seats keep their lines, over a file that fails at the call of a number. How many each kept, and the file's lines.
-fn kept_by_four<N: ScribeName + Send + Sync, R: Threads + Wait + Sync>(
+fn kept_by_four<N: CommitName + Send + Sync, R: Threads + Wait + Sync>(
     rt: &R,
     alloc: Global,
     fails_at: usize,
@@ -110,15 +110,19 @@ fn kept_by_four<N: ScribeName + Send + Sync, R: Threads + Wait + Sync>(
         told: Anything,
         lines: 0,
     };
-    let opened = Scribe::<Anything, Recorded<Noted>, N>::open(rt, alloc, start, 4, blank);
-    let Ok((scribe, mut pens)) = opened else {
+    let opened = GroupCommit::<Anything, Recorded<Noted>, N>::open(rt, alloc, start, 4, blank);
+    let Ok((group_commit, mut committers)) = opened else {
         return Err("there is room".into());
     };
-    let (Some(d), Some(c), Some(b), Some(a)) = (pens.pop(), pens.pop(), pens.pop(), pens.pop())
-    else {
-        return Err("there are four pens".into());
+    let (Some(d), Some(c), Some(b), Some(a)) = (
+        committers.pop(),
+        committers.pop(),
+        committers.pop(),
+        committers.pop(),
+    ) else {
+        return Err("there are four committers".into());
     };
-    let shared = &scribe;
+    let shared = &group_commit;
     let ((a, b), (c, d)) = join(
         rt,
         move || -> (u64, u64)
@@ -128,7 +132,7 @@ fn kept_by_four<N: ScribeName + Send + Sync, R: Threads + Wait + Sync>(
             requires { IsSync R.row × IsSend N.row × IsSync N.row }
         { keep_two(rt, alloc, shared, (c, d), 2) },
     );
-    let (device, _told) = scribe.close().into_parts();
+    let (device, _told) = group_commit.close().into_parts();
     let image = image_of(alloc, file.as_slice(), device.into_calls().calls.as_slice())?;
     Ok(([a, b, c, d], lines_in(alloc, image.as_slice())?))
 }

@@ -10,6 +10,6 @@ ghosts-open-L-HistoryName g a = record { book = a.opening.blank.journal }
 abbrev pub ghosts-open-L-Ledger : goal.ghosts-open-L-Ledger
 ghosts-open-L-Ledger g a = record { name = a.opening.blank.ledger.name; parts = a.opening.blank.ledger.parts }
 
--- the scribe by its stamps
-abbrev pub ghosts-open-N-ScribeName : goal.ghosts-open-N-ScribeName
-ghosts-open-N-ScribeName g a = record { book = a.stamps }
+-- the group commit by its stamps
+abbrev pub ghosts-open-N-CommitName : goal.ghosts-open-N-CommitName
+ghosts-open-N-CommitName g a = record { book = a.stamps }

@@ -10,6 +10,6 @@ ghosts-open-L-HistoryName g a = record { book = a.journaled.opening.blank.journa
 abbrev pub ghosts-open-L-Ledger : goal.ghosts-open-L-Ledger
 ghosts-open-L-Ledger g a = record { name = a.journaled.opening.blank.ledger.name; parts = a.journaled.opening.blank.ledger.parts }
 
--- the scribe by its stamps
-abbrev pub ghosts-open-N-ScribeName : goal.ghosts-open-N-ScribeName
-ghosts-open-N-ScribeName g a = record { book = a.journaled.stamps }
+-- the group commit by its stamps
+abbrev pub ghosts-open-N-CommitName : goal.ghosts-open-N-CommitName
+ghosts-open-N-CommitName g a = record { book = a.journaled.stamps }

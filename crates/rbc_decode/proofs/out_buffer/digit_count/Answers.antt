@@ -1,7 +1,7 @@
 use Rattle.std.proofs.Common.{◌/◌, arith}
 use Rattle.std.proofs.lemmas.Fmt.{length-decimal-le, decimal_nonempty}
-use Rattle.rbc_decode.proofs.SheetLemmas.{one_digit_fewer}
-use Rattle.rbc_decode.proofs.sheet.digit_count.Goals as goal
+use Rattle.rbc_decode.proofs.OutBufferLemmas.{one_digit_fewer}
+use Rattle.rbc_decode.proofs.out_buffer.digit_count.Goals as goal
 
 pub loop-left-preserved : goal.loop-left-preserved
 loop-left-preserved c =

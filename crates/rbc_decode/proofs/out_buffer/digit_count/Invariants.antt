@@ -1,5 +1,5 @@
 use Rattle.std.proofs.Common.{◌≡◌, ◌+◌, ◌≤◌, length, decimal}
-use Rattle.rbc_decode.proofs.sheet.digit_count.Given as goal
+use Rattle.rbc_decode.proofs.out_buffer.digit_count.Given as goal
 
 abbrev pub invariant-loop-left : goal.invariant-loop-left
 invariant-loop-left l = record {

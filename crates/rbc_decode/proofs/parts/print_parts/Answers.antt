@@ -10,7 +10,7 @@ loop-item-init g c =
     let all = parts_text g.P.TextPart.told g.P.TextPart.text false c.args.items.now in
     record {
       going = c.requires;
-      whole = λ end failed r p. subst (λ s. Prints (g.W.Sink.written c.args.writer.now) end failed (s ++ all) r) c.new-sheet.ensures p;
+      whole = λ end failed r p. subst (λ s. Prints (g.W.Sink.written c.args.writer.now) end failed (s ++ all) r) c.new-buffer.ensures p;
     }
 
 pub returns-in_err-make_room : goal.returns-in_err-make_room
@@ -28,7 +28,7 @@ loop-item-preserved g c =
     let loop = c.loop-item in
     let later = c.either-later.ensures ∙ ap (λ b. loop.later || b) c.is_told.ensures in
     let whole = gathered_next g.P.TextPart.told g.P.TextPart.text loop.later c.either-later.result c.args.items.now loop.item-index _
-    loop.sheet made.part made.rest c.make_room.new.sheet c.gather.new.sheet c.loop-item-test.true made.whole made.kept c.gather.ensures later in
+    loop.buffer made.part made.rest c.make_room.new.buffer c.gather.new.buffer c.loop-item-test.true made.whole made.kept c.gather.ensures later in
     record {
       going = made.printed.failed;
       whole = λ end failed r rest. loop.invariant.whole end failed r (prints_then _ _ end failed made.part _ _ r made.printed.text whole rest);
@@ -38,4 +38,4 @@ pub returns : goal.returns
 returns g c =
     let loop = c.loop-item in
     let none_left = parts_text-end g.P.TextPart.told g.P.TextPart.text loop.later c.args.items.now loop.item-index c.loop-item-test.false in
-    loop.invariant.whole _ _ _ (prints_as (c.bytes.ensures ∙ sym (append-nil loop.sheet) ∙ ap (λ l. loop.sheet ++ l) (sym none_left)) c.put.ensures)
+    loop.invariant.whole _ _ _ (prints_as (c.bytes.ensures ∙ sym (append-nil loop.buffer) ∙ ap (λ l. loop.buffer ++ l) (sym none_left)) c.put.ensures)

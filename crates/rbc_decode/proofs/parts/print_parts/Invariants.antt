@@ -13,6 +13,6 @@ invariant-loop-item g l =
     record {
       going : g.W.Sink.failed l.writer ≡ false;
       whole : (end : Option (List ℕ)) (failed : Bool) (r : Result (Unit {0}) WriteFailed)
-          → Prints (written l.writer) end failed (l.sheet ++ parts_text told text l.later (drop l.item-index l.items)) r
+          → Prints (written l.writer) end failed (l.buffer ++ parts_text told text l.later (drop l.item-index l.items)) r
           → Prints (written l.fn.writer) end failed (parts_text told text false l.items) r;
     }

@@ -9,8 +9,8 @@ use Rattle.rbc_duty.proofs.staying.attend.Goals as goal
 
 pub returns-in_default-clause-stands : goal.returns-in_default-clause-stands
 returns-in_default-clause-stands g c =
-    none_stand g.K.Keeper.kept (map (λ p. g.P.Clients.coming p.port) c.args.posts.items) (map (λ p. p.sitting) c.args.posts.items) c.none_relieved.result.parted.pens.items c.none_relieved.result.fault
-    c.none_relieved.ensures.pens c.none_relieved.ensures.fault
+    none_stand g.K.Keeper.kept (map (λ p. g.P.Clients.coming p.port) c.args.posts.items) (map (λ p. p.sitting) c.args.posts.items) c.none_relieved.result.parted.committers.items c.none_relieved.result.fault
+    c.none_relieved.ensures.committers c.none_relieved.ensures.fault
 
 pub returns : goal.returns
 returns g c =
@@ -27,17 +27,17 @@ returns g c =
     record {
       relieved = λ none.
           let well = none_faulted stood.result.all_begun failed lost (sym is ∙ none) in
-          relieved g.K.Keeper.kept (λ d. d.sitting) (λ d. d.is_port_lost) comings sittings duties c.part_all.result.pens.items parts.pens _ c.part_all.result.seats.items
+          relieved g.K.Keeper.kept (λ d. d.sitting) (λ d. d.is_port_lost) comings sittings duties c.part_all.result.committers.items parts.committers _ c.part_all.result.seats.items
           stood.ensures.on_duty
           (omega (arith, stood.ensures.all well.0, length-map posts.items (λ p. g.P.Clients.coming p.port), posts.ok.0))
           (omega (arith, stood.ensures.all well.0, length-map posts.items (λ p. p.sitting), posts.ok.0)) well.1 parts.seats;
       count = λ none.
           let well = none_faulted stood.result.all_begun failed lost (sym is ∙ none) in
           omega (arith, stood.ensures.all well.0, c.part_all.result.seats.ok.0, ap length parts.seats, length-map duties (λ d. d.sitting.seat), stood.result.duties.ok.0);
-      stands = stands_there g.K.Keeper.kept (λ d. d.sitting) (λ d. d.is_port_lost) comings sittings duties c.part_all.result.pens.items parts.pens stood.result.all_begun failed c.fault_in-fault.result _ is
+      stands = stands_there g.K.Keeper.kept (λ d. d.sitting) (λ d. d.is_port_lost) comings sittings duties c.part_all.result.committers.items parts.committers stood.result.all_begun failed c.fault_in-fault.result _ is
           stood.ensures.on_duty (λ begun. omega (arith, stood.ensures.all begun, length-map posts.items (λ p. p.sitting), posts.ok.0));
       journal = λ broken.
-          subst (OneKnows g.K.Keeper.failed) (sym parts.pens)
+          subst (OneKnows g.K.Keeper.failed) (sym parts.committers)
           (one_knows g.K.Keeper.failed (λ d. d.sitting) duties stood.ensures.failed (not_kept stood.result.all_begun failed lost (sym is ∙ broken)));
       looks = λ none. stood.ensures.looks;
       room = λ none.

@@ -15,19 +15,19 @@ returns-in-Some-clause-fault g c =
     let posts = c.args.company.posts.items in
     let comings = map (λ p. g.P.Clients.coming p.port) posts in
     let sittings = map (λ p. p.sitting) posts in
-    let pens = c.attend-parted.result.parted.pens.items in
+    let committers = c.attend-parted.result.parted.committers.items in
     let written = g.W.Sink.written c.args.writer.now in
-    fault_stands g.K.Keeper.kept g.L.DeskName.opened g.L.Ledger.parts comings sittings (g.B.Onlooker.seat c.args.company.onlooker) pens written written c.in-Some.fault
-    (subst (λ (f : Option ServeFault). IfSome f (StandsRelieved g.K.Keeper.kept comings sittings pens)) c.in-Some.is c.attend-parted.ensures.stands)
+    fault_stands g.K.Keeper.kept g.L.DeskName.opened g.L.Ledger.parts comings sittings (g.B.Onlooker.seat c.args.company.onlooker) committers written written c.in-Some.fault
+    (subst (λ (f : Option ServeFault). IfSome f (StandsRelieved g.K.Keeper.kept comings sittings committers)) c.in-Some.is c.attend-parted.ensures.stands)
 
 pub returns-in-Some-clause-write : goal.returns-in-Some-clause-write
 returns-in-Some-clause-write g c =
     let posts = c.args.company.posts.items in
     let comings = map (λ p. g.P.Clients.coming p.port) posts in
     let sittings = map (λ p. p.sitting) posts in
-    let pens = c.attend-parted.result.parted.pens.items in (
-      (λ is. absurd (not_written g.K.Keeper.kept comings sittings pens c.in-Some.fault
-          (subst (λ (f : Option ServeFault). IfSome f (StandsRelieved g.K.Keeper.kept comings sittings pens)) c.in-Some.is c.attend-parted.ensures.stands) is)),
+    let committers = c.attend-parted.result.parted.committers.items in (
+      (λ is. absurd (not_written g.K.Keeper.kept comings sittings committers c.in-Some.fault
+          (subst (λ (f : Option ServeFault). IfSome f (StandsRelieved g.K.Keeper.kept comings sittings committers)) c.in-Some.is c.attend-parted.ensures.stands) is)),
       (λ failed. absurd (both_ways _ c.requires.going failed)),
     )
 
@@ -59,7 +59,7 @@ returns-in-Err-clause-fault g c =
     let old = g.W.Sink.written c.args.writer.now in
     let new = g.W.Sink.written c.close_desk.new.writer in
     unclosed_stands g.K.Keeper.kept g.L.DeskName.opened g.L.Ledger.parts (map (λ p. g.P.Clients.coming p.port) posts) (map (λ p. p.sitting) posts)
-    (g.B.Onlooker.seat c.args.company.onlooker) c.attend-parted.result.parted.pens.items old new c.attend-parted.result.parted.seats.items c.into_seat.result c.in-Err.fault
+    (g.B.Onlooker.seat c.args.company.onlooker) c.attend-parted.result.parted.committers.items old new c.attend-parted.result.parted.seats.items c.into_seat.result c.in-Err.fault
     (c.attend-parted.ensures.relieved none)
     (subst (LooksOn (g.B.Onlooker.seat c.args.company.onlooker)) (sym c.into_seat.ensures) (c.attend-parted.ensures.looks none))
     (subst (λ s. IsCloseFault g.L.DeskName.opened g.L.Ledger.parts s old new c.in-Err.fault) c.with_looker-seats.ensures.seats c.in-Err.ensures.fault)

@@ -1,7 +1,7 @@
 use Rattle.std.proofs.Common.{sym, ◌∙◌, ap}
-use Rattle.rbc_scribe.specs.Stamps.{stamp_of}
+use Rattle.rbc_group_commit.specs.Stamps.{stamp_of}
 use Rattle.rbc_logbook_laws.proofs.AddingLemmas.{adds_moves}
-use Rattle.rbc_scribe.proofs.marks.add.Goals as goal
+use Rattle.rbc_group_commit.proofs.marks.add.Goals as goal
 
 pub compare_exchange-found-requires : goal.compare_exchange-found-requires
 compare_exchange-found-requires g c =

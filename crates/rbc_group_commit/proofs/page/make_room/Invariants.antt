@@ -1,6 +1,6 @@
 use Rattle.std.proofs.Common.{◌≡◌}
 use Rattle.rbc_journal.specs.Settled.{staged, IsSettled}
-use Rattle.rbc_scribe.proofs.page.make_room.Given as goal
+use Rattle.rbc_group_commit.proofs.page.make_room.Given as goal
 
 abbrev pub invariant-loop : goal.invariant-loop
 invariant-loop g l =

@@ -37,4 +37,4 @@ returns-in-Err-clause-no_client g c = λ is.
     let as_many : length sittings.items ≡ vec_len sittings = omega (arith, sittings.ok.0) in
     subst (FewerCome coming) as_many
     (fewer_told g.K.Keeper.kept g.L.DeskName.opened coming (g.P.Clients.coming (at_close unserved.port)) g.L.Ledger.parts (map g.C.Client.parting unserved.clients.items) c.args.staff
-    (g.W.Sink.written c.args.writer.now) (g.W.Sink.written c.attend-attended.new.writer) unserved.pens.items unserved.fault c.in-Err.ensures.fault is)
+    (g.W.Sink.written c.args.writer.now) (g.W.Sink.written c.attend-attended.new.writer) unserved.committers.items unserved.fault c.in-Err.ensures.fault is)

@@ -36,24 +36,24 @@ returns-clause-attended g c =
     let track = g.L.DeskName.opened.track in
     let of_desk = c.args.context.now.of_desk in
     let served = c.args.visited.now.seats.items in
-    let pens = c.args.visited.now.pens.items in
+    let committers = c.args.visited.now.committers.items in
     let brought = c.bring_all-workers.result.items in
     let swept = c.sweep-workers.result.0.items in
     let some : 0 < length c.args.workers.items = omega (arith, c.args.workers.ok.0, c.requires.workers) in
     let outcomes = c.in_ok-outcomes.outcomes.items in
     let heard = c.keep_swept.new.visited.seats.items in
-    let last = c.keep_swept.new.visited.pens.items in
+    let last = c.keep_swept.new.visited.committers.items in
     let others = c.as_slice.result.now in
     let trains : AreTrainsOfFirst brought swept (map train_of outcomes) = search rules in
     let answered : All (IsToldToOne brought swept) outcomes = search rules in
     let gained : IsPermutation (all_receipts brought ++ granted outcomes) (all_receipts swept) = search rules in
-    let is_kept : AreKept g.K.Keeper.kept swept served pens outcomes heard last = search rules in
+    let is_kept : AreKept g.K.Keeper.kept swept served committers outcomes heard last = search rules in
     let printed = c.in_ok-print_outcomes.ensures.text in
     let all : c.append.new.self.items ≡ heard ++ swept = search rules in
     λ coming partings staff same parted. record {
       outcomes = outcomes;
       sweep = swept_by g.K.Keeper.kept coming partings staff c.append.new.self.items last outcomes staff.workers.items (subst (λ (l : List Seated). 0 < length l) (sym same) some)
-          (swept_with g.K.Keeper.kept coming partings staff served others brought swept heard c.append.new.self.items pens last outcomes parted c.as_slice.ensures.value
+          (swept_with g.K.Keeper.kept coming partings staff served others brought swept heard c.append.new.self.items committers last outcomes parted c.as_slice.ensures.value
           (subst (λ workers. AllZip (IsBrought others) workers brought) (sym same) c.bring_all-workers.ensures.brought) c.sweep-workers.ensures.seats trains answered gained is_kept all);
       told = printed.0;
       tells = subst (λ track. TellsAll track outcomes printed.0) of_desk (subst (λ l. TellsAll c.args.context.now.track.now l printed.0) c.as_slice-5.ensures.value printed.1);
@@ -65,24 +65,24 @@ returns-in_err-print_outcomes-clause-cut_off g c =
     let track = g.L.DeskName.opened.track in
     let of_desk = c.args.context.now.of_desk in
     let served = c.args.visited.now.seats.items in
-    let pens = c.args.visited.now.pens.items in
+    let committers = c.args.visited.now.committers.items in
     let brought = c.bring_all-workers.result.items in
     let swept = c.sweep-workers.result.0.items in
     let some : 0 < length c.args.workers.items = omega (arith, c.args.workers.ok.0, c.requires.workers) in
     let outcomes = c.in_ok-outcomes.outcomes.items in
     let heard = c.keep_swept.new.visited.seats.items in
-    let last = c.keep_swept.new.visited.pens.items in
+    let last = c.keep_swept.new.visited.committers.items in
     let others = c.as_slice.result.now in
     let trains : AreTrainsOfFirst brought swept (map train_of outcomes) = search rules in
     let answered : All (IsToldToOne brought swept) outcomes = search rules in
     let gained : IsPermutation (all_receipts brought ++ granted outcomes) (all_receipts swept) = search rules in
-    let is_kept : AreKept g.K.Keeper.kept swept served pens outcomes heard last = search rules in
+    let is_kept : AreKept g.K.Keeper.kept swept served committers outcomes heard last = search rules in
     let part = c.in_err-print_outcomes.ensures.part in
     λ fault coming partings staff same parted. record {
       seats = heard ++ swept;
       outcomes = outcomes;
       sweep = swept_by g.K.Keeper.kept coming partings staff (heard ++ swept) last outcomes staff.workers.items (subst (λ (l : List Seated). 0 < length l) (sym same) some)
-          (swept_with g.K.Keeper.kept coming partings staff served others brought swept heard (heard ++ swept) pens last outcomes parted c.as_slice.ensures.value
+          (swept_with g.K.Keeper.kept coming partings staff served others brought swept heard (heard ++ swept) committers last outcomes parted c.as_slice.ensures.value
           (subst (λ workers. AllZip (IsBrought others) workers brought) (sym same) c.bring_all-workers.ensures.brought) c.sweep-workers.ensures.seats trains answered gained is_kept refl);
       count = part.0;
       told = part.1;

@@ -3,7 +3,7 @@ use Rattle.std.specs.List.{flat_map}
 use Rattle.std.proofs.lemmas.List.{at_drop_all, at_drop_more}
 use Rattle.rbc_replies.specs.Replies.{reply_text}
 use Rattle.rbc_replies.proofs.PrintingLemmas.{prints_nothing, prints_then, prints_stopped}
-use Rattle.rbc_sessions.proofs.resting.print_all.Goals as goal
+use Rattle.rbc_sessions.proofs.batch.print_all.Goals as goal
 
 pub returns-in_err-print : goal.returns-in_err-print
 returns-in_err-print g c =

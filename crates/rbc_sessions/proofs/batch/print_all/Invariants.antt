@@ -3,7 +3,7 @@ use Rattle.std.specs.List.{flat_map}
 use Rattle.rbc_model.specs.Sessions.{Prints}
 use Rattle.rbc_replies.specs.Replies.{reply_text}
 use Rattle.rbc_streams.specs.declared.streams.WriteFailed.{WriteFailed}
-use Rattle.rbc_sessions.proofs.resting.print_all.Given as goal
+use Rattle.rbc_sessions.proofs.batch.print_all.Given as goal
 
 -- to print the replies that are left is to print them all
 abbrev pub invariant-loop-reply : goal.invariant-loop-reply

@@ -1,7 +1,7 @@
 use Rattle.std.proofs.Common.{◌≡◌, arith, rules, ◌∙◌}
 use Rattle.hex.specs.Hex.{encode_lower}
 use Rattle.rbc_words.proofs.HexTextLemmas.{hex_of-encoded}
-use Rattle.rbc_words.proofs.gathered.write_hex.Goals as goal
+use Rattle.rbc_words.proofs.tail_buffer.write_hex.Goals as goal
 
 pub returns : goal.returns
 returns c =

@@ -1,8 +1,8 @@
 use Rattle.std.proofs.Common.{ap, subst, arith, List}
 use mathlib.Core.List.{IsPrefix}
-use Rattle.rbc_scribe.specs.declared.stamp.Stamp.{Stamp}
+use Rattle.rbc_group_commit.specs.declared.stamp.Stamp.{Stamp}
 use Rattle.rbc_logbook_laws.proofs.BeginningLemmas.{prefix_shorter}
-use Rattle.rbc_scribe.proofs.marks.Mark.go_on.Goals as goal
+use Rattle.rbc_group_commit.proofs.marks.Mark.go_on.Goals as goal
 
 pub returns-then-self-other-clause-stays : goal.returns-then-self-other-clause-stays
 returns-then-self-other-clause-stays g c =

@@ -1,8 +1,8 @@
 use Rattle.std.proofs.Common.{◌≡◌, ◌∷◌, ◌++◌, [], ◌∙◌, ap, sym, arith, length, length-append}
-use Rattle.rbc_scribe.specs.Stamps.{stamp_of}
-use Rattle.rbc_scribe.specs.declared.stamp.Stamp.{Stamp}
-use Rattle.rbc_scribe.proofs.MarkLemmas.{latest_added}
-use Rattle.rbc_scribe.proofs.marks.Marks.stamp.Goals as goal
+use Rattle.rbc_group_commit.specs.Stamps.{stamp_of}
+use Rattle.rbc_group_commit.specs.declared.stamp.Stamp.{Stamp}
+use Rattle.rbc_group_commit.proofs.MarkLemmas.{latest_added}
+use Rattle.rbc_group_commit.proofs.marks.Marks.stamp.Goals as goal
 
 pub invariant_of-mark : goal.invariant_of-mark
 invariant_of-mark g c =

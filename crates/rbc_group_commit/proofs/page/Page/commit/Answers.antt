@@ -1,7 +1,7 @@
 use Rattle.std.proofs.Common.{arith, subst, sym, true≢false}
-use Rattle.rbc_scribe.specs.Pages.{AllLast}
-use Rattle.rbc_scribe.proofs.PageLemmas.{committed, last_on, stamped}
-use Rattle.rbc_scribe.proofs.page.Page.commit.Goals as goal
+use Rattle.rbc_group_commit.specs.Pages.{AllLast}
+use Rattle.rbc_group_commit.proofs.PageLemmas.{committed, last_on, stamped}
+use Rattle.rbc_group_commit.proofs.page.Page.commit.Goals as goal
 
 pub invariant_of-self : goal.invariant_of-self
 invariant_of-self g c =

@@ -1,7 +1,7 @@
 use Rattle.std.proofs.Common.{◌≡◌, true, false, ◌∷◌, ◌++◌, [], ◌+◌, ◌∙◌, ap, sym, arith}
 use Rattle.rbc_journal.specs.Settled.{staged}
-use Rattle.rbc_scribe.proofs.PageLemmas.{taken, last_told}
-use Rattle.rbc_scribe.proofs.page.Page.take.Goals as goal
+use Rattle.rbc_group_commit.proofs.PageLemmas.{taken, last_told}
+use Rattle.rbc_group_commit.proofs.page.Page.take.Goals as goal
 
 failed_whole : (let b = true in b) ≡ false → ⊥
 failed_whole e = cc

@@ -8,4 +8,4 @@ line_of-requires g c =
     tells_asked c.args.seat.now.told c.args.receipt.now.place c.args.text told.0 told.1 told.2
 
 pub returns-in-Ok-clause-stays : goal.returns-in-Ok-clause-stays
-returns-in-Ok-clause-stays g c = λ place has. has_still c.args.pen.now c.keep.new.pen place c.in-Ok.ensures.stays has
+returns-in-Ok-clause-stays g c = λ place has. has_still c.args.committer.now c.keep.new.committer place c.in-Ok.ensures.stays has

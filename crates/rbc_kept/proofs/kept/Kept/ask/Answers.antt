@@ -1,6 +1,6 @@
 use Rattle.std.proofs.Common.{Ok}
 use Rattle.rbc_server.specs.Replies.{reply_text}
-use Rattle.rbc_session_laws.specs.declared.demand.Demand.TheVariants.{Authority}
+use Rattle.rbc_session_laws.specs.declared.command.Command.TheVariants.{Authority}
 use Rattle.rbc_server.specs.SessionLines.{request_view}
 use Rattle.rbc_kept.proofs.KeepingLemmas.{unchanged}
 use Rattle.rbc_kept.proofs.TreatingLemmas.{goes_by}
@@ -14,6 +14,6 @@ returns-in-Err-clause-text g c =
       done.0,
       λ line read.
           unchanged g.D.Device.seen g.D.Device.may_leave g.D.Device.moment g.D.Device.left_since g.D.Device.faults now c.say.new.self line reply done.0 c.requires.going
-          (goes_by now.history now.history line reply (request_view c.args.request.now) (Ok (Authority c.args.train)) read c.requires.demand c.stopped-reply.ensures.comes) done.1,
+          (goes_by now.history now.history line reply (request_view c.args.request.now) (Ok (Authority c.args.train)) read c.requires.command c.stopped-reply.ensures.comes) done.1,
       done.2,
     )

@@ -1,7 +1,7 @@
 use Rattle.std.proofs.Common.{◌∙◌, Ok, ap, subst, sym}
 use Rattle.rbc_model.specs.SessionText.{parse_session}
 use Rattle.rbc_server.specs.Replies.{reply_text, ReplyIsWhole}
-use Rattle.rbc_session_laws.specs.declared.demand.Demand.TheVariants.{Event}
+use Rattle.rbc_session_laws.specs.declared.command.Command.TheVariants.{Event}
 use Rattle.rbc_server.specs.Records.{HistoryOnTrack}
 use Rattle.rbc_server.specs.SessionLines.{request_view}
 use Rattle.rbc_streams.specs.declared.text.Text.{Text}
@@ -20,8 +20,8 @@ returns-in_default-clause-text g c =
       done.0,
       λ line read.
           advances g.D.Device.seen g.D.Device.may_leave g.D.Device.moment g.D.Device.left_since g.D.Device.faults first now c.say.new.self line reply done.0 c.requires.going
-          (goes_from first.history now.history now.history line reply (request_view c.args.request.now) (Ok (Event c.args.told.now)) room.history read c.requires.demand comes)
-          (told_still g.D.Device.seen first now c.requires.going.told room.history room.device room.staged) room.device (ap (λ (t : Text). t.bytes.items) room.replies) room.resting done.1,
+          (goes_from first.history now.history now.history line reply (request_view c.args.request.now) (Ok (Event c.args.told.now)) room.history read c.requires.command comes)
+          (told_still g.D.Device.seen first now c.requires.going.told room.history room.device room.staged) room.device (ap (λ (t : Text). t.bytes.items) room.replies) room.batch done.1,
       done.2,
     )
 
@@ -46,12 +46,12 @@ returns-clause-text g c =
       λ line read.
           let treated =
           treated_by first.history made.history after line c.as_slice.result.now (request_view c.args.request.now) (Ok (Event c.args.told.now)) c.tell-reply.result room.history read
-          (ap parse_session c.as_slice.ensures.value ∙ c.in-Ok.ensures.says) c.requires.demand comes in
+          (ap parse_session c.as_slice.ensures.value ∙ c.in-Ok.ensures.says) c.requires.command comes in
           let told =
           told_after g.D.Device.seen first made now line c.as_slice.result.now (reply_text after.track c.tell-reply.result) c.version-before.result after c.known.ensures.form c.version-before.ensures.count
           treated c.requires.going.told kept.history device room.staged kept.staged in
           advances g.D.Device.seen g.D.Device.may_leave g.D.Device.moment g.D.Device.left_since g.D.Device.faults first now c.say-2.new.self line reply done.0 c.requires.going
           (said_goes first.history after now.history line c.tell-reply.result kept.history treated.goes) told device
-          (ap (λ (t : Text). t.bytes.items) (kept.replies ∙ room.replies)) (kept.resting ∙ room.resting) done.1,
+          (ap (λ (t : Text). t.bytes.items) (kept.replies ∙ room.replies)) (kept.batch ∙ room.batch) done.1,
       done.2,
     )

@@ -4,7 +4,7 @@ use Rattle.std.proofs.lemmas.Result.{err_from_is_err_and}
 use Rattle.rbc_model.specs.Sessions.{Prints}
 use Rattle.rbc_server.specs.Replies.{reply_text}
 use Rattle.rbc_server.specs.Records.{HistoryOnTrack}
-use Rattle.rbc_kept.proofs.SayingLemmas.{said_resting, said_settled, prints_nothing, prints_lost, prints_behind}
+use Rattle.rbc_kept.proofs.SayingLemmas.{said_batched, said_settled, prints_nothing, prints_lost, prints_behind}
 use Rattle.rbc_kept.proofs.kept.Kept.say.Goals as goal
 
 pub returns-then-rest-clause-said : goal.returns-then-rest-clause-said
@@ -14,7 +14,7 @@ returns-then-rest-clause-said g c =
     let did = c.rest.ensures in
     let held = rw c.if-rest.true at did.rests in (
       [],
-      said_resting g.D.Device.seen g.D.Device.may_leave g.D.Device.moment g.D.Device.left_since g.D.Device.faults g.met.D.Device.only_now now next (reply_text now.history.track c.args.reply.now) c.requires.whole c.requires.settled did.history did.journal did.whole did.holds held did.few,
+      said_batched g.D.Device.seen g.D.Device.may_leave g.D.Device.moment g.D.Device.left_since g.D.Device.faults g.met.D.Device.only_now now next (reply_text now.history.track c.args.reply.now) c.requires.whole c.requires.settled did.history did.journal did.whole did.holds held did.few,
       prints_nothing (g.W.Sink.written c.args.writer.now) next.has_failed (g.W.Sink.failed c.args.writer.now) _ (did.whole ∙ c.requires.whole) c.requires.works refl,
     )
 

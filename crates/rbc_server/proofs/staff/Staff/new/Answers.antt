@@ -15,12 +15,12 @@ push_reserved-requires g c =
 pub loop-seat-init : goal.loop-seat-init
 loop-seat-init g c =
     let all = ap (λ l. length l) (c.into_iter-seat-iterator.ensures.into_iter_gives.0 ∙ c.in_ok-workers.ensures.items) in
-    let pens = ap (λ l. length l) c.into_iter-pens.ensures.rest in
+    let committers = ap (λ l. length l) c.into_iter-committers.ensures.rest in
     let none = ap (λ l. length l) c.in_ok-sittings.ensures.items in
     record {
       seats = none_mapped _ _ _ c.in_ok-sittings.ensures.items;
-      pens = none_mapped _ _ _ c.in_ok-sittings.ensures.items;
-      left = omega (arith, all, pens, length-take c.len-2.result c.args.seats.items, c.args.pens.ok.0, c.args.seats.ok.0, c.requires);
+      committers = none_mapped _ _ _ c.in_ok-sittings.ensures.items;
+      left = omega (arith, all, committers, length-take c.len-2.result c.args.seats.items, c.args.committers.ok.0, c.args.seats.ok.0, c.requires);
       room = refl;
       count = omega (arith, none);
     }

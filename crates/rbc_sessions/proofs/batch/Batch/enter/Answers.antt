@@ -3,7 +3,7 @@ use Rattle.std.specs.List.{flat_map}
 use Rattle.rbc_model.specs.declared.reports.Told.{Told}
 use Rattle.rbc_replies.specs.Replies.{reply_text}
 use Rattle.rbc_sessions.specs.SeatChanges.{SeatHears}
-use Rattle.rbc_sessions.proofs.resting.Resting.enter.Goals as goal
+use Rattle.rbc_sessions.proofs.batch.Batch.enter.Goals as goal
 
 pub returns-clause-heard : goal.returns-clause-heard
 returns-clause-heard g c =

@@ -30,7 +30,7 @@ say-requires-clause-told g c =
       c.in-Ok.ensures.says,
       granted_adds c.args.train (reply_text track c.reply_to-reply.result) c.in-Ok-answer.granted c.ask_by-answer.result c.args.sitting.now.seat c.ask_by-answer.new.seat (request_view c.args.request.now)
           track g.L.DeskName.opened.track c.in-Ok-answer.is c.ask_by-answer.ensures.since c.reply_to-reply.ensures.comes later.track c.args.self.now.of_desk c.known.ensures.form
-          c.requires.sayable c.requires.demand,
+          c.requires.sayable c.requires.command,
     )
 
 pub say-requires-clause-reply : goal.say-requires-clause-reply

@@ -9,7 +9,7 @@ loop-rank-preserved g c =
     let loop = c.loop-rank in
     let stays = c.keep_numbered.ensures.stays in
     record {
-      so_far = kept_next (g.K.Keeper.kept loop.pen) (g.K.Keeper.kept c.keep_numbered.new.pen) c.args.outcomes.now c.args.ranks.now loop.rank-index (record { place = 0; number = 0 })
+      so_far = kept_next (g.K.Keeper.kept loop.committer) (g.K.Keeper.kept c.keep_numbered.new.committer) c.args.outcomes.now c.args.ranks.now loop.rank-index (record { place = 0; number = 0 })
           c.loop-rank-test.true stays
           loop.invariant.so_far c.in_ok-keep_numbered.ensures.kept;
       stays = λ place k. stays place (loop.invariant.stays place k);
@@ -18,6 +18,6 @@ loop-rank-preserved g c =
 pub returns-clause-kept : goal.returns-clause-kept
 returns-clause-kept g c =
     let loop = c.loop-rank in
-    let kept = g.K.Keeper.kept loop.pen in
+    let kept = g.K.Keeper.kept loop.committer in
     all_kept kept c.args.outcomes.now c.args.ranks.now c.requires.each
     (subst (All (IsKeptRank kept c.args.outcomes.now)) (take_all loop.rank-index c.args.ranks.now c.loop-rank-test.false) loop.invariant.so_far)

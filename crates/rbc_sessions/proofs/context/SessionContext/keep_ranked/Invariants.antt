@@ -6,6 +6,6 @@ use Rattle.rbc_sessions.proofs.context.SessionContext.keep_ranked.Given as goal
 -- what led to the entries of the ranks so far is kept
 abbrev pub invariant-loop-rank : goal.invariant-loop-rank
 invariant-loop-rank g l = record {
-  so_far : All (IsKeptRank (g.K.Keeper.kept l.pen) l.outcomes) (take l.rank-index l.ranks);
-  stays : StaysKept g.K.Keeper.kept l.fn.pen l.pen;
+  so_far : All (IsKeptRank (g.K.Keeper.kept l.committer) l.outcomes) (take l.rank-index l.ranks);
+  stays : StaysKept g.K.Keeper.kept l.fn.committer l.committer;
 }

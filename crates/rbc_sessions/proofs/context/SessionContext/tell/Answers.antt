@@ -25,7 +25,7 @@ say-requires-clause-told g c =
       request_view c.args.request.now,
       c.in-Ok.ensures.says,
       told_adds c.args.told c.in-Ok-event_ahead.receipt c.place.result c.args.sitting.now.seat c.event_ahead.new.seat (request_view c.args.request.now) c.args.self.now.track.now g.L.DeskName.opened.track
-          c.in-Ok-event_ahead.ensures.since c.place.ensures later.track c.args.self.now.of_desk c.known.ensures.form c.requires.sayable c.requires.demand,
+          c.in-Ok-event_ahead.ensures.since c.place.ensures later.track c.args.self.now.of_desk c.known.ensures.form c.requires.sayable c.requires.command,
     )
 
 pub returns-in-Ok-event_ahead-clause-treated : goal.returns-in-Ok-event_ahead-clause-treated

@@ -7,7 +7,7 @@ use Rattle.rbc_sessions.proofs.hearing.Hearing.catch_up.Goals as goal
 pub returns-then-len-eq0 : goal.returns-then-len-eq0
 returns-then-len-eq0 g c = (
   [],
-  nothing_rests g.K.Keeper.kept g.L.DeskName.opened.track c.args.self.now c.requires.ready (nil_from_length c.args.self.now.resting (sym c.len.ensures ∙ c.if-len-eq0.true)),
+  nothing_rests g.K.Keeper.kept g.L.DeskName.opened.track c.args.self.now c.requires.ready (nil_from_length c.args.self.now.batch (sym c.len.ensures ∙ c.if-len-eq0.true)),
   prints_nothing _ _ [] refl c.requires.going,
 )
 
@@ -20,7 +20,7 @@ returns g c =
         whole = going.whole;
         free = going.free;
         hears = heard.1;
-        pen = refl;
+        committer = refl;
         still_whole = going.whole;
         none_rests = c.enter.ensures.none_rests;
       },

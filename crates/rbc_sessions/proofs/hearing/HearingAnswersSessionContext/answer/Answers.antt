@@ -1,6 +1,6 @@
 use Rattle.std.proofs.Common.{[], ap, refl, ◌∙◌}
 use Rattle.rbc_replies.proofs.PrintingLemmas.{prints_nothing}
-use Rattle.rbc_sessions.proofs.HearingLemmas.{advances_entered, advances_resting, advances_treated}
+use Rattle.rbc_sessions.proofs.HearingLemmas.{advances_entered, advances_batch, advances_treated}
 use Rattle.rbc_sessions.proofs.KeepingLemmas.{prints_whole}
 use Rattle.rbc_sessions.proofs.hearing.HearingAnswersSessionContext.answer.Goals as goal
 
@@ -9,7 +9,7 @@ returns-then-len-lt-MOST_RESTING-clause-reply g c =
     let rests = c.if-rest.ensures in
     let going = c.requires.ready in (
       [],
-      advances_resting g.L.DeskName.opened.track g.K.Keeper.kept g.K.Keeper.failed c.args.self.now c.rest.new.self c.args.line.now rests,
+      advances_batch g.L.DeskName.opened.track g.K.Keeper.kept g.K.Keeper.failed c.args.self.now c.rest.new.self c.args.line.now rests,
       prints_whole _ _ _ _ _ c.rest.new.self.sitting.has_failed (ap (λ s. s.has_failed) rests.sitting ∙ going.whole) (prints_nothing _ _ [] refl c.requires.going),
     )
 

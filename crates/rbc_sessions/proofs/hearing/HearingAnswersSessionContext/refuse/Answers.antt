@@ -14,7 +14,7 @@ returns-clause-reply g c =
     let now = c.args.self.now in
     let going = c.requires.ready in
     let track = c.args.context.now.track.now in
-    let none = nil_from_length now.resting c.requires.none_rests in (
+    let none = nil_from_length now.batch c.requires.none_rests in (
       refused_reply track (BadLine Overlong),
       (λ line long. advances_treated g.L.DeskName.opened.track g.K.Keeper.kept g.K.Keeper.failed now now line (refused_reply track (BadLine Overlong)) (record {
         next = now;

@@ -1,7 +1,7 @@
 use Rattle.std.proofs.Common.{rules, arith, ap, drop, decimal, length, length-append}
 use Rattle.std.proofs.lemmas.Fmt.{length-decimal-le}
 use Rattle.std.proofs.lemmas.List.{length-drop}
-use Rattle.rbc_words.proofs.gathered.Gathered.number.Goals as goal
+use Rattle.rbc_words.proofs.tail_buffer.TailBuffer.number.Goals as goal
 
 pub write_digits-self-inside-requires : goal.write_digits-self-inside-requires
 write_digits-self-inside-requires c =
