@@ -3,8 +3,10 @@
 centre tells of it. It shares nothing with the program.
 
 A file is a header, puts, and a closed gate. Each of its lines stands behind a gate; a seal ends the header and each put. A put is a
-list of lines and notes here, without gates, line feeds and seal. Digests and seals are their digits."""
+list of lines and notes here, without gates, line feeds and seal. The first one may be the beginning: the lines of a scene, each behind
+a mark. Digests and seals are their digits."""
 import hashlib
+import itertools
 import re
 import sys
 from typing import NamedTuple
@@ -13,18 +15,22 @@ FORMAT = 2
 FIRST = re.compile(rb"# rbc journal (\d+)")
 TRACK = re.compile(rb"# track ([0-9a-f]{64})")
 SEAL = re.compile(rb"# ([0-9a-f]{16})")
+MARK = b"##"  # before each line of the scene that a journal begins with
 IS_NOTED = False  # whether this program's puts have a note behind each request that was granted
 
 
 class Whole(NamedTuple):
-    """A file at rest, and the lines that it tells."""
+    """A file at rest: the lines that it tells, and those of the scene that it begins with, none where that is the empty one."""
     lines: list
+    beginning: list = []
 
 
 class Cut(NamedTuple):
-    """What a crash left: the lines that it tells, and how many bytes stand behind its closed gate, which were never acknowledged."""
+    """What a crash left: the lines that it tells, how many bytes stand behind its closed gate, which were never acknowledged, and the lines
+    of the scene that it begins with."""
     lines: list
     dropped: int
+    beginning: list = []
 
 
 class Damaged(NamedTuple):
@@ -79,6 +85,16 @@ def at_rest(digest, puts):
     return chain(digest, puts)[0] + b"#"
 
 
+def begun(digest, beginning, puts):
+    """A journal at rest that begins with the scene of these lines, if there are any."""
+    return at_rest(digest, [marked(beginning), *puts] if beginning else puts)
+
+
+def marked(beginning):
+    """The put of a beginning."""
+    return [MARK + line for line in beginning]
+
+
 def in_flight(digest, puts, more):
     """The file while another put is written behind its closed gate, with all of it there and the gate still closed."""
     bytes_of, before = chain(digest, puts)
@@ -130,6 +146,11 @@ def told_by(puts):
     return [line for put in puts for line in put if line[:1] != b"#"]
 
 
+def beginning_of(puts):
+    """The lines of the scene that puts begin with: those at the front of the first one that have the mark, without it."""
+    return [line.removeprefix(MARK) for line in itertools.takewhile(lambda line: line.startswith(MARK), puts[0] if puts else [])]
+
+
 def parts(file):
     """The header's and the other lines that count, and the tail: whether or not seals are right."""
     lines, tail = lines_of(file)
@@ -160,7 +181,8 @@ def read(file, digest):
         return Damaged(1 + len(header) + len(lines) - len(further))
     if track[1] != digest:
         return OtherTrack(track[1])
-    return Whole(told_by(puts)) if tail == b"#" else Cut(told_by(puts), len(tail) - 1)
+    told, beginning = told_by(puts), beginning_of(puts)
+    return Whole(told, beginning) if tail == b"#" else Cut(told, len(tail) - 1, beginning)
 
 
 # ---- told
@@ -171,7 +193,7 @@ def end_of(reading, digest):
     match reading:
         case Whole():
             return 0, ""
-        case Cut(_, dropped):
+        case Cut(_, dropped, _):
             return 0, f"rbc: journal: {dropped} bytes behind the last line dropped\n"
         case Damaged(line):
             return 3, f"rbc: journal: damaged at line {line}; the {line - 1} lines before it stand\n"
@@ -190,5 +212,16 @@ def foreign(number):
     return 3, f"rbc: journal: Foreign {number}\n"
 
 
-if __name__ == "__main__":  # a journal of the lines on standard input, each put by itself
-    sys.stdout.buffer.write(at_rest(digest_of(sys.argv[1]), [[line] for line in sys.stdin.buffer.read().splitlines()]))
+def not_begun(number, fault):
+    """How it ends where the line of this number of the beginning, from 1 on, has this fault: what it tells first."""
+    return 3, f"rbc: journal: beginning: line {number}: {fault}\n"
+
+
+def lines_in_file(path):
+    with open(path, "rb") as file:
+        return file.read().splitlines()
+
+
+if __name__ == "__main__":  # a journal of the lines on standard input, each put by itself, that begins with the scene of a file, if one is named
+    scene = lines_in_file(sys.argv[2]) if len(sys.argv) > 2 else []
+    sys.stdout.buffer.write(begun(digest_of(sys.argv[1]), scene, [[line] for line in sys.stdin.buffer.read().splitlines()]))

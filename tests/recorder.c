@@ -1,5 +1,5 @@
 /* Writes down what the program that loads it asks of the files in a folder, and what it says, and has some of these calls
- * fail, as these words of its environment say. It is loaded before the C library, by tests/crash and tests/power.
+ * fail, as these words of its environment say. It is loaded before the C library, by tests/begin, tests/crash and tests/power.
  *
  *   RECORDER_FOLDER PATH   the folder, which is watched with all that lies in it
  *   RECORDER_LOG FILE      each call becomes a line of this file, once it is done. F is the number of an open file, -1 where there
@@ -10,15 +10,17 @@
  *                            fail F WORD    (a call of this name that is made to fail; behind open and rename stands the path)
  *   RECORDER_CALL N        the N-th of the calls on the folder fails, and no other; those that close are not counted
  *   RECORDER_HALF 1        if that is a write, half of its bytes are written all the same
+ *   RECORDER_KILL 1        the program is killed there, in place of that call
  *   RECORDER_BYTES N       writes to the folder fail once N bytes were written
  *   RECORDER_ERROR N       calls that fail give this number of the system, and else 5, which is EIO
  */
 /* It includes no file, so that any compiler for Linux on x86-64 will do. */
 typedef __SIZE_TYPE__ size_t;
 typedef long ssize_t;
-enum { EIO = 5, O_WRONLY = 1, O_CREAT = 64, O_TRUNC = 512, O_APPEND = 1024, SEEK_CUR = 1, FILES = 4096 };
-enum { SYS_WRITE = 1, SYS_OPEN = 2, SYS_CLOSE = 3, SYS_LSEEK = 8, SYS_PWRITE = 18, SYS_YIELD = 24, SYS_SENDTO = 44, SYS_FLOCK = 73,
-       SYS_FSYNC = 74, SYS_FDATASYNC = 75, SYS_FTRUNCATE = 77, SYS_RENAME = 82, SYS_UNLINK = 87, SYS_FCHMOD = 91, SYS_ACCEPT4 = 288 };
+enum { EIO = 5, O_WRONLY = 1, O_CREAT = 64, O_TRUNC = 512, O_APPEND = 1024, SEEK_CUR = 1, SIGKILL = 9, FILES = 4096 };
+enum { SYS_WRITE = 1, SYS_OPEN = 2, SYS_CLOSE = 3, SYS_LSEEK = 8, SYS_PWRITE = 18, SYS_YIELD = 24, SYS_GETPID = 39, SYS_SENDTO = 44,
+       SYS_KILL = 62, SYS_FLOCK = 73, SYS_FSYNC = 74, SYS_FDATASYNC = 75, SYS_FTRUNCATE = 77, SYS_RENAME = 82, SYS_UNLINK = 87,
+       SYS_FCHMOD = 91, SYS_ACCEPT4 = 288 };
 #define LONG_MAX __LONG_MAX__
 #define errno (*__errno_location())
 extern int *__errno_location(void);
@@ -35,7 +37,7 @@ enum kind { UNWATCHED, OF_THE_FOLDER, SPEAKING };
 static const char *folder;
 static int log_file = -1;
 static long calls, call_to_fail, bytes_left;
-static int writes_half, error_told;
+static int writes_half, is_killed, error_told;
 static unsigned char kinds[FILES];
 static int is_noting;
 
@@ -51,6 +53,7 @@ __attribute__((constructor)) static void begin(void) {
   call_to_fail = number("RECORDER_CALL", 0);
   bytes_left = number("RECORDER_BYTES", LONG_MAX);
   writes_half = number("RECORDER_HALF", 0) != 0;
+  is_killed = number("RECORDER_KILL", 0) != 0;
   error_told = (int)number("RECORDER_ERROR", EIO);
   kinds[1] = SPEAKING;
 }
@@ -149,6 +152,7 @@ static int is_in_folder(const char *path) {
 static int fails_on(const char *word, int file, const char *path, int has_reason) {
   int is_due = __atomic_add_fetch(&calls, 1, __ATOMIC_SEQ_CST) == call_to_fail || has_reason;
   if (!is_due) return 0;
+  if (is_killed) syscall(SYS_KILL, syscall(SYS_GETPID), SIGKILL);
   note("fail", file, word, path);
   errno = error_told;
   return 1;

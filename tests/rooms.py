@@ -35,6 +35,14 @@ def encoded(lines):
     return [line.encode() for line in lines]
 
 
+def scene_behind(command, track, lines):
+    """The lines of the scene that lines of a session lead to."""
+    said = "".join(f"{line}\n" for line in [*lines, "scene"])
+    ended = subprocess.run([command, "run", track], input=said.encode(), stdout=subprocess.PIPE, timeout=LONGEST_WAIT, check=True)
+    written = ended.stdout.decode().splitlines()
+    return written[max(at for at, line in enumerate(written) if line.startswith("scene ")):]
+
+
 def reading_of(path, track):
     with open(path, "rb") as file:
         return journals.read(file.read(), journals.digest_of(track))
@@ -139,9 +147,20 @@ class Room:
         if not isinstance(reading, Whole | Cut):
             return None, None if self.files() == before else f"{sorted(self.files())} were touched"
         with open(self.history) as history:
-            entries = history.read().splitlines()
+            told = history.read().splitlines()
+        begins = [f"# begins with {reading.beginning[0].decode()}"] if reading.beginning else []
+        entries = told[len(begins):]
+        is_told = told[:len(begins)] == begins and encoded(entries) == reading.lines
         return entries, self.left_wrong(before, file, reading) or (
-            None if encoded(entries) == reading.lines else f"the history ends with {entries[-3:]}, and the journal with {reading.lines[-3:]}")
+            None if is_told else f"the history is {told[:1]}..{told[-3:]}, and the journal {begins}..{reading.lines[-3:]}")
+
+    def refused(self, reason, *further):
+        """What is wrong where the journal is not refused for this reason, told first, with all as it was."""
+        before = self.files()
+        (status, told), written = self.run("", *further)
+        if (status, told.split("\n")[0], written) != (3, f"rbc: journal: {reason}", ""):
+            return f"it ends with {status} and {told!r}, not for {reason!r}, and writes {written!r}"
+        return None if self.files() == before else f"refused for {reason!r}, it leaves {sorted(self.files())}"
 
     def left_wrong(self, before, file, reading):
         """What is wrong with what a centre left that found these files, and was given no line: what it dropped is behind what it dropped before."""
