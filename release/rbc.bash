@@ -19,7 +19,7 @@ _rbc() {
     show) COMPREPLY=($(compgen -W "--each --page --help" -- "$word")); compopt -o default ;;
     track) COMPREPLY=($(compgen -W "--lines --help" -- "$word")); compopt -o default ;;
     serve) COMPREPLY=($(compgen -W "--port --stay --connections --workers --sweep --patience --log --from --journal --entries --page --page-address --help" -- "$word")); compopt -o default ;;
-    journal) COMPREPLY=($(compgen -W "--lines --follow --first --renew --help" -- "$word")); compopt -o default ;;
+    journal) COMPREPLY=($(compgen -W "--lines --follow --first --renew --close --help" -- "$word")); compopt -o default ;;
     help) COMPREPLY=($(compgen -W "steps check decode draw run show track serve journal help" -- "$word")) ;;
   esac
 }
