@@ -239,9 +239,9 @@ def goes_on_behind_a_kill(page, centre, start):
     centre = start()
     try:
         now = ask_once(centre.page, "/scene").tag()[1]
-        bar = "document.getElementById('live')"
-        page.comes_to(f"{bar}.className === 'live'", "it is live again", 2 * SOON)
-        expect(f"with version {now} behind {version}" in page.bar(), "the new beginning is told, with its versions", (page.bar(), now, version))
+        bar, words = "document.getElementById('live')", f"with version {now} behind {version}"
+        page.comes_to(f"{bar}.textContent.includes('{words}')", "the new beginning is told, with its versions", 2 * SOON)
+        expect(page.say(f"{bar}.className") == "live", "it is live again", page.bar())
         expect(f"The centre began anew, with version {now} behind {version}." in page.spoken(), "and spoken of", page.spoken())
         expect("the centre began anew" in page.told("#log [aria-current]"), "and listed", page.texts("#log li"))
         client = Connection(centre.port)
