@@ -16,7 +16,6 @@ FIRST = re.compile(rb"# rbc journal (\d+)")
 TRACK = re.compile(rb"# track ([0-9a-f]{64})")
 SEAL = re.compile(rb"# ([0-9a-f]{16})")
 MARK = b"##"  # before each line of the scene that a journal begins with
-IS_NOTED = False  # whether this program's puts have a note behind each request that was granted
 
 
 class Whole(NamedTuple):
@@ -95,6 +94,11 @@ def marked(beginning):
     return [MARK + line for line in beginning]
 
 
+def is_marked(put):
+    """Whether a put begins as a beginning does."""
+    return bool(put) and put[0].startswith(MARK)
+
+
 def in_flight(digest, puts, more):
     """The file while another put is written behind its closed gate, with all of it there and the gate still closed."""
     bytes_of, before = chain(digest, puts)
@@ -132,13 +136,15 @@ def puts_in(before, lines):
 
 def is_left_by_a_crash(before, tail):
     """Whether a crash leaves this behind the last line that counts, from the gate on."""
-    lines, rest = lines_of(b" " + tail[1:])
-    puts, further = puts_in(before, lines)
+    written = b" " + tail[1:]
+    put = puts_in(before, lines_of(written)[0])[0][:1]
+    behind = written[len(sealed(before, put)[0]):]
+    if put and is_marked(put[0]):
+        return False  # a beginning comes with its file
     if tail[:1] == b"#":
         # no gate is open behind a put whose own gate is closed, but for a closed one at the end of the file that was torn
-        behind = (b" " + tail[1:])[len(sealed(before, puts[:1])[0]):]
-        return not puts or behind[:1] != b" " or len(behind) == 1
-    return bool(puts) and not further and rest == b"#"
+        return not put or behind[:1] != b" " or len(behind) == 1
+    return bool(put) and behind == b"#"
 
 
 def told_by(puts):

@@ -12,7 +12,7 @@ use crate::output::is_reader_gone;
 use crate::reason::Reason;
 use clap::error::ErrorKind;
 use rbc_duty::Unstayed;
-use rbc_journal_file::{Calls, OpenFault, Place, ReadFault, Recorded};
+use rbc_journal_file::{Calls, JournalPaths, OpenFault, ReadFault, Recorded};
 use rbc_model::Memory;
 use rbc_show::kept::KeptFault;
 use rbc_show::kept::server::{ServeFault, Unserved};
@@ -54,7 +54,7 @@ pub enum Failure {
     History(HistoryFault, Reason),
     /// A journal is not opened, not gone on with, not told of, or its lines are not taken over; and where its files stand,
     /// if one of them may have failed.
-    Journal(JournalFault, Option<Place>),
+    Journal(JournalFault, Option<JournalPaths>),
     /// The port of a centre that serves connections can't be opened.
     NoPort(Reason),
     /// A centre that serves connections ended early.
@@ -154,7 +154,7 @@ impl Failure {
 fn tell_journal_fault(
     rt: &impl Eprint,
     fault: &JournalFault,
-    place: Option<&Place>,
+    place: Option<&JournalPaths>,
 ) -> io::Result<()> {
     eprintln!(rt; "rbc: {fault}")?;
     let (Some(failed), Some(place)) = (fault.call_failed(), place) else {
@@ -170,7 +170,7 @@ pub(crate) fn file_failed<C: Calls>(file: &Recorded<C>) -> Failure {
 }
 
 /// An outcome with the place of the journal's files, if it is a fault of them.
-pub(crate) fn at_place(outcome: Result<(), Failure>, place: Place) -> Result<(), Failure> {
+pub(crate) fn at_place(outcome: Result<(), Failure>, place: JournalPaths) -> Result<(), Failure> {
     match outcome {
         Ok(()) => Ok(()),
         Err(failure) => Err(failed_at(failure, place)),
@@ -178,7 +178,7 @@ pub(crate) fn at_place(outcome: Result<(), Failure>, place: Place) -> Result<(),
 }
 
 /// A failure with the place of the journal's files, if it is a fault of them.
-pub(crate) fn failed_at(failure: Failure, place: Place) -> Failure {
+pub(crate) fn failed_at(failure: Failure, place: JournalPaths) -> Failure {
     match &failure {
         Failure::Journal(fault, _) => Failure::Journal(*fault, Some(place)),
         _ => failure,
@@ -230,6 +230,7 @@ impl From<KeptFault> for Failure {
     fn from(fault: KeptFault) -> Failure {
         match fault {
             KeptFault::Foreign(line) => JournalFault::Foreign(line).into(),
+            KeptFault::Differs(line) => JournalFault::Differs(line).into(),
             KeptFault::Entries(most) => JournalFault::Entries(most).into(),
             KeptFault::Full | KeptFault::Device => JournalFault::Failed(None).into(),
             KeptFault::Memory => Failure::Memory,

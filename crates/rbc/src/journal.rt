@@ -27,7 +27,7 @@ use crate::watching::watch_on;
 use rbc_command_line::{CentreOptions, Service, Staying};
 use rbc_hints::Prompted;
 use rbc_journal_file::{
-    Found, Place, Readable, Recorded, Timed, beginning_in, begun_file, next_told, read,
+    FoundFile, JournalPaths, Readable, Recorded, Timed, beginning_in, begun_file, next_told, read,
 };
 use rbc_model::Memory;
 use rbc_port::tally::Tally;
@@ -63,7 +63,7 @@ pub(crate) fn run_kept<I: BufRead + Drop + IsTerminal>(
 ) -> Result<(), Failure>
     requires { IsLine track.digest }
 {
-    let place = Place::at(rt, journal)?;
+    let place = JournalPaths::at(rt, journal)?;
     let outcome = run_at(rt, &place, centre, track);
     at_place(outcome, place)
 }
@@ -78,7 +78,7 @@ fn run_at<I: BufRead + Drop + IsTerminal>(
         + Clock
         + Eprint
         + Sync),
-    place: &Place,
+    place: &JournalPaths,
     centre: &CentreOptions<'_>,
     track: TrackFile,
 ) -> Result<(), Failure>
@@ -142,7 +142,7 @@ pub(crate) fn serve_with(
 ) -> Result<(), Failure>
     requires { IsLine track.digest }
 {
-    let place = Place::at(rt, journal)?;
+    let place = JournalPaths::at(rt, journal)?;
     let outcome = serve_at(rt, &place, track, service);
     at_place(outcome, place)
 }
@@ -161,7 +161,7 @@ fn serve_at(
         + Send
         + Sync
         + 'static),
-    place: &Place,
+    place: &JournalPaths,
     track: TrackFile,
     service: &Service,
 ) -> Result<(), Failure>
@@ -211,7 +211,7 @@ pub(crate) fn stay_with<I: BufRead + Drop + Send + 'static>(
 ) -> Result<(), Failure>
     requires { IsLine track.digest }
 {
-    let place = Place::at(rt, journal)?;
+    let place = JournalPaths::at(rt, journal)?;
     let outcome = stay_at(rt, &place, track, staying);
     at_place(outcome, place)
 }
@@ -231,7 +231,7 @@ fn stay_at<I: BufRead + Drop + Send + 'static>(
         + Send
         + Sync
         + 'static),
-    place: &Place,
+    place: &JournalPaths,
     track: TrackFile,
     staying: &Staying,
 ) -> Result<(), Failure>
@@ -282,7 +282,7 @@ struct Wanted<'a> {
 /// then, tells more entries than the history may have, or fails; `Begin`, where the scene that is wanted can't be had; `Memory`.
 fn opened<'r, 't, R: Files<File = File> + AllocGlobal + Threads + Clock + Eprint + Sync>(
     rt: &'r R,
-    place: &Place,
+    place: &JournalPaths,
     track: TrackFile,
     wanted: &Wanted<'_>,
     tally: Option<&'t Tally>,
@@ -348,7 +348,7 @@ fn resumed<'r, 't, R: Files<File = File> + AllocGlobal + Threads + Clock + Sync>
     track: Arc<Track>,
     most: EntryLimit,
     read: &Readable<'_>,
-    found: &Found<'_>,
+    found: &FoundFile<'_>,
     tally: Option<&'t Tally>,
 ) -> Result<(Kept<Recorded<Timed<'r, 't, R>>>, Option<u64>), Failure>
     requires whole { IsWholeText read.now.text.now read.now.seal }
@@ -368,7 +368,7 @@ fn resumed<'r, 't, R: Files<File = File> + AllocGlobal + Threads + Clock + Sync>
 /// Those of [`opened`].
 fn untallied<'r, R: Files<File = File> + AllocGlobal + Threads + Clock + Eprint + Sync>(
     rt: &'r R,
-    place: &Place,
+    place: &JournalPaths,
     track: TrackFile,
     wanted: &Wanted<'_>,
 ) -> Result<(Kept<Recorded<Timed<'r, 'r, R>>>, Option<u64>), Failure>
@@ -386,7 +386,7 @@ fn untallied<'r, R: Files<File = File> + AllocGlobal + Threads + Clock + Eprint 
 /// Those of [`opened`].
 fn tallied<'r, 't, R: Files<File = File> + AllocGlobal + Threads + Clock + Eprint + Sync>(
     rt: &'r R,
-    place: &Place,
+    place: &JournalPaths,
     track: TrackFile,
     wanted: &Wanted<'_>,
     tally: &'t Tally,
@@ -423,7 +423,7 @@ fn recovered<'r, 't, R: Files<File = File> + AllocGlobal + Threads + Clock + Syn
     rt: &'r R,
     empty: Record,
     read: &Readable<'_>,
-    found: &Found<'_>,
+    found: &FoundFile<'_>,
     tally: Option<&'t Tally>,
 ) -> Result<Kept<Recorded<Timed<'r, 't, R>>>, Failure>
     requires empty { empty.entries ≡ [] }

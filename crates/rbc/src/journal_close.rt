@@ -12,8 +12,8 @@ use crate::journal_fault::JournalFault;
 use crate::journal_report::{created, remove};
 use crate::limit::limit_of;
 use crate::track::{TrackFile, read_track};
-use rbc_command_line::Closing;
-use rbc_journal_file::{Place, next_told, open};
+use rbc_command_line::JournalClosing;
+use rbc_journal_file::{JournalPaths, next_told, open};
 use rbc_model::Memory;
 use rbc_show::kept::{Device, replay};
 use rbc_trackfile::Track;
@@ -31,15 +31,15 @@ use std::thread::Threads;
 /// there already or fails; `Memory`.
 pub(crate) fn close_journal(
     rt: &(impl Files<File = File> + AllocGlobal + Threads + Sync),
-    closing: &Closing,
+    closing: &JournalClosing,
 ) -> Result<(), Failure> {
     let track = read_track(rt, closing.track)?;
-    let place = Place::at(rt, closing.journal)?;
+    let place = JournalPaths::at(rt, closing.journal)?;
     let lines = match last_lines(rt, &place, track) {
         Ok(lines) => lines,
         Err(failure) => return Err(failed_at(failure, place)),
     };
-    let place = Place::at(rt, closing.out)?;
+    let place = JournalPaths::at(rt, closing.out)?;
     let written = write_new(rt, lines.as_slice(), &place);
     at_place(written, place)
 }
@@ -47,7 +47,7 @@ pub(crate) fn close_journal(
 /// The lines of the scene that the journal whose files stand at this place leads to.
 fn last_lines(
     rt: &(impl Files<File = File> + AllocGlobal + Threads + Sync),
-    place: &Place,
+    place: &JournalPaths,
     track: TrackFile,
 ) -> Result<Vec<u8>, Failure>
     requires { IsLine track.digest }
@@ -97,7 +97,7 @@ fn count_told(text: &[u8]) -> usize {
 fn write_new(
     rt: &(impl Files<File = File> + AllocGlobal),
     lines: &[u8],
-    place: &Place,
+    place: &JournalPaths,
 ) -> Result<(), Failure> {
     let mut file = created(rt, place)?;
     if file.write_at(0, lines).is_err() || file.sync().is_err() {

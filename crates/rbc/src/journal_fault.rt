@@ -25,6 +25,10 @@ pub enum JournalFault {
     /// another program.
     #[error("journal: Foreign {0}")]
     Foreign(u64),
+    /// The grant that is noted behind the line of this number, of those that it tells, from 1 on, comes out otherwise: another
+    /// program granted it.
+    #[error("journal: Differs {0}")]
+    Differs(u64),
     /// It tells entries, and a scene is named to begin with.
     #[error("journal: tells entries already; --from begins a new one")]
     Begun,
@@ -70,6 +74,7 @@ impl JournalFault {
             JournalFault::OtherName
             | JournalFault::Read(_)
             | JournalFault::Foreign(_)
+            | JournalFault::Differs(_)
             | JournalFault::Begun
             | JournalFault::OtherBeginning
             | JournalFault::Beginning(_, _)

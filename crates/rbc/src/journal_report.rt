@@ -13,7 +13,7 @@ use crate::output::{ended, standard_output};
 use crate::reason::Reason;
 use crate::track::{unread, unreadable};
 use rbc_command_line::{JournalWork, Journaled};
-use rbc_journal_file::{OpenFault, Place, Recorded, Role, SystemFile, create};
+use rbc_journal_file::{JournalPaths, OpenFault, Recorded, Role, SystemFile, create};
 use rbc_journal_report::{
     CopyFault, JournalFault as PutFault, check, copy_first, digest_of, print_lines, print_report,
     renew,
@@ -48,12 +48,12 @@ pub(crate) fn tell_journal(
         JournalWork::Lines => write_lines(rt, bytes.as_slice(), given),
         JournalWork::Follow => follow_file(rt, asked.file, given),
         JournalWork::First(lines, out) => {
-            let place = Place::at(rt, out)?;
+            let place = JournalPaths::at(rt, out)?;
             let taken = take_first(rt, bytes.as_slice(), given, lines, &place);
             at_place(taken, place)
         }
         JournalWork::Renew(out) => {
-            let place = Place::at(rt, out)?;
+            let place = JournalPaths::at(rt, out)?;
             let taken = take_all(rt, bytes.as_slice(), given, &place);
             at_place(taken, place)
         }
@@ -110,7 +110,7 @@ fn write_lines(
 /// Makes a new file, which has nothing.
 pub(crate) fn created(
     rt: &impl Files<File = File>,
-    place: &Place,
+    place: &JournalPaths,
 ) -> Result<Recorded<SystemFile>, Failure>
     ensures seen { IfOk result (λ file. seen (past_of file) ≡ []) }
     ensures durable { IfOk result (λ file. Only (seen (past_of file)) (may_leave (past_of file))) }
@@ -128,7 +128,7 @@ fn take_first(
     bytes: &[u8],
     given: Option<[u8; 64]>,
     lines: u64,
-    place: &Place,
+    place: &JournalPaths,
 ) -> Result<(), Failure> {
     let device = created(rt, place)?;
     match copy_first(rt.alloc(), bytes, lines, given, device) {
@@ -145,7 +145,7 @@ fn take_all(
     rt: &(impl Files<File = File> + AllocGlobal),
     bytes: &[u8],
     given: Option<[u8; 64]>,
-    place: &Place,
+    place: &JournalPaths,
 ) -> Result<(), Failure>
     requires { IfSome given (λ digest. IsLine digest) }
 {
@@ -163,7 +163,7 @@ fn take_all(
 }
 
 /// Takes away a new file, which was made for lines that it does not have.
-pub(crate) fn remove(rt: &impl Files, place: &Place) {
+pub(crate) fn remove(rt: &impl Files, place: &JournalPaths) {
     let _ = fs::remove_file(rt, place.of(Role::Journal));
 }
 

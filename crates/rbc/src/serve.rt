@@ -198,7 +198,7 @@ fn open<
     requires opened { opening.history ≡ L.opened }
     requires name { opening.blank.ledger.name ≡ L.name }
     requires parts { opening.blank.ledger.parts ≡ L.parts }
-    requires book { opening.blank.journal ≡ L.book }
+    requires book { opening.blank.book ≡ L.book }
     requires one_each { opening.seats ≡ L.parts }
     requires some { 1 ≤ opening.connections }
     requires workers { opening.connections ≤ opening.seats }

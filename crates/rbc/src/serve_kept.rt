@@ -46,7 +46,7 @@ pub(crate) fn serve_kept<
     requires ready { IsReady (λ file. seen (past_of file)) (λ file. may_leave (past_of file)) kept }
 {
     let opening = Opening::new(kept, service);
-    let stamps = group_commit::Blank::new();
+    let stamps = group_commit::BlankStamps::new();
     open::<Brand, Brand, _, _, _, _, Port<N>, D, W, T>(rt, alloc, port, opening, stamps, writer)
 }
 
@@ -67,7 +67,7 @@ fn open<
     alloc: Global,
     port: P,
     opening: Opening<Kept<Recorded<D>>>,
-    stamps: group_commit::Blank,
+    stamps: group_commit::BlankStamps,
     writer: &mut W,
 ) -> Result<(), Failure>
     requires going { W.failed writer.old ≡ false }
@@ -75,7 +75,7 @@ fn open<
     requires opened { opening.history.history ≡ L.opened }
     requires name { opening.blank.ledger.name ≡ L.name }
     requires parts { opening.blank.ledger.parts ≡ L.parts }
-    requires book { opening.blank.journal ≡ L.book }
+    requires book { opening.blank.book ≡ L.book }
     requires stamps { stamps ≡ N.book }
     requires one_each { opening.seats ≡ L.parts }
     requires some { 1 ≤ opening.connections }

@@ -136,7 +136,7 @@ fn open<
     requires opened { opening.history ≡ L.opened }
     requires name { opening.blank.ledger.name ≡ L.name }
     requires parts { opening.blank.ledger.parts ≡ L.parts }
-    requires book { opening.blank.journal ≡ L.book }
+    requires book { opening.blank.book ≡ L.book }
     requires one_each { opening.seats ≡ L.parts }
     requires places { vec_len ports + length (option_to_list page) ≡ opening.seats }
     requires few { (1 ≤ vec_len ports) × (opening.seats ≤ 65) }

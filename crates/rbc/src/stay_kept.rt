@@ -56,7 +56,7 @@ pub(crate) fn stay_kept<
     let opening = Opening::for_places(kept, ports.len(), lookers(&page));
     let journaled = Journaled {
         opening,
-        stamps: group_commit::Blank::new(),
+        stamps: group_commit::BlankStamps::new(),
     };
     open::<Brand, Brand, _, _, _, _, Port<N>, U, M, D, E, W, T>(
         rt, alloc, closing, ports, page, journaled, writer,
@@ -67,7 +67,7 @@ pub(crate) fn stay_kept<
 struct Journaled<D: Calls> {
     opening: Opening<Kept<Recorded<D>>>,
     /// The blank of the stamps that its committers are given.
-    stamps: group_commit::Blank,
+    stamps: group_commit::BlankStamps,
 }
 
 /// A desk over the record, with its group commit and with seats that have committers, and who looks on from a seat of its own, if there is a
@@ -100,7 +100,7 @@ fn open_desk<
     requires opened { journaled.opening.history.history ≡ L.opened }
     requires name { journaled.opening.blank.ledger.name ≡ L.name }
     requires parts { journaled.opening.blank.ledger.parts ≡ L.parts }
-    requires book { journaled.opening.blank.journal ≡ L.book }
+    requires book { journaled.opening.blank.book ≡ L.book }
     requires stamps { journaled.stamps ≡ N.book }
     requires one_each { journaled.opening.seats ≡ L.parts }
     requires looker { length (option_to_list page) ≤ journaled.opening.seats }
@@ -230,7 +230,7 @@ fn open<
     requires opened { journaled.opening.history.history ≡ L.opened }
     requires name { journaled.opening.blank.ledger.name ≡ L.name }
     requires parts { journaled.opening.blank.ledger.parts ≡ L.parts }
-    requires book { journaled.opening.blank.journal ≡ L.book }
+    requires book { journaled.opening.blank.book ≡ L.book }
     requires stamps { journaled.stamps ≡ N.book }
     requires one_each { journaled.opening.seats ≡ L.parts }
     requires places { vec_len ports + length (option_to_list page) ≡ journaled.opening.seats }

@@ -6,7 +6,7 @@ ghost use Rattle.std.specs.Io.Buffered.{writer_buffer};
 use crate::failure::Failure;
 use crate::history::is_at;
 use crate::output::{Output, output_to};
-use rbc_hints::{Heard, Terminal};
+use rbc_hints::{Overheard, Terminal};
 use rbc_model::{Memory, SectionId};
 use rbc_show::kept::server::Record;
 use rbc_show::{Buffered, Stream};
@@ -17,7 +17,7 @@ use std::io::{self, BufRead, Eprint, IsTerminal, Printer};
 use std::sync::Arc;
 
 /// The standard output, whose replies are heard at the terminal, if there is one.
-pub(crate) type HeardOutput<'a, R> = Stream<Buffered<Output<Heard<'a, Printer<'a, R>, R>>>>;
+pub(crate) type HeardOutput<'a, R> = Stream<Buffered<Output<Overheard<'a, Printer<'a, R>, R>>>>;
 
 /// The terminal, where the standard input and the standard error are one, for a session on this track.
 ///
@@ -82,5 +82,5 @@ pub(crate) fn heard_output<'a, R: Print + Eprint + AllocGlobal>(
     ensures failed { IfOk result (λ output. output.inner.failed ≡ false) }
     ensures none_held_back { IfOk result (λ output. writer_buffer output.inner.writer ≡ []) }
 {
-    output_to(rt.alloc(), Heard::new(io::writer(rt), terminal))
+    output_to(rt.alloc(), Overheard::new(io::writer(rt), terminal))
 }

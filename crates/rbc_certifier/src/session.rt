@@ -10,7 +10,7 @@ ghost use Rattle.rbc_certifier.specs.Answered.{AnswersAllSteps};
 use crate::answers::answer_line;
 use rbc_model::limits::LONGEST_LINE;
 use rbc_model::{LineFault, SessionFault, StepsRefusal};
-use rbc_streams::{Answers, Sink, Source, WriteFailed, converse};
+use rbc_streams::{LineHandler, Sink, Source, WriteFailed, serve_lines};
 use rbc_words::print_refusal;
 use std::alloc::Global;
 use std::thread::Threads;
@@ -19,7 +19,7 @@ use std::thread::Threads;
 #[derive(Drop)]
 struct Certifier;
 
-impl Answers<()> for Certifier {
+impl LineHandler<()> for Certifier {
     type State = ();
 
     ghost use Rattle.std.specs.Prelude.{⊤, false, refl};
@@ -103,5 +103,5 @@ pub fn steps<R: Source, W: Sink>(
     // And it was handed on, unless the writer failed.
     ensures handed_on { W.failed writer.new ≡ false → W.held_back writer.old ≡ [] → W.held_back writer.new ≡ [] }
 {
-    converse(rt, alloc, reader, writer, &mut Certifier, &())
+    serve_lines(rt, alloc, reader, writer, &mut Certifier, &())
 }

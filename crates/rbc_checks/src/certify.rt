@@ -11,7 +11,7 @@ ghost use Rattle.rbc_words.specs.StepsLines.{request_view};
 ghost use Rattle.rbc_checks.specs.Verdicts.{rows_verdict, steps_verdict, ArePartsOf};
 
 use crate::lines::ToldProfile;
-use crate::table::{Told, price_at, steps_of};
+use crate::table::{ToldLevel, price_at, steps_of};
 use crate::{Rows, Spare};
 use rbc_model::scales::unit_of;
 use rbc_model::{OrMemory, ProfileFault, Reason};
@@ -82,7 +82,7 @@ pub(crate) fn certify_grades(
 ///
 /// - `Refused`: `Shape`, where the runs make no track, or the kind has no such value.
 /// - `Memory`
-fn parts_of<V: Told>(
+fn parts_of<V: ToldLevel>(
     room: Vec<(u32, V)>,
     request: StepsRequest<V>,
     steps: &[(u32, i64)],

@@ -15,7 +15,7 @@ use crate::verdict::{Verdict, judge, print_said};
 use crate::{CheckLine, Spare, parse_check};
 use rbc_model::Part;
 use rbc_model::limits::LONGEST_CHECK_LINE;
-use rbc_streams::{Answers, SessionFault, Sink, Source, WriteFailed, converse, put};
+use rbc_streams::{LineHandler, SessionFault, Sink, Source, WriteFailed, put, serve_lines};
 use std::alloc::Global;
 use std::marker::Model;
 use std::mem;
@@ -106,7 +106,7 @@ impl Checker {
     }
 }
 
-impl Answers<()> for Checker {
+impl LineHandler<()> for Checker {
     type State = Checker;
 
     ghost use Rattle.std.specs.Prelude.{⊤, false, refl};
@@ -216,7 +216,7 @@ pub fn check<R: Source, W: Sink>(
     ensures handed_on { W.failed writer.new ≡ false → W.held_back writer.old ≡ [] → W.held_back writer.new ≡ [] }
 {
     let mut checker = Checker::new(alloc);
-    converse(rt, alloc, reader, writer, &mut checker, &())?;
+    serve_lines(rt, alloc, reader, writer, &mut checker, &())?;
     print_said(checker.close(), writer)?;
     writer.flush()?;
     Ok(!checker.refused)

@@ -12,7 +12,7 @@ use rbc_price::Prices;
 use rbc_steps::{Grade, Level, Speed};
 
 /// A kind of level whose values are told as whole numbers.
-pub(crate) trait Told: Level {
+pub(crate) trait ToldLevel: Level {
     /// The value that a number is.
     ghost value_of: { ℤ → Option Self };
 
@@ -22,7 +22,7 @@ pub(crate) trait Told: Level {
 }
 
 /// Speeds in km/h.
-impl Told for Speed {
+impl ToldLevel for Speed {
     ghost value_of = { speed_of };
 
     fn told(number: i64) -> Option<Speed> {
@@ -31,7 +31,7 @@ impl Told for Speed {
 }
 
 /// Gradients in per mille, downhill below 0.
-impl Told for Grade {
+impl ToldLevel for Grade {
     ghost value_of = { λ number. Some number };
 
     fn told(number: i64) -> Option<Grade> {
@@ -40,7 +40,7 @@ impl Told for Grade {
 }
 
 /// Steps (start, value), if the kind has each value, put into an empty list.
-pub(crate) fn steps_of<V: Told>(
+pub(crate) fn steps_of<V: ToldLevel>(
     mut steps: Vec<(u32, V)>,
     told: &[(u32, i64)],
 ) -> Result<Option<Vec<(u32, V)>>, Memory>

@@ -42,7 +42,7 @@ pub enum Task<'a> {
     /// Tell of a journal, or take lines over from one.
     Journal(Journaled<'a>),
     /// Write the scene that a journal leads to.
-    Close(Closing<'a>),
+    Close(JournalClosing<'a>),
 }
 
 /// How messages are printed.
@@ -117,7 +117,7 @@ pub enum JournalWork<'a> {
 
 /// What is asked where a journal is closed.
 #[derive(Clone, Copy, Debug, PartialEq, Eq)]
-pub struct Closing<'a> {
+pub struct JournalClosing<'a> {
     /// The file of the journal.
     pub journal: &'a str,
     /// The track file.

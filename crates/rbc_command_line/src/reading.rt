@@ -4,8 +4,8 @@ ghost use Rattle.std.specs.Prelude.{◌≤◌};
 
 use crate::serving::NO_SWEEP;
 use crate::{
-    CentreOptions, Closing, JournalWork, Journaled, Listed, PagePlace, Printing, Service, Shown,
-    Staying, Task, Terms,
+    CentreOptions, JournalClosing, JournalWork, Journaled, Listed, PagePlace, Printing, Service,
+    Shown, Staying, Task, Terms,
 };
 use clap::ArgMatches;
 use std::net::Ipv4Addr;
@@ -101,8 +101,8 @@ fn journal_task_in<'a>(matches: &ArgMatches<'a>) -> Result<Task<'a>, Misread> {
 }
 
 /// What is asked where a journal is closed, and its last scene is written here.
-fn closing_in<'a>(matches: &ArgMatches<'a>, out: &'a str) -> Closing<'a> {
-    Closing {
+fn closing_in<'a>(matches: &ArgMatches<'a>, out: &'a str) -> JournalClosing<'a> {
+    JournalClosing {
         journal: matches.get_str("FILE").unwrap_or(""),
         track: matches.get_str("TRACK").unwrap_or(""),
         out,

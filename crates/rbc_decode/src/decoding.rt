@@ -21,7 +21,7 @@ use crate::listing::{LIST, NO_FIELD, list_fields};
 use crate::spelling::{Octets, Wrong, spell};
 use crate::text::{print_told, print_wrong};
 use rbc_model::limits::LONGEST_CHECK_LINE;
-use rbc_streams::{Answers, Sink, Source, WriteFailed, converse};
+use rbc_streams::{LineHandler, Sink, Source, WriteFailed, serve_lines};
 use rbc_words::SessionFault;
 use std::alloc::Global;
 use std::thread::Threads;
@@ -218,7 +218,7 @@ impl Decoder {
     }
 }
 
-impl<F: Form> Answers<F> for Decoder {
+impl<F: Form> LineHandler<F> for Decoder {
     type State = Progress;
 
     ghost use Rattle.std.specs.Prelude.{⊤, false, refl};
@@ -318,6 +318,6 @@ pub fn decode<F: Form, R: Source, W: Sink>(
         },
         items: [NO_FIELD; LIST],
     };
-    converse(rt, alloc, reader, writer, &mut decoder, form)?;
+    serve_lines(rt, alloc, reader, writer, &mut decoder, form)?;
     Ok(!decoder.progress.refused)
 }

@@ -2,7 +2,7 @@
 
 ghost use Rattle.std.specs.Prelude.{◌≡◌};
 
-use rbc_snap::Journal;
+use rbc_snap::NewHistory;
 use std::sync::ledger;
 
 /// A ledger and a history that no desk stands for yet. It takes no memory.
@@ -10,7 +10,7 @@ pub struct Blank {
     /// The ledger, which counts what is entered.
     pub ledger: ledger::Blank,
     /// The history, in which nothing stands yet.
-    pub journal: Journal,
+    pub book: NewHistory,
 }
 
 impl Blank {
@@ -20,7 +20,7 @@ impl Blank {
     {
         Blank {
             ledger: ledger::Blank::new(seats as u64),
-            journal: Journal::new(),
+            book: NewHistory::new(),
         }
     }
 }

@@ -131,18 +131,18 @@ impl<L: DeskName> Desk<L> {
     ) -> Result<(Desk<L>, Vec<Seat<L>>), Memory>
         requires name { blank.ledger.name ≡ L.name }
         requires parts { blank.ledger.parts ≡ L.parts }
-        requires book { blank.journal ≡ L.book }
+        requires book { blank.book ≡ L.book }
         requires one_each { seats ≡ L.parts }
         requires some { (1 ≤ seats) × (seats ≤ 72) }
         requires opened { log ≡ L.opened }
         ensures { IfOk result (λ made. made.1.items ≡ replicate seats (seated [] L.opened)) }
     {
-        let Blank { ledger, journal } = blank;
+        let Blank { ledger, book } = blank;
         let (entries, mut rest) = ledger.open::<L>();
         log.right();
         let start = log.version();
         let track = Arc::try_clone(log.track())?;
-        let (press, eyes) = Press::<L>::new(rt, alloc, journal, &log, seats)?;
+        let (press, eyes) = Press::<L>::new(rt, alloc, book, &log, seats)?;
         let made = match seats_with(alloc, &mut rest, eyes) {
             Ok(made) => made,
             Err(fault) => {

@@ -3,6 +3,8 @@ use Rattle.std.proofs.Common.{◌≡◌, ℕ, zero, suc, ◌≤◌, ◌⊎◌, �
 use Rattle.std.proofs.lemmas.Option.{none-some, same_Some}
 use Rattle.std.specs.Prelude.{slice_get}
 use Rattle.rbc_journal.specs.Journal.{recovered, IsBeforeOrAfter}
+use Rattle.rbc_journal.specs.Settled.{HasRoom}
+use Rattle.rbc_journal.specs.declared.journal.Journal.{Journal}
 use Rattle.rbc_group_commit.specs.Told.{AreTold, HasLines}
 
 module _ {A : Type 0} where
@@ -19,6 +21,10 @@ module _ {A : Type 0} where
   by_place P [] last all here (suc place) x is = absurd (none-some x is)
   by_place P (y ∷ xs) last all here zero x is = all 0 x is
   by_place P (y ∷ xs) last all here (suc place) x is = by_place (λ k. P (suc k)) xs last (λ k. all (suc k)) here place x is
+
+-- where there is room for a line there is for a shorter one
+pub less_room : {D : Type 0} (journal : Journal D) (more bytes : ℕ) → bytes ≤ more → HasRoom journal more → HasRoom journal bytes
+less_room journal more bytes fewer room = record { memory = omega (arith, fewer, room.memory); file = omega (arith, fewer, room.file) }
 
 module _ (tells : ℕ → List ℕ → Type 0) where
   -- the lines in front of others

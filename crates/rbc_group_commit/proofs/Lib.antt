@@ -1,3 +1,4 @@
 mod MarkLemmas
 pub mod FileLemmas
 mod PageLemmas
+mod WaitingLemmas

@@ -2,3 +2,4 @@ pub mod Told
 pub mod Stamps
 pub mod Marks
 pub mod Pages
+pub mod Waiting

@@ -1,5 +1,5 @@
 -- A journal that is written for many.
-use Rattle.std.specs.Prelude.{◌≡◌, ◌≤◌, ◌+◌, ◌++◌, ℕ, Bool, List, length, slice_get, Some, false}
+use Rattle.std.specs.Prelude.{◌≡◌, ◌≤◌, ◌+◌, ◌++◌, ℕ, Bool, List, [], ◌∷◌, length, slice_get, Option, Some, None, false}
 use Rattle.rbc_journal.specs.Journal.{recovered}
 use Rattle.rbc_journal.specs.Settled.{IsSettled, staged}
 use Rattle.rbc_journal.specs.declared.journal.Journal.{Journal}
@@ -17,6 +17,11 @@ pub record PageOf (D T : Type 0) : Type 0 where
 
 abbrev pub page_of : {D T : Type 0} → D → T → ℕ → ℕ → Bool → PageOf D T
 page_of device told lines next has_failed = record { device = device; told = told; lines = lines; next = next; has_failed = has_failed }
+
+-- a line, and the note behind it, if there is one
+abbrev pub with_note : List ℕ → Option (List ℕ) → List (List ℕ)
+with_note line None = line ∷ []
+with_note line (Some note) = line ∷ note ∷ []
 
 module _ {D : Type 0} (seen : D → List ℕ) (may_leave : D → List ℕ → Type 0) where
   -- The journal is settled. Its file has the first number of lines, and with the staged ones there are the second. Each tells the entry at its place.

@@ -6,12 +6,12 @@ use std::marker::Model;
 
 /// A book that has no stamp yet. Contracts see which it is. It takes no memory.
 #[derive(Drop)]
-pub struct Blank {
+pub struct BlankStamps {
     pub(crate) head: Head,
     pub(crate) seen: Glimpse,
 }
 
-impl Model for Blank {
+impl Model for BlankStamps {
     ghost use Rattle.std.specs.Prelude.{◌≡◌, []};
     ghost use Rattle.logbook.specs.Pages.{Book};
     ghost use Rattle.rbc_logbook_laws.specs.Counts.{head_of};
@@ -23,11 +23,11 @@ impl Model for Blank {
     ghost invariant = { λ b. (b.seen.log ≡ []) × (b.head ≡ head_of b.seen.book) };
 }
 
-impl Blank {
+impl BlankStamps {
     /// A book with no stamp.
-    pub fn new() -> Blank {
+    pub fn new() -> BlankStamps {
         let (seen, mut first, _second) = Seen::open(Start::alone(), 0, 0);
-        Blank {
+        BlankStamps {
             head: Word::tracked(0, &mut first),
             seen,
         }

@@ -1,6 +1,6 @@
 //! The group commit.
 
-ghost use Rattle.std.specs.Prelude.{◌≡◌, ◌<◌, ◌≤◌, ◌∷◌, [], length, replicate, vec_len, vec_capacity, IfOk, IfErr, OnOk, OnErr, IfSome};
+ghost use Rattle.std.specs.Prelude.{◌≡◌, ◌<◌, ◌≤◌, ◌∷◌, [], length, replicate, None, vec_len, vec_capacity, IfOk, IfErr, OnOk, OnErr, IfSome};
 ghost use mathlib.Core.List.{IsPrefix};
 ghost use Rattle.rbc_journal.specs.Journal.{recovered};
 ghost use Rattle.rbc_journal.specs.Settled.{staged, IsSettled};
@@ -10,10 +10,10 @@ ghost use Rattle.rbc_group_commit.specs.Told.{AreTold};
 
 use crate::marks::Mark;
 use crate::waiting_lines::{MOST_COMMITTERS, WaitingLines};
-use crate::{Blank, CommitName, Committer, Line, Page, Told};
+use crate::{BlankStamps, CommitName, Committer, EntryLine, LONGEST_NOTE, Page, ToldHistory};
 use rbc_journal::{Device, Journal, JournalFault};
 use std::alloc::{AllocError, Global};
-use std::sync::{Condvar, Mutex, Wait};
+use std::sync::{Condvar, Mutex, MutexGuard, Wait};
 use thiserror::Error;
 
 /// The journal has failed: its file did, or takes no more. Whether the entry is on the disk is not known.
@@ -23,18 +23,18 @@ pub struct NotKept;
 
 /// A journal that many seats write to. Each lays the line of its entry, and one writes for all that wait.
 #[derive(Drop)]
-pub struct GroupCommit<T: Told + Drop, D: Device, N: CommitName> {
+pub struct GroupCommit<T: ToldHistory + Drop, D: Device, N: CommitName> {
     waiting: Mutex<WaitingLines<T, N>>,
     page: Mutex<Page<T, D, N>>,
     noted: Condvar,
 }
 
-/// How many bytes the lines of all committers have at most, each with its line feed and its gate.
-const ROOM: usize = MOST_COMMITTERS * 4_098;
+/// How many bytes the lines of all committers and their notes have at most, each with its line feed and its gate.
+const ROOM: usize = MOST_COMMITTERS * (4_098 + LONGEST_NOTE + 2);
 
 /// What a group commit starts with: a journal that is settled, what was told of the history that its lines tell, and how many
 /// lines it has.
-pub struct Start<T: Told + Drop, D: Device> {
+pub struct Start<T: ToldHistory + Drop, D: Device> {
     /// The journal.
     pub journal: Journal<D>,
     /// What was told of the history.
@@ -44,8 +44,10 @@ pub struct Start<T: Told + Drop, D: Device> {
 }
 
 /// A slot for each committer.
-fn empty_slots<T: Told + Drop>(alloc: Global) -> Result<Vec<Option<Line<T>>>, AllocError>
-    ensures { IfOk result (λ slots. vec_len slots ≡ 72) }
+fn empty_slots<T: ToldHistory + Drop>(
+    alloc: Global,
+) -> Result<Vec<Option<EntryLine<T>>>, AllocError>
+    ensures { IfOk result (λ slots. slots.items ≡ replicate 72 None) }
 {
     let mut slots = Vec::with_capacity(alloc, MOST_COMMITTERS)?;
     for _slot in 0..MOST_COMMITTERS {
@@ -71,7 +73,7 @@ fn committers_with<N: CommitName>(
     committers
 }
 
-impl<T: Told + Drop, D: Device, N: CommitName> GroupCommit<T, D, N> {
+impl<T: ToldHistory + Drop, D: Device, N: CommitName> GroupCommit<T, D, N> {
     /// A group commit over a journal each of whose lines tells the entry at its place, and this number of committers, which have the
     /// first stamp. The file is not asked for anything.
     ///
@@ -83,7 +85,7 @@ impl<T: Told + Drop, D: Device, N: CommitName> GroupCommit<T, D, N> {
         alloc: Global,
         start: Start<T, D>,
         committers: usize,
-        blank: Blank,
+        blank: BlankStamps,
     ) -> Result<(GroupCommit<T, D, N>, Vec<Committer<N>>), (JournalFault, D)>
         requires settled { IsSettled D.seen D.may_leave start.journal }
         requires none_staged { staged start.journal ≡ [] }
@@ -111,6 +113,7 @@ impl<T: Told + Drop, D: Device, N: CommitName> GroupCommit<T, D, N> {
         let waiting = WaitingLines {
             slots,
             latest: mark,
+            is_due: false,
             is_writing: false,
             has_failed: false,
         };
@@ -133,60 +136,101 @@ impl<T: Told + Drop, D: Device, N: CommitName> GroupCommit<T, D, N> {
         &self,
         rt: &R,
         committer: &mut Committer<N>,
-        line: Line<T>,
+        line: EntryLine<T>,
     ) -> Result<(), NotKept>
         ensures kept { OnOk result (HasLine committer.new line) }
         ensures stays { IsPrefix committer.old committer.new }
         ensures refused { OnErr result (committer.new ≡ committer.old) }
     {
-        let place = line.place();
-        self.waiting.lock(rt).lay(committer.slot, line);
-        let mark = self.follow(rt, place)?;
+        let mark = self.follow(rt, committer.slot, line)?;
         mark.known();
         committer.note(mark);
         Ok(())
     }
 
-    /// Goes on until the line of this place is on the disk.
+    /// Lays a line in its slot, and goes on until it is on the disk. A seat that is alone locks the waiting lines three times.
     ///
     /// # Errors
     ///
-    /// As above.
-    fn follow<R: Wait>(&self, rt: &R, place: u64) -> Result<Mark<N>, NotKept>
-        ensures { IfOk result (λ mark. place < (latest mark).lines) }
+    /// The journal has failed, now or before, and the line is not on the disk.
+    fn follow<R: Wait>(&self, rt: &R, slot: usize, line: EntryLine<T>) -> Result<Mark<N>, NotKept>
+        requires { slot < 72 }
+        ensures { IfOk result (λ mark. line < (latest mark).lines) }
     {
+        let place = line.place();
+        if let Some(mark) = self.lay(rt, slot, line)? {
+            return Ok(mark);
+        }
         for _ in rt.forever() {
-            if let Some(mark) = self.turn(rt, place)? {
+            if let Some(mark) = self.write(rt, place)? {
                 return Ok(mark);
             }
-            self.write(rt);
+            if let Some(mark) = self.turn(rt, self.waiting.lock(rt), place)? {
+                return Ok(mark);
+            }
         }
         unreachable!()
     }
 
-    /// Waits until there is something to do for the seat whose line has this place.
+    /// Lays a line in its slot, and waits, still under the lock, until there is something to do for its seat.
     ///
     /// # Errors
     ///
-    /// As above.
-    fn turn<R: Wait>(&self, rt: &R, place: u64) -> Result<Option<Mark<N>>, NotKept>
+    /// The journal has failed, now or before, and the line is not on the disk.
+    fn lay<R: Wait>(
+        &self,
+        rt: &R,
+        slot: usize,
+        line: EntryLine<T>,
+    ) -> Result<Option<Mark<N>>, NotKept>
+        requires { slot < 72 }
+        ensures { IfOk result (λ turn. IfSome turn (λ mark. line < (latest mark).lines)) }
+    {
+        let place = line.place();
+        let mut waiting = self.waiting.lock(rt);
+        (*waiting).lay(slot, line);
+        self.turn(rt, waiting, place)
+    }
+
+    /// Waits until there is something to do for the seat whose line has this place: the stamp that has the line, or None where the
+    /// seat is to write.
+    ///
+    /// # Errors
+    ///
+    /// The journal has failed, now or before, and the line is not on the disk.
+    fn turn<R: Wait>(
+        &self,
+        rt: &R,
+        waiting: MutexGuard<'_, WaitingLines<T, N>>,
+        place: u64,
+    ) -> Result<Option<Mark<N>>, NotKept>
         ensures { IfOk result (λ turn. IfSome turn (λ mark. place < (latest mark).lines)) }
     {
-        let mut waiting = self.noted.wait_while(
-            rt,
-            self.waiting.lock(rt),
-            |waiting| waiting.must_wait(place),
-        );
+        let mut waiting = self
+            .noted
+            .wait_while(rt, waiting, |waiting| waiting.must_wait(place));
         (*waiting).turn(place)
     }
 
-    /// Writes the lines that wait.
-    fn write<R: Wait>(&self, rt: &R) {
+    /// Writes the lines that wait, tells all that sleep, and gives the stamp where it has the line of this place.
+    ///
+    /// # Errors
+    ///
+    /// The journal has failed, now or before, and the line is not on the disk.
+    fn write<R: Wait>(&self, rt: &R, place: u64) -> Result<Option<Mark<N>>, NotKept>
+        ensures { IfOk result (λ found. IfSome found (λ mark. place < (latest mark).lines)) }
+    {
+        let mark = self.write_page(rt);
+        let found = self.waiting.lock(rt).note(mark, place);
+        self.noted.notify_all();
+        found
+    }
+
+    /// Writes the lines that wait. The page is free again before anyone is told; until then no other seat writes.
+    fn write_page<R: Wait>(&self, rt: &R) -> Option<Mark<N>> {
         let mut page = self.page.lock(rt);
         self.waiting.lock(rt).hand_over(rt, &mut *page);
-        let mark = (*page).commit(rt);
-        self.waiting.lock(rt).note(mark);
-        self.noted.notify_all();
+        (*page).commit(rt)
     }
 
     /// The page, once no seat writes any more.

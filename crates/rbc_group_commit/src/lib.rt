@@ -12,11 +12,11 @@ mod stamp;
 mod told;
 mod waiting_lines;
 
-pub use blank::Blank;
+pub use blank::BlankStamps;
 pub use committer::Committer;
 pub use group_commit::{GroupCommit, NotKept, Start};
-pub use line::Line;
+pub use line::{EntryLine, LONGEST_NOTE};
 pub use name::CommitName;
 pub use page::Page;
 pub use stamp::{Law, Stamp};
-pub use told::Told;
+pub use told::ToldHistory;

@@ -7,7 +7,7 @@ ghost use Rattle.rbc_group_commit.specs.Marks.{latest};
 ghost use Rattle.rbc_group_commit.specs.Stamps.{stamp_of};
 
 use crate::stamp::{Add, Law, Nothing};
-use crate::{Blank, CommitName, Stamp};
+use crate::{BlankStamps, CommitName, Stamp};
 use logbook::{Offer, Seen, Word};
 use rbc_journal::{Device, Journal};
 use std::marker::{Model, PhantomData};
@@ -155,11 +155,11 @@ impl<N: CommitName> Model for Marks<N> {
 
 impl<N: CommitName> Marks<N> {
     /// None yet.
-    pub(crate) fn new(blank: Blank) -> Marks<N>
+    pub(crate) fn new(blank: BlankStamps) -> Marks<N>
         requires { blank ≡ N.book }
         ensures { result ≡ [] }
     {
-        let Blank { head, seen } = blank;
+        let BlankStamps { head, seen } = blank;
         Marks {
             head,
             count: 0,

@@ -1,16 +1,17 @@
 //! The journal, as one seat at a time writes it.
 
-ghost use Rattle.std.specs.Prelude.{◌≡◌, ◌+◌, ◌∷◌, ℕ, [], length, slice_get, true, false, Some, IsTrue, IfSome, IfNone};
+ghost use Rattle.std.specs.Prelude.{◌≡◌, ◌≤◌, ◌+◌, ◌∷◌, ◌++◌, ℕ, [], length, option_map, slice_get, true, false, Some, IsTrue, IfSome, IfNone, vec_len};
 ghost use Rattle.rbc_journal.specs.Device.{Only};
-ghost use Rattle.rbc_journal.specs.Journal.{recovered};
-ghost use Rattle.rbc_journal.specs.Settled.{staged, IsSettled, HasRoom};
+ghost use Rattle.rbc_journal.specs.Journal.{recovered, IsTold, IsNote};
+ghost use Rattle.rbc_journal.specs.Settled.{staged_lines, staged, IsSettled, HasRoom};
 ghost use Rattle.rbc_group_commit.specs.Marks.{latest};
-ghost use Rattle.rbc_group_commit.specs.Pages.{page_of};
+ghost use Rattle.rbc_group_commit.specs.Pages.{page_of, with_note};
 ghost use Rattle.rbc_group_commit.specs.Stamps.{stamp_of, EachLasts};
 ghost use Rattle.rbc_group_commit.specs.Told.{AreTold};
+ghost use Rattle.rbc_group_commit.specs.declared.line.TheConstants.{LONGEST_NOTE};
 
 use crate::marks::{Mark, Marks};
-use crate::{Blank, CommitName, Committer, Line, Told};
+use crate::{BlankStamps, CommitName, Committer, EntryLine, LONGEST_NOTE, ToldHistory};
 use rbc_journal::{Device, Journal, JournalFault};
 use std::marker::Model;
 use std::sync::Wait;
@@ -19,7 +20,7 @@ use std::sync::Wait;
 /// what was told of the history, how many lines are on the disk, how many with those that are staged, and whether the
 /// journal has failed.
 #[derive(Drop)]
-pub struct Page<T: Told + Drop, D: Device, N: CommitName> {
+pub struct Page<T: ToldHistory + Drop, D: Device, N: CommitName> {
     journal: Journal<D>,
     told: T,
     lines: u64,
@@ -28,7 +29,7 @@ pub struct Page<T: Told + Drop, D: Device, N: CommitName> {
     marks: Marks<N>,
 }
 
-impl<T: Told + Drop, D: Device, N: CommitName> Model for Page<T, D, N> {
+impl<T: ToldHistory + Drop, D: Device, N: CommitName> Model for Page<T, D, N> {
     ghost use Rattle.std.specs.Prelude.{◌≡◌, ◌≤◌, false};
     ghost use Rattle.rbc_group_commit.specs.Pages.{PageOf, page_of, IsWhole, AllLast};
 
@@ -60,14 +61,31 @@ fn make_room<D: Device, R: Wait>(rt: &R, journal: &mut Journal<D>, bytes: usize)
     unreachable!()
 }
 
-impl<T: Told + Drop, D: Device, N: CommitName> Page<T, D, N> {
+/// Stages a line, and the note behind it, if there is one.
+fn stage<D: Device>(journal: &mut Journal<D>, text: &[u8], note: Option<Vec<u8>>)
+    requires settled { IsSettled D.seen D.may_leave journal.old }
+    requires room { HasRoom journal.old (length text.now + 2 + LONGEST_NOTE) }
+    requires line { IsTold text.now }
+    requires note { IfSome note (λ note. IsNote note.items × (vec_len note ≤ LONGEST_NOTE)) }
+    ensures settled { IsSettled D.seen D.may_leave journal.new }
+    ensures device { journal.new.device ≡ journal.old.device }
+    ensures staged { staged journal.new ≡ staged journal.old ++ text.now ∷ [] }
+    ensures lines { staged_lines journal.new ≡ staged_lines journal.old ++ with_note text.now (option_map (λ note. note.items) note) }
+{
+    journal.stage(text);
+    if let Some(note) = note {
+        journal.note(note.as_slice());
+    }
+}
+
+impl<T: ToldHistory + Drop, D: Device, N: CommitName> Page<T, D, N> {
     /// A page over a journal that is settled, with this number of lines, and its first stamp.
     pub(crate) fn new<R: Wait>(
         rt: &R,
         journal: Journal<D>,
         told: T,
         lines: u64,
-        blank: Blank,
+        blank: BlankStamps,
     ) -> (Page<T, D, N>, Mark<N>)
         requires settled { IsSettled D.seen D.may_leave journal }
         requires none_staged { staged journal ≡ [] }
@@ -103,20 +121,25 @@ impl<T: Told + Drop, D: Device, N: CommitName> Page<T, D, N> {
     }
 
     /// Stages the next line, without a call of the file. Where the file takes no more, the journal has failed.
-    pub(crate) fn take<R: Wait>(&mut self, rt: &R, line: Line<T>)
+    pub(crate) fn take<R: Wait>(&mut self, rt: &R, line: EntryLine<T>)
         requires place { line ≡ self.old.next }
         requires whole { self.old.has_failed ≡ false }
         ensures device { self.new.device ≡ self.old.device }
         ensures lines { self.new.lines ≡ self.old.lines }
         ensures next { self.new.has_failed ≡ false → self.new.next ≡ self.old.next + 1 }
     {
-        let Line { told, place, text } = line;
+        let EntryLine {
+            told,
+            place,
+            text,
+            note,
+        } = line;
         self.told.hear(&told);
-        if !make_room(rt, &mut self.journal, text.len()) {
+        if !make_room(rt, &mut self.journal, text.len() + 2 + LONGEST_NOTE) {
             self.has_failed = true;
             return;
         }
-        self.journal.stage(text.as_slice());
+        stage(&mut self.journal, text.as_slice(), note);
         self.next = place + 1;
     }
 

@@ -3,7 +3,7 @@
 ghost use Rattle.std.specs.Prelude.{ℕ, List};
 
 /// What was told of one history, to which entries are only added. Whatever is of one type is told of the same history.
-pub trait Told {
+pub trait ToldHistory {
     /// By what was told, the line tells the entry at this place.
     ghost tells: { Self → ℕ → List ℕ → Type 0 };
 

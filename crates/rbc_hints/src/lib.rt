@@ -4,9 +4,9 @@
 #![tactic(auto)]
 
 mod forms;
-mod heard;
 mod locks;
 mod names;
+mod overheard;
 mod passing;
 mod prompted;
 mod refused;
@@ -15,6 +15,6 @@ mod refused_reports;
 mod talk;
 mod terminal;
 
-pub use heard::Heard;
+pub use overheard::Overheard;
 pub use prompted::Prompted;
 pub use terminal::Terminal;

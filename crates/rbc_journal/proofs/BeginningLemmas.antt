@@ -10,8 +10,10 @@ use Rattle.rbc_journal.specs.Headers.{header, behind_mark}
 use Rattle.rbc_journal.specs.Sessions.{with_front, lines_of}
 use Rattle.rbc_journal.specs.Journal.{told_of, recovered}
 use Rattle.rbc_journal.specs.Reading.{reading}
-use Rattle.rbc_journal.specs.ReadingLaws.{AreJournal, ArePut, with_its_seal}
-use Rattle.rbc_journal.specs.Beginnings.{mark, marked, beginning_put, header_seal, begun_lines, begun_seal, begun_file, with_marked, marked_front, beginning_of, joined}
+use Rattle.rbc_journal.specs.ReadingLaws.{AreJournal}
+use Rattle.rbc_journal.specs.Marks.{mark, marked, with_marked, marked_front}
+use Rattle.rbc_journal.specs.Puts.{with_its_seal}
+use Rattle.rbc_journal.specs.Beginnings.{beginning_put, header_seal, begun_lines, begun_seal, begun_file, beginning_of, joined}
 use Rattle.rbc_journal.proofs.LineLemmas.{NotFeed, text-append, counted-at_rest, are_lines}
 use Rattle.rbc_journal.proofs.SealLemmas.{line_by_test}
 use Rattle.rbc_journal.proofs.PutLemmas.{Inner}
@@ -68,16 +70,13 @@ joined_lines (line ∷ lines) are =
 marked_line : (line : List ℕ) → IsLine line → IsLine (marked line)
 marked_line line is = All-append NotFeed mark line (line_by_test mark refl) is
 
-pub marked_put : (lines : List (List ℕ)) → All IsLine lines → ArePut (map marked lines)
-marked_put lines are = record { one_each = one_each lines are; no_seals = no_seals lines }
-  where
-    one_each : (lines : List (List ℕ)) → All IsLine lines → All IsLine (map marked lines)
-    one_each [] are = All-nil IsLine
-    one_each (line ∷ lines) are = All-cons IsLine (marked line) (map marked lines) (marked_line line (All-head IsLine line lines are)) (one_each lines (All-tail IsLine line lines are))
+marked_lines : (lines : List (List ℕ)) → All IsLine lines → All IsLine (map marked lines)
+marked_lines [] are = All-nil IsLine
+marked_lines (line ∷ lines) are = All-cons IsLine (marked line) (map marked lines) (marked_line line (All-head IsLine line lines are)) (marked_lines lines (All-tail IsLine line lines are))
 
-    no_seals : (lines : List (List ℕ)) → All Inner (map marked lines)
-    no_seals [] = All-nil Inner
-    no_seals (line ∷ lines) = All-cons Inner (marked line) (map marked lines) refl (no_seals lines)
+marked_inner : (lines : List (List ℕ)) → All Inner (map marked lines)
+marked_inner [] = All-nil Inner
+marked_inner (line ∷ lines) = All-cons Inner (marked line) (map marked lines) refl (marked_inner lines)
 
 marked_untold : (lines more : List (List ℕ)) → told_of (map marked lines ++ more) ≡ told_of more
 marked_untold [] more = refl
@@ -142,7 +141,7 @@ module _ (digest : List ℕ) (size : length digest ≡ 64) (is : IsLine digest) 
 
   pub begun_journal : (lines : List (List ℕ)) → All IsLine lines → AreJournal digest (begun_lines digest lines) (begun_seal digest lines)
   begun_journal [] are = header_journal
-  begun_journal (line ∷ lines) are = one_more digest (header digest) (header_seal digest) (map marked (line ∷ lines)) header_journal (marked_put (line ∷ lines) are)
+  begun_journal (line ∷ lines) are = one_more digest (header digest) (header_seal digest) (map marked (line ∷ lines)) header_journal (marked_lines (line ∷ lines) are) (marked_inner (line ∷ lines))
 
   module _ (lines : List (List ℕ)) (are : All IsLine lines) where
     pub begun_read : reading (begun_file digest lines) digest ≡ Ok (record { text = text (begun_lines digest lines); seal = begun_seal digest lines; dropped = [] })

@@ -10,7 +10,7 @@ use Rattle.rbc_journal.specs.Gates.{lines_from, counted, text, at_rest, IsLine}
 use Rattle.rbc_journal.specs.Seals.{Chain, start, sealed, with_line, with_seal, chain_of, has_seal_form, seal_line, seal_of, seal_of_bytes, AreSealed}
 use Rattle.rbc_journal.specs.Headers.{format_in, digest_in}
 use Rattle.rbc_journal.specs.Puts.{at_put}
-use Rattle.rbc_journal.specs.Reading.{Parts, is_whole, is_crash, goes_on, ends_well, dropped_of, tail_of, is_first_format, of_track, by_end, by_chain, by_header, by_format}
+use Rattle.rbc_journal.specs.Reading.{Parts, is_whole, is_crash, was_open, ends_well, dropped_of, tail_of, is_first_format, of_track, by_end, by_chain, by_header, by_format}
 use Rattle.rbc_journal.specs.ReadingLaws.{AreJournal, IsReadAs, IsSealedBy, HaveCollision, DifferInOne}
 use Rattle.rbc_journal.specs.declared.reading.ReadFault.{ReadFault}
 use Rattle.rbc_journal.specs.declared.reading.ReadFault.TheVariants.{NotAJournal, FirstFormat, OtherFormat, Damaged, OtherTrack}
@@ -283,8 +283,8 @@ gate_closed seal gate crash = elim (cases_eq gate 32) [
     | inl is_closed ↦ is_closed
     | inr torn ↦
         let none : is_crash seal gate [] ≡ false =
-        ap (λ (b : Bool). if b then false else if gate == 35 then not (goes_on seal (32 ∷ [])) else ends_well seal (32 ∷ [])) (ne_eqb gate 32 shut)
-        ∙ ap (λ (b : Bool). if b then not (goes_on seal (32 ∷ [])) else ends_well seal (32 ∷ [])) (ne_eqb gate 35 torn) in
+        ap (λ (b : Bool). if b then false else if gate == 35 then not (was_open seal (32 ∷ [])) else ends_well seal (32 ∷ [])) (ne_eqb gate 32 shut)
+        ∙ ap (λ (b : Bool). if b then not (was_open seal (32 ∷ [])) else ends_well seal (32 ∷ [])) (ne_eqb gate 35 torn) in
         absurd (both_ways (is_crash seal gate []) none crash)
   ]
 ]

@@ -1,24 +1,17 @@
 -- What a journal begins with stays as it is, whatever is put behind it.
-use Rattle.std.proofs.Common.{◌≡◌, ℕ, zero, suc, Bool, List, [], ◌∷◌, ◌++◌, All, Option, Some, None, take, drop, refl, sym, ap, subst, if◌then◌else◌}
-use Rattle.std.specs.Prelude.{◌&&◌, bytes_eq}
-use Rattle.std.proofs.lemmas.List.Elements.{All-nil, All-head, All-tail, All-cons, All-append, All-drop}
+use Rattle.std.proofs.Common.{◌≡◌, ℕ, zero, suc, List, [], ◌∷◌, ◌++◌, All, Option, None, drop, refl, sym, ap, subst}
+use Rattle.std.proofs.lemmas.List.Elements.{All-nil, All-head, All-cons, All-weaker, All-append, All-drop}
 use Rattle.rbc_journal.specs.Seals.{seal_line}
 use Rattle.rbc_journal.specs.Headers.{behind_mark}
-use Rattle.rbc_journal.specs.Journal.{IsTold}
-use Rattle.rbc_journal.specs.Beginnings.{mark, with_marked, marked_front, beginning_of}
+use Rattle.rbc_journal.specs.Journal.{IsPutLine}
+use Rattle.rbc_journal.specs.Marks.{mark, with_marked, marked_front}
+use Rattle.rbc_journal.specs.Beginnings.{beginning_of}
 
 abbrev Unmarked : List ℕ → Type 0
 Unmarked line = behind_mark mark line ≡ None
 
--- a line that is told is not marked
-told_unmarked : (line : List ℕ) → IsTold line → Unmarked line
-told_unmarked [] is = refl
-told_unmarked (first ∷ rest) is = ap (λ (b : Bool). if b && bytes_eq (take 1 rest) (35 ∷ []) then Some (drop 1 rest) else None) is.said
-
-all_unmarked : (lines : List (List ℕ)) → All IsTold lines → All Unmarked lines
-all_unmarked [] are = All-nil Unmarked
-all_unmarked (line ∷ lines) are =
-    All-cons Unmarked line lines (told_unmarked line (All-head IsTold line lines are)) (all_unmarked lines (All-tail IsTold line lines are))
+all_unmarked : (lines : List (List ℕ)) → All IsPutLine lines → All Unmarked lines
+all_unmarked lines are = All-weaker IsPutLine Unmarked (λ line is. is.no_beginning) lines are
 
 none_marked : (more : List (List ℕ)) → All Unmarked more → marked_front more ≡ []
 none_marked [] none = refl
@@ -33,9 +26,9 @@ rest_stays zero lines more none = front_stays lines more none
 rest_stays (suc n) [] more none = none_marked (drop (suc n) more) (All-drop Unmarked (suc n) more none)
 rest_stays (suc n) (line ∷ lines) more none = rest_stays n lines more none
 
--- a put of lines that are told, with its seal
-pub stays_behind : (lines put more : List (List ℕ)) (seal : List ℕ) → more ≡ put ++ seal_line seal ∷ [] → All IsTold put → beginning_of (lines ++ more) ≡ beginning_of lines
-stays_behind lines put more seal is told =
+-- a put of lines that were staged, with its seal
+pub stays_behind : (lines put more : List (List ℕ)) (seal : List ℕ) → more ≡ put ++ seal_line seal ∷ [] → All IsPutLine put → beginning_of (lines ++ more) ≡ beginning_of lines
+stays_behind lines put more seal is are =
     rest_stays 3 lines more
     (subst (All Unmarked) (sym is)
-    (All-append Unmarked put (seal_line seal ∷ []) (all_unmarked put told) (All-cons Unmarked (seal_line seal) [] refl (All-nil Unmarked))))
+    (All-append Unmarked put (seal_line seal ∷ []) (all_unmarked put are) (All-cons Unmarked (seal_line seal) [] refl (All-nil Unmarked))))

@@ -1,15 +1,16 @@
 -- What whole puts add to what was read.
-use Rattle.std.proofs.Common.{◌≡◌, ℕ, ◌-◌, ◌*◌, ◌≤◌, Bool, true, false, List, [], ◌∷◌, ◌++◌, length, All, Option, Some, None, take, drop, refl, sym, ◌∙◌, ap, arith, append_assoc, length-append, if◌then◌else◌}
-use Rattle.std.specs.Prelude.{fold, not, bytes_eq, IfNone}
-use Rattle.std.proofs.lemmas.Bool.{not-true, not-false}
+use Rattle.std.proofs.Common.{◌≡◌, inl, inr, ℕ, ◌-◌, ◌*◌, ◌<◌, ◌≤◌, Bool, true, false, List, [], ◌∷◌, ◌++◌, length, All, Option, Some, None, take, drop, refl, sym, ◌∙◌, ap, arith, append_assoc, length-append, if◌then◌else◌}
+use Rattle.std.specs.Prelude.{fold, not, ◌&&◌, ◌||◌, bytes_eq, IfNone}
+use Rattle.std.proofs.lemmas.Bool.{not-true, not-false, cases_Bool, both_ways, false_from_ne_true}
 use Rattle.std.proofs.lemmas.List.{append-nil, take_at, drop_at}
 use Rattle.std.proofs.lemmas.List.Sums.{fold-append}
 use Rattle.std.proofs.lemmas.List.Folds.{fold_stays}
 use Rattle.std.proofs.lemmas.List.Elements.{All-nil, All-head, All-tail, All-cons, All-append}
 use Rattle.std.proofs.lemmas.Slice.Eq.{bytes_eq-Decides}
-use Rattle.rbc_journal.specs.Gates.{lines_from, counted, text, IsLine}
+use Rattle.rbc_journal.specs.Gates.{lines_from, counted, text, at_rest, IsLine}
 use Rattle.rbc_journal.specs.Seals.{Chain, with_line, with_seal, has_seal_form, seal_line, seal_of}
-use Rattle.rbc_journal.specs.Reading.{first_put, begins_open, opens_more, is_open_behind, goes_on}
+use Rattle.rbc_journal.specs.Marks.{mark, with_marked, marked_front, begins_marked}
+use Rattle.rbc_journal.specs.Reading.{first_put, begins_open, opens_more, is_kept, was_open, is_last, ends_well}
 use Rattle.rbc_journal.specs.Puts.{IsPut, ArePuts, at_put}
 use Rattle.rbc_journal.proofs.LineLemmas.{text-append, counted-line, counted-text}
 
@@ -105,6 +106,39 @@ put_chain whole before put seal inner form right =
     ∙ with_right whole before put seal form right
     ∙ ap (λ (w : List (List ℕ)). at_put w seal) (append_assoc whole put (seal_line seal ∷ []))
 
+-- behind the same front
+pub same_behind : (front a b : List ℕ) → bytes_eq (front ++ a) (front ++ b) ≡ bytes_eq a b
+same_behind front a b = elim (cases_Bool (bytes_eq a b)) [
+  | inl same ↦ same_bytes (front ++ a) (front ++ b) (ap (λ (l : List ℕ). front ++ l) ((bytes_eq-Decides a b).0 same)) ∙ sym same
+  | inr differ ↦
+      false_from_ne_true (bytes_eq (front ++ a) (front ++ b))
+      (λ same. both_ways (bytes_eq a b) differ (same_bytes a b
+      (sym (drop_at front a (length front) refl) ∙ ap (λ (l : List ℕ). drop (length front) l) ((bytes_eq-Decides (front ++ a) (front ++ b)).0 same) ∙ drop_at front b (length front) refl)))
+      ∙ sym differ
+]
+
+-- the mark is no longer than a line
+mark_within : (line rest : List ℕ) → bytes_eq (take 2 (line ++ 10 ∷ rest)) mark ≡ bytes_eq (take 2 line) mark
+mark_within [] rest = refl
+mark_within (one ∷ []) rest = refl
+mark_within (one ∷ two ∷ line) rest = refl
+
+first_marked : (lines : List (List ℕ)) (rest behind : List ℕ) → 32 ∷ behind ≡ text lines ++ rest → 0 < length lines → begins_marked lines ≡ bytes_eq (take 2 behind) mark
+first_marked [] rest behind is some = absurd (omega arith)
+first_marked (line ∷ lines) rest behind is some =
+    let after : behind ≡ line ++ 10 ∷ (text lines ++ rest) = ap (drop 1) is ∙ append_assoc line (10 ∷ text lines) rest in
+    sym (ap (λ (l : List ℕ). bytes_eq (take 2 l) mark) after ∙ mark_within line (text lines ++ rest))
+
+some_lines : (put : List (List ℕ)) (line : List ℕ) → 0 < length (put ++ line ∷ [])
+some_lines put line = omega (arith, length-append put (line ∷ []))
+
+-- a put that does not begin with a marked line, with its seal
+pub put_unmarked : (put : List (List ℕ)) (seal : List ℕ) → marked_front put ≡ [] → begins_marked (put ++ seal_line seal ∷ []) ≡ false
+put_unmarked [] seal none = refl
+put_unmarked (line ∷ put) seal none =
+    false_from_ne_true (bytes_eq (take 2 line) mark)
+    (λ is. cc (sym none ∙ ap (λ (b : Bool). with_marked (if b then Some (drop 2 line) else None) (marked_front put)) is))
+
 module _ (before bytes : List ℕ) (put : List (List ℕ)) (seal rest : List ℕ) (is : IsPut before bytes put seal rest) where
   abbrev all : List (List ℕ)
   all = put ++ seal_line seal ∷ []
@@ -118,10 +152,23 @@ module _ (before bytes : List ℕ) (put : List (List ℕ)) (seal rest : List ℕ
       ∙ first_inners before [] put (seal_line seal ∷ counted rest) is.inner
       ∙ first_right before put (seal_line seal) (counted rest) is.form (same_bytes (seal_line seal) (seal_line (seal_of before put)) (ap seal_line is.right))
 
-  pub put_goes_on : goes_on before bytes ≡ opens_more rest
-  put_goes_on =
-      ap (is_open_behind bytes) put_first ∙ ap (λ (l : List ℕ). opens_more (drop (length (text (put ++ seal_line seal ∷ []))) l)) is.split
+  opens_behind : opens_more (drop (length (text (put ++ seal_line seal ∷ []))) bytes) ≡ opens_more rest
+  opens_behind =
+      ap (λ (l : List ℕ). opens_more (drop (length (text (put ++ seal_line seal ∷ []))) l)) is.split
       ∙ ap opens_more (drop_at (text (put ++ seal_line seal ∷ [])) rest (length (text (put ++ seal_line seal ∷ []))) refl)
+
+  pub put_was_open : was_open before bytes ≡ (begins_marked (put ++ seal_line seal ∷ []) || opens_more rest)
+  put_was_open = ap (is_kept bytes) put_first ∙ ap (λ (b : Bool). begins_marked (put ++ seal_line seal ∷ []) || b) opens_behind
+
+  pub put_ends : ends_well before bytes ≡ (not (begins_marked (put ++ seal_line seal ∷ [])) && bytes_eq rest (35 ∷ []))
+  put_ends =
+      ap (is_last bytes) put_first
+      ∙ ap (λ (b : Bool). not (begins_marked (put ++ seal_line seal ∷ [])) && b)
+      (ap (λ (l : List ℕ). bytes_eq l (at_rest (put ++ seal_line seal ∷ []))) is.split ∙ same_behind (text (put ++ seal_line seal ∷ [])) rest (35 ∷ []))
+
+  -- the first of them stands at the front of the bytes
+  pub put_marked : (behind : List ℕ) → bytes ≡ 32 ∷ behind → begins_marked (put ++ seal_line seal ∷ []) ≡ bytes_eq (take 2 behind) mark
+  put_marked behind at = first_marked (put ++ seal_line seal ∷ []) rest behind (sym at ∙ is.split) (some_lines put (seal_line seal))
 
   pub puts_of_put : ArePuts before bytes all seal rest
   puts_of_put = record {

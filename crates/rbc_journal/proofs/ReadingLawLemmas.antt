@@ -1,7 +1,7 @@
 -- How files that a crash leaves, or that were cut, are read.
-use Rattle.std.proofs.Common.{◌≡◌, ◌≢◌, ◌⊎◌, inl, inr, ℕ, zero, suc, ◌+◌, ◌-◌, ◌<◌, ◌≤◌, Bool, true, false, List, [], ◌∷◌, ◌++◌, length, All, Option, Some, None, Result, Ok, Err, get_or, take, drop, refl, sym, ◌∙◌, ap, subst, arith, append_assoc, length-append, take-append-drop, if◌then◌else◌, ◌==◌}
-use Rattle.std.specs.Prelude.{fold, not, bytes_eq}
-use Rattle.std.proofs.lemmas.Bool.{cases_eq, cases_lt, cases_Bool, eq-eqb, ne_eqb, and_from}
+use Rattle.std.proofs.Common.{◌≡◌, ◌≢◌, ◌⊎◌, inl, inr, ⊎_elim, ℕ, zero, suc, ◌+◌, ◌-◌, ◌<◌, ◌≤◌, Bool, true, false, List, [], ◌∷◌, ◌++◌, length, All, Option, Some, None, Result, Ok, Err, get_or, take, drop, refl, sym, ◌∙◌, ap, subst, arith, append_assoc, length-append, take-append-drop, if◌then◌else◌, ◌==◌}
+use Rattle.std.specs.Prelude.{fold, not, ◌&&◌, ◌||◌}
+use Rattle.std.proofs.lemmas.Bool.{cases_eq, cases_lt, cases_Bool, eq-eqb, ne_eqb}
 use Rattle.std.proofs.lemmas.List.{take_at, drop_at, take_all, drop_more, take-append-le, length-drop}
 use Rattle.std.proofs.Math.Seq.{take-append-add}
 use Rattle.std.proofs.lemmas.List.Sums.{fold-append}
@@ -11,13 +11,14 @@ use Rattle.rbc_journal.specs.Device.{Torn}
 use Rattle.rbc_journal.specs.Gates.{counted, text, at_rest, behind, IsLine}
 use Rattle.rbc_journal.specs.Seals.{Chain, start, with_line, chain_of, seal_line, seal_of}
 use Rattle.rbc_journal.specs.Headers.{format_in, digest_in}
-use Rattle.rbc_journal.specs.Puts.{IsPut, at_put}
-use Rattle.rbc_journal.specs.Reading.{Parts, is_whole, chain_behind, first_put, opens_more, is_open_behind, goes_on, ends_well, dropped_of, tail_of, by_end, by_chain, by_header, by_format, reading}
-use Rattle.rbc_journal.specs.ReadingLaws.{AreJournal, ArePut, with_its_seal, IsReadAs, MayLeave, IsForged, IsRefused}
+use Rattle.rbc_journal.specs.Marks.{marked_front, begins_marked}
+use Rattle.rbc_journal.specs.Puts.{IsPut, at_put, ArePut, with_its_seal}
+use Rattle.rbc_journal.specs.Reading.{Parts, is_whole, first_put, opens_more, is_kept, was_open, ends_well, dropped_of, tail_of, by_end, by_chain, by_header, by_format, reading}
+use Rattle.rbc_journal.specs.ReadingLaws.{AreJournal, IsReadAs, MayLeave, IsForged, IsRefused}
 use Rattle.rbc_journal.specs.declared.reading.ReadFault.{ReadFault}
 use Rattle.rbc_journal.specs.declared.reading.ReadFault.TheVariants.{NotAJournal, Damaged, OtherTrack}
 use Rattle.rbc_journal.proofs.LineLemmas.{NotFeed, text-append, counted-at_rest, unfinished, closed, stands_for}
-use Rattle.rbc_journal.proofs.PutLemmas.{put_chain, put_first, All-snoc}
+use Rattle.rbc_journal.proofs.PutLemmas.{Inner, put_chain, put_was_open, put_ends, put_unmarked, All-snoc}
 use Rattle.rbc_journal.proofs.SealLemmas.{seal_form, seal_line_is}
 
 -- ---- a file with a journal's lines
@@ -46,31 +47,29 @@ module _ (track : List ℕ) (lines : List (List ℕ)) (seal : List ℕ) (is : Ar
 
 -- ---- a journal with one more put
 
-module _ (seal : List ℕ) (put : List (List ℕ)) (is : ArePut put) where
+-- of lines without the form of a seal
+module _ (seal : List ℕ) (put : List (List ℕ)) (one_each : All IsLine put) (no_seals : All Inner put) where
   more_lines : All IsLine (with_its_seal seal put)
-  more_lines = All-snoc IsLine put (seal_line (seal_of seal put)) is.one_each (seal_line_is seal (text put))
+  more_lines = All-snoc IsLine put (seal_line (seal_of seal put)) one_each (seal_line_is seal (text put))
 
   more_put : IsPut seal (at_rest (with_its_seal seal put)) put (seal_of seal put) (35 ∷ [])
-  more_put = record { split = refl; lines = more_lines; inner = is.no_seals; form = seal_form seal (text put); right = refl }
+  more_put = record { split = refl; lines = more_lines; inner = no_seals; form = seal_form seal (text put); right = refl }
 
   more_chain : (whole : List (List ℕ)) → fold with_line (at_put whole seal) (with_its_seal seal put) ≡ at_put (whole ++ with_its_seal seal put) (seal_of seal put)
-  more_chain whole = put_chain whole seal put (seal_of seal put) is.no_seals (seal_form seal (text put)) refl
+  more_chain whole = put_chain whole seal put (seal_of seal put) no_seals (seal_form seal (text put)) refl
 
-  -- nothing goes on behind it
-  pub stops : goes_on seal (at_rest (with_its_seal seal put)) ≡ false
-  stops =
-      ap (λ (o : Option (List (List ℕ))). is_open_behind (at_rest (with_its_seal seal put)) o) (put_first seal (at_rest (with_its_seal seal put)) put (seal_of seal put) (35 ∷ []) more_put)
-      ∙ ap opens_more (drop_at (text (with_its_seal seal put)) (35 ∷ []) (length (text (with_its_seal seal put))) refl)
+  -- behind a beginning
+  module _ (unmarked : marked_front put ≡ []) where
+    -- its gate was not open before
+    pub stops : was_open seal (at_rest (with_its_seal seal put)) ≡ false
+    stops =
+        put_was_open seal (at_rest (with_its_seal seal put)) put (seal_of seal put) (35 ∷ []) more_put
+        ∙ ap (λ (b : Bool). b || false) (put_unmarked put (seal_of seal put) unmarked)
 
-  pub ends : ends_well seal (at_rest (with_its_seal seal put)) ≡ true
-  ends =
-      let count : counted (at_rest (with_its_seal seal put)) ≡ with_its_seal seal put = counted-at_rest (with_its_seal seal put) more_lines in
-      and_from (is_whole (chain_behind seal (counted (at_rest (with_its_seal seal put)))) (counted (at_rest (with_its_seal seal put))))
-      (bytes_eq (at_rest (with_its_seal seal put)) (at_rest (counted (at_rest (with_its_seal seal put)))))
-      (ap (λ (l : List (List ℕ)). is_whole (chain_behind seal l) l) count
-      ∙ ap (λ (c : Chain). is_whole c (with_its_seal seal put)) (more_chain [])
-      ∙ eq-eqb (length (with_its_seal seal put)) (length (with_its_seal seal put)) refl)
-      ((bytes_eq-Decides (at_rest (with_its_seal seal put)) (at_rest (counted (at_rest (with_its_seal seal put))))).1 (ap at_rest (sym count)))
+    pub ends : ends_well seal (at_rest (with_its_seal seal put)) ≡ true
+    ends =
+        put_ends seal (at_rest (with_its_seal seal put)) put (seal_of seal put) (35 ∷ []) more_put
+        ∙ ap (λ (b : Bool). not b && true) (put_unmarked put (seal_of seal put) unmarked)
 
 format_more : (lines more : List (List ℕ)) → format_in lines ≡ Some 2 → format_in (lines ++ more) ≡ Some 2
 format_more [] more is = cc is
@@ -82,14 +81,14 @@ digest_more (first ∷ []) more digest is = cc is
 digest_more (first ∷ second ∷ []) more digest is = cc is
 digest_more (first ∷ second ∷ third ∷ lines) more digest is = is
 
-pub one_more : (track : List ℕ) (lines : List (List ℕ)) (seal : List ℕ) (put : List (List ℕ)) → AreJournal track lines seal → ArePut put
+pub one_more : (track : List ℕ) (lines : List (List ℕ)) (seal : List ℕ) (put : List (List ℕ)) → AreJournal track lines seal → All IsLine put → All Inner put
     → AreJournal track (lines ++ with_its_seal seal put) (seal_of seal put)
-one_more track lines seal put is more = record {
-  one_each = All-append IsLine lines (with_its_seal seal put) is.one_each (more_lines seal put more);
+one_more track lines seal put is one_each no_seals = record {
+  one_each = All-append IsLine lines (with_its_seal seal put) is.one_each (more_lines seal put one_each no_seals);
   sealed =
       fold-append with_line start lines (with_its_seal seal put)
       ∙ ap (λ (c : Chain). fold with_line c (with_its_seal seal put)) is.sealed
-      ∙ more_chain seal put more lines;
+      ∙ more_chain seal put one_each no_seals lines;
   format = format_more lines (with_its_seal seal put) is.format;
   of_track = digest_more lines (with_its_seal seal put) track is.of_track;
 }
@@ -105,12 +104,18 @@ opens_two [] opens = cc opens
 opens_two (gate ∷ []) opens = cc opens
 opens_two (gate ∷ next ∷ rest) opens = omega arith
 
--- a put with an open gate behind it, and more
-open_behind : (found : Option (List (List ℕ))) (bytes : List ℕ) → is_open_behind bytes found ≡ true
-    → (others : List (List ℕ)) × (found ≡ Some others) × (length (text others) + 2 ≤ length bytes)
-open_behind None bytes opens = cc opens
-open_behind (Some others) bytes opens =
-    (others, refl, omega (arith, opens_two (drop (length (text others)) bytes) opens, length-drop (length (text others)) bytes))
+-- a put that was kept: it begins with a marked line, or an open gate stands behind it, and more
+abbrev IsKept : Option (List (List ℕ)) → List ℕ → Type 0
+IsKept found bytes = (others : List (List ℕ)) × (found ≡ Some others) × ((length (text others) + 2 ≤ length bytes) ⊎ (begins_marked others ≡ true))
+
+kept_by : (others : List (List ℕ)) (bytes : List ℕ) (test : Bool) → begins_marked others ≡ test → (test || opens_more (drop (length (text others)) bytes)) ≡ true
+    → (length (text others) + 2 ≤ length bytes) ⊎ (begins_marked others ≡ true)
+kept_by others bytes true marks kept = inr marks
+kept_by others bytes false marks kept = inl (omega (arith, opens_two (drop (length (text others)) bytes) kept, length-drop (length (text others)) bytes))
+
+kept_put : (found : Option (List (List ℕ))) (bytes : List ℕ) → is_kept bytes found ≡ true → IsKept found bytes
+kept_put None bytes kept = cc kept
+kept_put (Some others) bytes kept = (others, refl, kept_by others bytes (begins_marked others) refl kept)
 
 -- what stands behind the old end is no longer than the range
 dropped_short : (at n : ℕ) (file old : List ℕ) → Torn at n old file → at ≡ length old → length (drop at file) ≤ n
@@ -129,13 +134,13 @@ module _ (track : List ℕ) (lines : List (List ℕ)) (seal : List ℕ) (put : L
 
   -- torn bytes behind the closed gate
   closed_gate : (torn file : List ℕ) → torn ≡ drop (length (at_rest lines)) file → length torn ≤ length (behind (with_its_seal seal put)) → file ≡ text lines ++ 35 ∷ torn → Outcome file
-  closed_gate torn file from short whole = elim (cases_Bool (goes_on seal (32 ∷ torn))) [
+  closed_gate torn file from short whole = elim (cases_Bool (was_open seal (32 ∷ torn))) [
     | inl forged ↦
-        let found = open_behind (first_put seal [] (counted (32 ∷ torn))) (32 ∷ torn) forged in
+        let found = kept_put (first_put seal [] (counted (32 ∷ torn))) (32 ∷ torn) forged in
         inr (inr (record {
           others = found.0;
           sealed = subst (λ (t : List ℕ). first_put seal [] (counted (32 ∷ t)) ≡ Some found.0) from found.1;
-          shorter = omega (arith, found.2, short, length-behind);
+          differ = ⊎_elim (λ long. inl (omega (arith, long, short, length-behind))) (λ marks. inr marks) found.2;
         }))
     | inr stopped ↦
         let drops : dropped_of seal (35 ∷ torn) ≡ Some torn = ap (λ (b : Bool). if not b then Some torn else None) stopped in
@@ -153,15 +158,15 @@ module _ (track : List ℕ) (lines : List (List ℕ)) (seal : List ℕ) (put : L
   -- the put behind the gate, which holds this byte
   other_gate : (gate : ℕ) → gate ≢ 32 → gate ≢ 35 → dropped_of seal (gate ∷ behind (with_its_seal seal put)) ≡ Some (behind (with_its_seal seal put))
   other_gate gate shut torn =
-      ap (λ (b : Bool). if (if b then false else if gate == 35 then not (goes_on seal (32 ∷ behind (with_its_seal seal put))) else ends_well seal (32 ∷ behind (with_its_seal seal put))) then Some (behind (with_its_seal seal put)) else None)
+      ap (λ (b : Bool). if (if b then false else if gate == 35 then not (was_open seal (32 ∷ behind (with_its_seal seal put))) else ends_well seal (32 ∷ behind (with_its_seal seal put))) then Some (behind (with_its_seal seal put)) else None)
       (ne_eqb gate 32 shut)
-      ∙ ap (λ (b : Bool). if (if b then not (goes_on seal (32 ∷ behind (with_its_seal seal put))) else ends_well seal (32 ∷ behind (with_its_seal seal put))) then Some (behind (with_its_seal seal put)) else None)
+      ∙ ap (λ (b : Bool). if (if b then not (was_open seal (32 ∷ behind (with_its_seal seal put))) else ends_well seal (32 ∷ behind (with_its_seal seal put))) then Some (behind (with_its_seal seal put)) else None)
       (ne_eqb gate 35 torn)
-      ∙ ap (λ (b : Bool). if b then Some (behind (with_its_seal seal put)) else None) (ap (ends_well seal) (gate_behind put (seal_line (seal_of seal put))) ∙ ends seal put more)
+      ∙ ap (λ (b : Bool). if b then Some (behind (with_its_seal seal put)) else None) (ap (ends_well seal) (gate_behind put (seal_line (seal_of seal put))) ∙ ends seal put more.one_each more.no_seals more.unmarked)
 
   closed_put : dropped_of seal (35 ∷ behind (with_its_seal seal put)) ≡ Some (behind (with_its_seal seal put))
   closed_put =
-      ap (λ (b : Bool). if not b then Some (behind (with_its_seal seal put)) else None) (ap (goes_on seal) (gate_behind put (seal_line (seal_of seal put))) ∙ stops seal put more)
+      ap (λ (b : Bool). if not b then Some (behind (with_its_seal seal put)) else None) (ap (was_open seal) (gate_behind put (seal_line (seal_of seal put))) ∙ stops seal put more.one_each more.no_seals more.unmarked)
 
   open_put : text lines ++ 32 ∷ behind (with_its_seal seal put) ≡ text (lines ++ with_its_seal seal put) ++ 35 ∷ []
   open_put =
@@ -174,7 +179,7 @@ module _ (track : List ℕ) (lines : List (List ℕ)) (seal : List ℕ) (put : L
     | inl is_open ↦
         let there : file ≡ text (lines ++ with_its_seal seal put) ++ 35 ∷ [] = whole ∙ ap (λ (g : ℕ). text lines ++ g ∷ behind (with_its_seal seal put)) is_open ∙ open_put in
         inr (inl (subst (λ (f : List ℕ). IsReadAs track f (lines ++ with_its_seal seal put) (seal_of seal put) []) (sym there)
-        (read_dropped track (lines ++ with_its_seal seal put) (seal_of seal put) (one_more track lines seal put is more) (35 ∷ []) [] refl refl)))
+        (read_dropped track (lines ++ with_its_seal seal put) (seal_of seal put) (one_more track lines seal put is more.one_each more.no_seals) (35 ∷ []) [] refl refl)))
     | inr shut ↦
         let drops : dropped_of seal (gate ∷ behind (with_its_seal seal put)) ≡ Some (behind (with_its_seal seal put)) = elim (cases_eq gate 35) [
           | inl is_closed ↦ ap (λ (g : ℕ). dropped_of seal (g ∷ behind (with_its_seal seal put))) is_closed ∙ closed_put

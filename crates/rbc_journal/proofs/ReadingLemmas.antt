@@ -1,18 +1,18 @@
 -- What a file with a right header is read as.
-use Rattle.std.proofs.Common.{◌≡◌, inl, inr, ℕ, ◌+◌, ◌-◌, ◌≤◌, Bool, true, false, List, [], ◌∷◌, ◌++◌, length, All, Some, None, Ok, Err, take, drop, refl, sym, ◌∙◌, ap, subst, arith, append_assoc, length-append, codes, if◌then◌else◌, ◌==◌}
+use Rattle.std.proofs.Common.{◌≡◌, inl, inr, ℕ, ◌+◌, ◌-◌, ◌≤◌, Bool, false, List, [], ◌∷◌, ◌++◌, length, All, Some, None, Ok, Err, take, drop, refl, sym, ◌∙◌, ap, subst, arith, append_assoc, length-append, codes, if◌then◌else◌, ◌==◌}
 use Rattle.std.specs.Prelude.{fold, bytes_eq}
-use Rattle.std.proofs.lemmas.Bool.{cases_eq, cases_Bool, both_ways, eq-eqb, ne_eqb, and_from, and_left, and_right, false_from_ne_true}
+use Rattle.std.proofs.lemmas.Bool.{cases_eq, eq-eqb, ne_eqb, and_from}
 use Rattle.std.proofs.lemmas.List.{append-nil, take_at, drop_at}
 use Rattle.std.proofs.lemmas.List.Sums.{fold-append}
 use Rattle.std.proofs.lemmas.List.Elements.{All-nil, All-cons, All-append}
 use Rattle.std.proofs.lemmas.Slice.Eq.{bytes_eq-Decides}
-use Rattle.rbc_journal.specs.Gates.{counted, text, at_rest, IsLine}
+use Rattle.rbc_journal.specs.Gates.{counted, text, IsLine}
 use Rattle.rbc_journal.specs.Seals.{Chain, start, with_line, chain_of, seal_line, seal_of, seal_of_bytes, AreSealed, IsWholeText}
 use Rattle.rbc_journal.specs.Headers.{title, track_mark, named_in_header, header, new_file, format_in, behind_mark, sized, digest_in}
 use Rattle.rbc_journal.specs.Journal.{told_of, recovered}
 use Rattle.rbc_journal.specs.Puts.{ArePuts, BeginsWithHeader, at_put}
 use Rattle.rbc_journal.specs.ReadingLaws.{AreJournal}
-use Rattle.rbc_journal.specs.Reading.{is_whole, chain_behind, first_put, ends_well, dropped_of, tail_of, by_end, by_chain, by_header, by_format, reading}
+use Rattle.rbc_journal.specs.Reading.{first_put, dropped_of, tail_of, by_end, by_chain, by_header, by_format, reading}
 use Rattle.rbc_journal.specs.declared.reading.ReadFault.TheVariants.{Damaged, OtherTrack}
 use Rattle.rbc_journal.proofs.LineLemmas.{NotFeed, text-append, counted-text, counted-at_rest, closed, are_lines}
 use Rattle.rbc_journal.proofs.PutLemmas.{Inner, put_chain, none_more, no_puts}
@@ -60,59 +60,6 @@ dropped_shut seal (gate ∷ rest) dropped is = elim (cases_eq gate 32) [
       cc (sym none ∙ is)
   | inr shut ↦ closed gate rest shut
 ]
-
--- ---- puts that end well
-
-ends_none_by : (seal behind : List ℕ) (lines : List (List ℕ)) → counted (32 ∷ behind) ≡ lines → first_put seal [] (counted (32 ∷ behind)) ≡ None → ends_well seal (32 ∷ behind) ≡ false
-ends_none_by seal behind [] is none =
-    and_right (is_whole (chain_behind seal (counted (32 ∷ behind))) (counted (32 ∷ behind))) (bytes_eq (32 ∷ behind) (at_rest (counted (32 ∷ behind))))
-    (ap (λ (l : List (List ℕ)). bytes_eq (32 ∷ behind) (at_rest l)) is)
-ends_none_by seal behind (line ∷ more) is none =
-    let whole : (chain_behind seal (counted (32 ∷ behind))).whole ≡ [] = none_more [] seal [] (counted (32 ∷ behind)) none in
-    and_left (is_whole (chain_behind seal (counted (32 ∷ behind))) (counted (32 ∷ behind))) (bytes_eq (32 ∷ behind) (at_rest (counted (32 ∷ behind))))
-    (ap (λ (l : List (List ℕ)). length l == length (counted (32 ∷ behind))) whole ∙ ap (λ (l : List (List ℕ)). 0 == length l) is
-    ∙ ne_eqb 0 (length (line ∷ more)) (λ none. absurd (omega arith)))
-
-pub ends_none : (seal behind : List ℕ) → first_put seal [] (counted (32 ∷ behind)) ≡ None → ends_well seal (32 ∷ behind) ≡ false
-ends_none seal behind none = ends_none_by seal behind (counted (32 ∷ behind)) refl none
-
-module _ (before bytes : List ℕ) (puts : List (List ℕ)) (seal rest : List ℕ) (are : ArePuts before bytes puts seal rest) (none : first_put seal [] (counted rest) ≡ None) where
-  puts_counted : counted bytes ≡ puts ++ counted rest
-  puts_counted = ap counted are.split ∙ counted-text puts rest are.lines
-
-  puts_chain : chain_behind before puts ≡ at_put puts seal
-  puts_chain = are.chain []
-
-  ends_right : rest ≡ 35 ∷ [] → ends_well before bytes ≡ true
-  ends_right is =
-      let count : counted bytes ≡ puts = puts_counted ∙ ap (λ (l : List ℕ). puts ++ counted l) is ∙ append-nil puts in
-      and_from (is_whole (chain_behind before (counted bytes)) (counted bytes)) (bytes_eq bytes (at_rest (counted bytes)))
-      (ap (λ (l : List (List ℕ)). is_whole (chain_behind before l) l) count ∙ ap (λ (c : Chain). is_whole c puts) puts_chain ∙ eq-eqb (length puts) (length puts) refl)
-      ((bytes_eq-Decides bytes (at_rest (counted bytes))).1 (are.split ∙ ap (λ (l : List ℕ). text puts ++ l) is ∙ ap at_rest (sym count)))
-
-  ends_wrong : (more : List (List ℕ)) → counted rest ≡ more → (rest ≡ 35 ∷ [] → ⊥) → ends_well before bytes ≡ false
-  ends_wrong [] is differs =
-      let count : counted bytes ≡ puts = puts_counted ∙ ap (λ (l : List (List ℕ)). puts ++ l) is ∙ append-nil puts in
-      and_right (is_whole (chain_behind before (counted bytes)) (counted bytes)) (bytes_eq bytes (at_rest (counted bytes)))
-      (false_from_ne_true (bytes_eq bytes (at_rest (counted bytes)))
-      (λ same. differs (sym (drop_at (text puts) rest (length (text puts)) refl)
-      ∙ ap (λ (l : List ℕ). drop (length (text puts)) l) (sym are.split ∙ (bytes_eq-Decides bytes (at_rest (counted bytes))).0 same ∙ ap at_rest count)
-      ∙ drop_at (text puts) (35 ∷ []) (length (text puts)) refl)))
-  ends_wrong (line ∷ more) is differs =
-      let count : counted bytes ≡ puts ++ line ∷ more = puts_counted ∙ ap (λ (l : List (List ℕ)). puts ++ l) is in
-      let whole : (chain_behind before (counted bytes)).whole ≡ puts =
-      ap (λ (l : List (List ℕ)). (chain_behind before l).whole) puts_counted
-      ∙ ap (λ (c : Chain). c.whole) (fold-append with_line (at_put [] before) puts (counted rest) ∙ ap (λ (c : Chain). fold with_line c (counted rest)) puts_chain)
-      ∙ none_more puts seal [] (counted rest) none in
-      and_left (is_whole (chain_behind before (counted bytes)) (counted bytes)) (bytes_eq bytes (at_rest (counted bytes)))
-      (ne_eqb (length (chain_behind before (counted bytes)).whole) (length (counted bytes))
-      (λ same. absurd (omega (arith, sym (ap length whole) ∙ same ∙ ap length count, length-append puts (line ∷ more)))))
-
-  pub ends_by_rest : bytes_eq rest (35 ∷ []) ≡ ends_well before bytes
-  ends_by_rest = elim (cases_Bool (bytes_eq rest (35 ∷ []))) [
-    | inl same ↦ same ∙ sym (ends_right ((bytes_eq-Decides rest (35 ∷ [])).0 same))
-    | inr differs ↦ differs ∙ sym (ends_wrong (counted rest) refl (λ same. both_ways (bytes_eq rest (35 ∷ [])) differs ((bytes_eq-Decides rest (35 ∷ [])).1 same)))
-  ]
 
 -- ---- all lines
 

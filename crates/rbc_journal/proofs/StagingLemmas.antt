@@ -1,10 +1,16 @@
 -- What stages a line.
-use Rattle.std.proofs.Common.{◌≡◌, ℕ, ◌-◌, ◌<◌, List, [], ◌∷◌, ◌++◌, length, All, take, refl, sym, ◌∙◌, ap, arith, append_assoc, length-append}
-use Rattle.std.proofs.lemmas.List.{take_at}
-use Rattle.std.proofs.lemmas.List.Elements.{All-nil, All-cons, All-append}
+use Rattle.std.proofs.Common.{◌≡◌, ℕ, ◌-◌, ◌<◌, Bool, true, false, List, [], ◌∷◌, ◌++◌, length, All, Some, None, take, drop, refl, sym, ◌∙◌, ap, subst, arith, append_assoc, length-append, if◌then◌else◌, ◌==◌}
+use Rattle.std.specs.Prelude.{◌&&◌, not, is_ok, bytes_eq}
+use Rattle.std.proofs.lemmas.List.{take_at, append-nil}
+use Rattle.std.proofs.lemmas.List.Elements.{All-nil, All-cons, All-append, All-weaker, filter-append}
+use Rattle.hex.specs.Hex.{decode_sized}
+use Rattle.rbc_journal.specs.Seals.{is_comment, has_seal_form}
+use Rattle.rbc_journal.specs.Journal.{told_of, IsTold, IsNote, IsPutLine}
 use Rattle.rbc_journal.specs.Gates.{counted, text, at_rest, behind, staged_in, IsLine}
 use Rattle.rbc_journal.proofs.LineLemmas.{text-append, are_lines, counted-at_rest}
 use Rattle.rbc_journal.proofs.CrashLemmas.{gate_behind}
+use Rattle.rbc_journal.proofs.PutLemmas.{Inner, All-snoc}
+use Rattle.rbc_journal.proofs.ToldLemmas.{told_line, told_comment}
 
 -- what is staged for lines stands for just these
 pub staged-behind : (lines : List (List ℕ)) → All IsLine lines → staged_in (behind lines) ≡ lines
@@ -45,6 +51,46 @@ pub text_staged : (lines : List (List ℕ)) (bytes : List ℕ) (n : ℕ) → byt
 text_staged [] bytes n is some at = absurd (omega (arith, some, ap length is))
 text_staged (line ∷ lines) bytes n is some at =
     ap (λ (l : List ℕ). 32 ∷ take n l) is ∙ ap (λ (l : List ℕ). 32 ∷ l) (popped line lines n (at ∙ ap (λ (l : List ℕ). length l - 1) is))
+
+-- ---- what may be staged
+
+-- a line that is told
+pub told_put : (line : List ℕ) → IsTold line → IsPutLine line
+told_put [] is = record { one = is.one; no_seal = refl; no_beginning = refl }
+told_put (first ∷ rest) is = record {
+  one = is.one;
+  no_seal = no_seal first rest is.said;
+  no_beginning = ap (λ (b : Bool). if b && bytes_eq (take 1 rest) (35 ∷ []) then Some (drop 1 rest) else None) is.said;
+}
+  where
+    no_seal : (first : ℕ) (rest : List ℕ) → (first == 35) ≡ false → has_seal_form (first ∷ rest) ≡ false
+    no_seal first [] other = refl
+    no_seal first (space ∷ digits) other = ap (λ (b : Bool). b && (space == 32) && is_ok (decode_sized digits 8)) other
+
+-- a note, which is not told
+pub note_put : (line : List ℕ) → IsNote line → IsPutLine line
+note_put line is = record { one = is.one; no_seal = is.no_seal; no_beginning = is.no_beginning }
+
+pub are_inner : (lines : List (List ℕ)) → All IsPutLine lines → All Inner lines
+are_inner lines are = All-weaker IsPutLine Inner (λ line is. is.no_seal) lines are
+
+-- one line more may be staged
+pub put_more : (lines more : List (List ℕ)) (line : List ℕ) → more ≡ lines ++ line ∷ [] → All IsPutLine lines → IsPutLine line → All IsPutLine more
+put_more lines more line adds are is = subst (All IsPutLine) (sym adds) (All-snoc IsPutLine lines line are is)
+
+told_snoc : (lines : List (List ℕ)) (line : List ℕ) → told_of (lines ++ line ∷ []) ≡ told_of lines ++ told_of (line ∷ [])
+told_snoc lines line = filter-append (λ line. not (is_comment line)) lines (line ∷ [])
+
+-- a line that is told is told behind the others
+pub told_more : (lines more : List (List ℕ)) (line : List ℕ) → more ≡ lines ++ line ∷ [] → is_comment line ≡ false → told_of more ≡ told_of lines ++ line ∷ []
+told_more lines more line adds is = ap told_of adds ∙ told_snoc lines line ∙ ap (λ (ls : List (List ℕ)). told_of lines ++ ls) (told_line line [] is)
+
+-- a note changes nothing of what is told
+pub told_same : (lines more : List (List ℕ)) (line : List ℕ) → more ≡ lines ++ line ∷ [] → is_comment line ≡ true → told_of more ≡ told_of lines
+told_same lines more line adds is =
+    ap told_of adds ∙ told_snoc lines line ∙ ap (λ (ls : List (List ℕ)). told_of lines ++ ls) (told_comment line [] is) ∙ append-nil (told_of lines)
+
+-- ---- one line more
 
 -- A line is staged behind others, or as the first.
 module _ (old mid new line : List ℕ) (waiting : old ≡ behind (staged_in old))

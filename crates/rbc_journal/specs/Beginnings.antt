@@ -1,19 +1,12 @@
 -- What a journal begins with: the lines of a scene, each as a comment, in one put of their own behind the header.
-use Rattle.std.specs.Prelude.{◌≡◌, ℕ, List, [], ◌∷◌, ◌++◌, drop, map, flat_map, codes, Option, Some, None}
+use Rattle.std.specs.Prelude.{◌≡◌, ℕ, List, [], ◌∷◌, ◌++◌, drop, map, flat_map}
 use Rattle.rbc_journal.specs.Gates.{at_rest}
 use Rattle.rbc_journal.specs.Seals.{seal_of}
-use Rattle.rbc_journal.specs.Headers.{named_in_header, header, behind_mark}
-use Rattle.rbc_journal.specs.ReadingLaws.{with_its_seal}
+use Rattle.rbc_journal.specs.Headers.{named_in_header, header}
+use Rattle.rbc_journal.specs.Marks.{marked, marked_front}
+use Rattle.rbc_journal.specs.Puts.{with_its_seal}
 
 -- ---- what stands in it
-
--- behind this mark each of its lines stands
-abbrev pub mark : List ℕ
-mark = codes "##"
-
--- such a line
-abbrev pub marked : List ℕ → List ℕ
-marked line = mark ++ line
 
 -- the put of these lines, each marked, behind a put with this seal; no line has no put
 abbrev pub beginning_put : List ℕ → List (List ℕ) → List (List ℕ)
@@ -38,16 +31,6 @@ abbrev pub begun_file : List ℕ → List (List ℕ) → List ℕ
 begun_file digest lines = at_rest (begun_lines digest lines)
 
 -- ---- how it is read
-
--- a line behind its mark, if it has one, and what follows it
-abbrev pub with_marked : Option (List ℕ) → List (List ℕ) → List (List ℕ)
-with_marked None rest = []
-with_marked (Some line) rest = line ∷ rest
-
--- the marked lines with which lines begin, each without its mark
-abbrev pub marked_front : List (List ℕ) → List (List ℕ)
-marked_front [] = []
-marked_front (line ∷ lines) = with_marked (behind_mark mark line) (marked_front lines)
 
 -- the beginning that a journal's lines tell: those marked ones that stand directly behind the three of its header
 abbrev pub beginning_of : List (List ℕ) → List (List ℕ)

@@ -1,9 +1,10 @@
 -- What a journal file of format 2 is read as.
-use Rattle.std.specs.Prelude.{ℕ, ◌+◌, Bool, false, List, [], ◌∷◌, ◌++◌, length, drop, fold, Option, Some, None, Result, Ok, Err, nat_lt, bytes_eq, if◌then◌else◌, ◌&&◌, ◌==◌, not}
+use Rattle.std.specs.Prelude.{ℕ, ◌+◌, Bool, false, List, [], ◌∷◌, ◌++◌, length, drop, Option, Some, None, Result, Ok, Err, nat_lt, bytes_eq, if◌then◌else◌, ◌&&◌, ◌||◌, ◌==◌, not}
 use Rattle.std.specs.List.{list_any}
 use Rattle.rbc_journal.specs.Gates.{text, counted, at_rest}
-use Rattle.rbc_journal.specs.Seals.{Chain, start, with_line, chain_of, has_seal_form, is_comment, seal_line, seal_of}
+use Rattle.rbc_journal.specs.Seals.{Chain, chain_of, has_seal_form, is_comment, seal_line, seal_of}
 use Rattle.rbc_journal.specs.Headers.{format_in, digest_in}
+use Rattle.rbc_journal.specs.Marks.{begins_marked}
 use Rattle.rbc_journal.specs.declared.reading.ReadFault.{ReadFault}
 use Rattle.rbc_journal.specs.declared.reading.ReadFault.TheVariants.{NotAJournal, FirstFormat, OtherFormat, Damaged, OtherTrack}
 
@@ -19,10 +20,6 @@ pub record Parts : Type 0 where
 -- these bytes, the first of which stands where a gate is due
 abbrev pub tail_of : List ℕ → List ℕ
 tail_of file = drop (length (text (counted file))) file
-
--- lines, read behind a put with this seal
-abbrev pub chain_behind : List ℕ → List (List ℕ) → Chain
-chain_behind seal lines = fold with_line (record start { seal = seal }) lines
 
 -- whether right seals vouch for all of these lines
 abbrev pub is_whole : Chain → List (List ℕ) → Bool
@@ -47,26 +44,33 @@ opens_more [] = false
 opens_more (gate ∷ []) = false
 opens_more (gate ∷ next ∷ rest) = gate == 32
 
-abbrev pub is_open_behind : List ℕ → Option (List (List ℕ)) → Bool
-is_open_behind bytes None = false
-is_open_behind bytes (Some put) = opens_more (drop (length (text put)) bytes)
+-- whether a gate in front of this put was open before: the put is one of a beginning, or behind it stand an open gate and more
+abbrev pub is_kept : List ℕ → Option (List (List ℕ)) → Bool
+is_kept bytes None = false
+is_kept bytes (Some put) = begins_marked put || opens_more (drop (length (text put)) bytes)
 
--- Whether bytes begin with a put whose seal is right, an open gate behind it, and more. No crash leaves that behind a closed gate: nothing is
--- written behind a put before the gate in front of it is open. An open gate that ends the file is the closed one of a put that was being written,
--- torn.
-abbrev pub goes_on : List ℕ → List ℕ → Bool
-goes_on seal bytes = is_open_behind bytes (first_put seal [] (counted bytes))
+-- Whether bytes begin with a put whose seal is right, and it is one of a beginning, or has an open gate behind it, and more. No crash leaves that behind
+-- a closed gate: a beginning came with its file, and nothing is written behind a put before the gate in front of it is open. An open gate that ends the
+-- file is the closed one of a put that was being written, torn.
+abbrev pub was_open : List ℕ → List ℕ → Bool
+was_open seal bytes = is_kept bytes (first_put seal [] (counted bytes))
 
--- Whether bytes are puts whose seals are right, and a closed gate at their end. Only before such bytes may a gate be torn.
+-- whether bytes are this put, which is none of a beginning, and a closed gate at their end
+abbrev pub is_last : List ℕ → Option (List (List ℕ)) → Bool
+is_last bytes None = false
+is_last bytes (Some put) = not (begins_marked put) && bytes_eq bytes (at_rest put)
+
+-- Whether bytes are one put whose seal is right, none of a beginning, and a closed gate at their end. Only before such bytes may a gate be torn: it was
+-- being opened for that put.
 abbrev pub ends_well : List ℕ → List ℕ → Bool
-ends_well seal bytes = is_whole (chain_behind seal (counted bytes)) (counted bytes) && bytes_eq bytes (at_rest (counted bytes))
+ends_well seal bytes = is_last bytes (first_put seal [] (counted bytes))
 
 -- Whether a crash may leave this byte where a gate is due, and these bytes behind it, in which no put counts. Never an open gate: what was written
 -- behind it was on the disk before it opened. Else the bytes are read as though it were open.
 abbrev pub is_crash : List ℕ → ℕ → List ℕ → Bool
 is_crash seal gate rest =
     if gate == 32 then false
-    else if gate == 35 then not (goes_on seal (32 ∷ rest))
+    else if gate == 35 then not (was_open seal (32 ∷ rest))
     else ends_well seal (32 ∷ rest)
 
 -- what is dropped: all that stands behind such a gate; None where the file is damaged, since no crash leaves one that ends where a gate is due

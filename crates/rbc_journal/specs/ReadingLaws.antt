@@ -1,9 +1,11 @@
 -- What holds of each journal file at rest, whatever program wrote it.
-use Rattle.std.specs.Prelude.{◌≡◌, ◌≢◌, ◌⊎◌, ℕ, ◌<◌, false, List, [], ◌∷◌, ◌++◌, length, take, drop, All, Some, Ok, Err}
+use Rattle.std.specs.Prelude.{◌≡◌, ◌≢◌, ◌⊎◌, ℕ, ◌<◌, true, List, [], ◌∷◌, ◌++◌, length, take, drop, All, Some, Ok, Err}
 use Rattle.rbc_journal.specs.Device.{Torn}
 use Rattle.rbc_journal.specs.Gates.{IsLine, text, counted, at_rest, behind}
-use Rattle.rbc_journal.specs.Seals.{AreSealed, has_seal_form, seal_line, seal_of}
+use Rattle.rbc_journal.specs.Seals.{AreSealed, seal_line, seal_of}
 use Rattle.rbc_journal.specs.Headers.{format_in, digest_in}
+use Rattle.rbc_journal.specs.Marks.{begins_marked}
+use Rattle.rbc_journal.specs.Puts.{ArePut, with_its_seal}
 use Rattle.rbc_journal.specs.Reading.{first_put, reading}
 use Rattle.rbc_journal.specs.declared.reading.ReadFault.TheVariants.{NotAJournal, Damaged}
 
@@ -13,15 +15,6 @@ pub record AreJournal (track : List ℕ) (lines : List (List ℕ)) (seal : List 
   pub sealed : AreSealed lines seal
   pub format : format_in lines ≡ Some 2
   pub of_track : digest_in lines ≡ Some track
-
--- lines of a put: none has the form of a seal
-pub record ArePut (put : List (List ℕ)) : Type 0 where
-  pub one_each : All IsLine put
-  pub no_seals : All (λ line. has_seal_form line ≡ false) put
-
--- such lines with their seal, behind a put with this one
-abbrev pub with_its_seal : List ℕ → List (List ℕ) → List (List ℕ)
-with_its_seal seal put = put ++ seal_line (seal_of seal put) ∷ []
 
 -- a file is read as these lines; these bytes are dropped
 abbrev pub IsReadAs : List ℕ → List ℕ → List (List ℕ) → List ℕ → List ℕ → Type 0
@@ -34,11 +27,12 @@ abbrev pub MayLeave : List (List ℕ) → List (List ℕ) → List ℕ → Type 
 MayLeave lines put file =
     Torn (length (at_rest lines)) (length (behind put)) (at_rest lines) file ⊎ Torn (length (text lines)) 1 (text lines ++ 35 ∷ behind put) file
 
--- torn bytes behind the closed gate that happen to begin with lines and the right seal of them, though these are other lines than the put's: shorter ones
+-- Torn bytes behind the closed gate that happen to begin with lines and the right seal of them, though these are other lines than the put's: shorter ones,
+-- or ones that begin with a marked line, as no put behind a beginning does.
 pub record IsForged (lines : List (List ℕ)) (seal : List ℕ) (put : List (List ℕ)) (file : List ℕ) : Type 0 where
   pub others : List (List ℕ)
   pub sealed : first_put seal [] (counted (32 ∷ drop (length (at_rest lines)) file)) ≡ Some others
-  pub shorter : length (text others) < length (text put)
+  pub differ : (length (text others) < length (text put)) ⊎ (begins_marked others ≡ true)
 
 -- A file that a crash leaves is read as the lines from before, with all of the new put or none of it.
 abbrev pub CrashIsRead : Type 0

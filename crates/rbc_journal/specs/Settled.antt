@@ -3,14 +3,18 @@ use Rattle.std.specs.Prelude.{◌≡◌, ℕ, ◌+◌, ◌^◌, ◌<◌, ◌≤�
 use Rattle.rbc_journal.specs.Device.{Only}
 use Rattle.rbc_journal.specs.Gates.{counted, text, at_rest, behind, staged_in}
 use Rattle.rbc_journal.specs.Seals.{AreSealed}
-use Rattle.rbc_journal.specs.Journal.{IsTold}
+use Rattle.rbc_journal.specs.Journal.{told_of, IsPutLine}
 use Rattle.rbc_journal.specs.declared.journal.Journal.{Journal}
 use Rattle.rbc_journal.specs.declared.fault.JournalFault.{JournalFault}
 use Rattle.rbc_journal.specs.declared.fault.JournalFault.TheVariants.{Memory, Full, Device as File}
 
--- the lines that are staged, and not yet in the file
+-- all lines that are staged, and not yet in the file: those that are told, and the notes behind them
+abbrev pub staged_lines : {D : Type 0} → Journal D → List (List ℕ)
+staged_lines journal = staged_in journal.pending.items
+
+-- those of them that are told
 abbrev pub staged : {D : Type 0} → Journal D → List (List ℕ)
-staged journal = staged_in journal.pending.items
+staged journal = told_of (staged_lines journal)
 
 -- there is room behind the staged lines for that of their seal, with its gate and its line feed
 pub record SealFits {D : Type 0} (journal : Journal D) : Type 0 where
@@ -23,8 +27,8 @@ pub record IsSettled {D : Type 0} (seen : D → List ℕ) (may_leave : D → Lis
   pub are_sealed : AreSealed (counted (seen journal.device)) journal.seal
   pub gate : journal.gate ≡ length (text (counted (seen journal.device)))
   pub durable : Only (seen journal.device) (may_leave journal.device)
-  pub waiting : journal.pending.items ≡ behind (staged journal)
-  pub told : All IsTold (staged journal)
+  pub waiting : journal.pending.items ≡ behind (staged_lines journal)
+  pub put : All IsPutLine (staged_lines journal)
   pub fits : journal.gate + vec_len journal.pending ≤ 2 ^ 60
   pub seal_fits : 0 < length journal.pending.items → SealFits journal
 

@@ -5,7 +5,8 @@ ghost use Rattle.rbc_journal.specs.Gates.{IsLine, counted, text};
 ghost use Rattle.rbc_journal.specs.Sessions.{lines_of};
 ghost use Rattle.rbc_journal.specs.Reading.{reading};
 ghost use Rattle.rbc_journal.specs.Journal.{recovered};
-ghost use Rattle.rbc_journal.specs.Beginnings.{marked, beginning_put, begun_lines, begun_seal, begun_file, marked_front, beginning_of, joined};
+ghost use Rattle.rbc_journal.specs.Marks.{marked, marked_front};
+ghost use Rattle.rbc_journal.specs.Beginnings.{beginning_put, begun_lines, begun_seal, begun_file, beginning_of, joined};
 
 use crate::header::{TRACK_DIGITS, header_text, push_line};
 use crate::lines::{end_of_line, next_line};

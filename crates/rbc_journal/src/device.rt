@@ -42,7 +42,7 @@ pub trait Device {
     /// Puts a new file with these bytes, in two parts, in place of the file, and on the disk. A crash leaves the one or the other.
     ///
     /// # Errors
-    /// As above.
+    /// The file failed. What stands in it is not known.
     fn replace(&mut self, front: &[u8], rest: &[u8]) -> Result<(), DeviceFailed>
         ensures replaced { OnOk result (seen self.new ≡ front.now ++ rest.now) }
         ensures durable { OnOk result (Only (front.now ++ rest.now) (may_leave self.new)) }
@@ -53,7 +53,7 @@ pub trait Device {
     /// After it, a crash leaves what stands in the file.
     ///
     /// # Errors
-    /// As above.
+    /// The file failed. What stands in it is not known.
     fn sync(&mut self) -> Result<(), DeviceFailed>
         ensures durable { OnOk result (Only (seen self.old) (may_leave self.new)) }
         ensures syncs { OnOk result (syncs self.new ≡ syncs self.old + 1) }

@@ -1,14 +1,16 @@
-//! A journal: lines, each on the disk before it is acknowledged. A line counts if the byte before it, its gate, is a space.
-//! Behind the last line stands a closed gate, a `#`, on the disk before anything is written behind it. Lines that are put
-//! together end with a seal, which vouches for them and for all before.
+//! A journal: lines, each on the disk before it is acknowledged. A line counts if the byte before it, its gate, is a
+//! space. Behind the last line stands a closed gate, a `#`, on the disk before anything is written behind it. Lines that
+//! are put together end with a seal, which vouches for them and for all before. Behind a line may stand a note: a comment
+//! in the same put.
 
-ghost use Rattle.std.specs.Prelude.{◌≡◌, ◌+◌, ◌-◌, ◌^◌, ◌<◌, ◌≤◌, ◌++◌, [], ◌∷◌, length, take, OnOk, OnErr, IfOk, IfErr, IsErrOf, vec_len, vec_capacity};
+ghost use Rattle.std.specs.Prelude.{◌≡◌, ℕ, ◌+◌, ◌-◌, ◌^◌, ◌<◌, ◌≤◌, ◌++◌, [], ◌∷◌, length, take, OnOk, OnErr, IfOk, IfErr, IsErrOf, vec_len, vec_capacity};
 ghost use Rattle.rbc_journal.specs.Device.{Only, LeavesOnly};
 ghost use Rattle.rbc_journal.specs.Gates.{IsLine, at_rest, behind, counted, staged_in, CountsBeforeOrAfter};
 ghost use Rattle.rbc_journal.specs.Beginnings.{beginning_of};
-ghost use Rattle.rbc_journal.specs.Journal.{recovered, IsTold, IsBeforeOrAfter};
+ghost use Rattle.rbc_journal.specs.Journal.{recovered, IsTold, IsNote, IsBeforeOrAfter};
+ghost use Rattle.rbc_journal.specs.Puts.{with_its_seal};
 ghost use Rattle.rbc_journal.specs.Seals.{IsWholeText};
-ghost use Rattle.rbc_journal.specs.Settled.{staged, IsSettled, HasRoom, HasCause, Waits};
+ghost use Rattle.rbc_journal.specs.Settled.{staged_lines, staged, IsSettled, HasRoom, HasCause, Waits};
 
 use crate::seal::{DIGITS, SEAL_LINE, line_of, seal_of};
 use crate::{Device, DeviceFailed, JournalFault};
@@ -53,6 +55,7 @@ impl<D: Device> Journal<D> {
         ensures begins { IfOk result (λ journal. beginning_of (counted (D.seen journal.device))
             ≡ beginning_of (counted text.now)) }
         ensures staged { IfOk result (λ journal. staged journal ≡ []) }
+        ensures lines { IfOk result (λ journal. staged_lines journal ≡ []) }
 
         // A crash at any moment leaves the same lines.
         ensures any_moment { IfOk result (λ journal. LeavesOnly D.moment D.left_since device journal.device
@@ -131,6 +134,7 @@ impl<D: Device> Journal<D> {
         ensures settled { IsSettled D.seen D.may_leave self.new }
         ensures device { self.new.device ≡ self.old.device }
         ensures staged { staged self.new ≡ staged self.old }
+        ensures lines { staged_lines self.new ≡ staged_lines self.old }
         ensures room { OnOk result (HasRoom self.new bytes) }
         ensures failed { IsErrOf result JournalFault.Device → ⊥ }
         ensures full { IsErrOf result JournalFault.Full → 2 ^ 60 < self.old.gate + vec_len self.old.pending + bytes + 22 }
@@ -151,8 +155,30 @@ impl<D: Device> Journal<D> {
         ensures settled { IsSettled D.seen D.may_leave self.new }
         ensures device { self.new.device ≡ self.old.device }
         ensures staged { staged self.new ≡ staged self.old ++ line.now ∷ [] }
+        ensures lines { staged_lines self.new ≡ staged_lines self.old ++ line.now ∷ [] }
+        ensures some { 0 < vec_len self.new.pending }
+
+        // What was more than the room for it is left.
+        ensures room { (bytes : ℕ) → HasRoom self.old (length line.now + 2 + bytes) → HasRoom self.new bytes }
     {
         push(&mut self.pending, line);
+    }
+
+    /// Stages a note behind the lines that are staged. The file is not asked for anything, and no memory is.
+    pub fn note(&mut self, note: &[u8])
+        requires settled { IsSettled D.seen D.may_leave self.old }
+        requires room { HasRoom self.old (length note.now) }
+        requires note { IsNote note.now }
+        ensures settled { IsSettled D.seen D.may_leave self.new }
+        ensures device { self.new.device ≡ self.old.device }
+        ensures staged { staged self.new ≡ staged self.old }
+        ensures lines { staged_lines self.new ≡ staged_lines self.old ++ note.now ∷ [] }
+        ensures some { 0 < vec_len self.new.pending }
+
+        // What was more than the room for it is left.
+        ensures room { (bytes : ℕ) → HasRoom self.old (length note.now + 2 + bytes) → HasRoom self.new bytes }
+    {
+        push(&mut self.pending, note);
     }
 
     /// Makes the staged lines durable, all at once, with their seal. At `Ok` they are acknowledged: from then on each crash
@@ -166,6 +192,11 @@ impl<D: Device> Journal<D> {
         ensures acknowledged { OnOk result (IsSettled D.seen D.may_leave self.new
             × (recovered (D.seen self.new.device) ≡ recovered (D.seen self.old.device) ++ staged self.old)
             × (staged self.new ≡ [])) }
+
+        // All that is staged is in the file then, also the notes, and nothing is staged.
+        ensures written { OnOk result (0 < vec_len self.old.pending → counted (D.seen self.new.device)
+            ≡ counted (D.seen self.old.device) ++ with_its_seal self.old.seal (staged_lines self.old)) }
+        ensures lines { OnOk result (staged_lines self.new ≡ []) }
 
         // What it begins with stays as it is.
         ensures begins { OnOk result (beginning_of (counted (D.seen self.new.device))

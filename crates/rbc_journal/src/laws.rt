@@ -11,8 +11,8 @@ pub fn files_at_rest_are_sessions()
 {}
 
 /// A crash is never damage: what it leaves of a put is read as the lines from before, with all of the put or with none of
-/// it. The exception is named: torn bytes that happen to begin with the right seal of other lines, shorter than those of
-/// the put. Nothing here runs.
+/// it. The exception is named: torn bytes that happen to begin with the right seal of other lines: of shorter ones than
+/// the put's, or of lines of a beginning. Nothing here runs.
 pub fn crashes_are_read()
     ensures { CrashIsRead }
 {}

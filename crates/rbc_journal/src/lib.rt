@@ -23,4 +23,5 @@ pub use laws::{
 };
 pub use lines::{is_told, next_line};
 pub use reading::{ReadFault, Readable, read};
+pub use seal::is_comment;
 pub use told::next_told;

@@ -1,14 +1,15 @@
 //! What a journal file is read as.
 
-ghost use Rattle.std.specs.Prelude.{◌≡◌, ℕ, List, ◌+◌, ◌≤◌, ◌*◌, [], ◌∷◌, take, drop, length, MatchOption, Some, None, Ok, Err, false, IfSome, IfNone, IfOk, IfErr};
+ghost use Rattle.std.specs.Prelude.{◌≡◌, ℕ, List, ◌+◌, ◌≤◌, ◌*◌, [], ◌∷◌, take, drop, length, MatchOption, Some, None, Ok, Err, false, IfSome, IfNone, IfOk, IfErr, bytes_eq};
 ghost use Rattle.rbc_journal.specs.Gates.{counted, text};
 ghost use Rattle.rbc_journal.specs.Journal.{recovered};
 ghost use Rattle.rbc_journal.specs.Seals.{seal_of_bytes, seal_of, IsWholeText};
 ghost use Rattle.rbc_journal.specs.Journal.{told_of, recovered};
 ghost use Rattle.rbc_journal.specs.Headers.{named_in_header, digest_in};
+ghost use Rattle.rbc_journal.specs.Marks.{mark};
 ghost use Rattle.rbc_journal.specs.Puts.{IsPut, ArePuts, BeginsWithHeader};
 ghost use Rattle.rbc_journal.specs.ReadingLaws.{AreJournal};
-ghost use Rattle.rbc_journal.specs.Reading.{Parts, first_put, begins_open, opens_more, goes_on, ends_well, is_crash, dropped_of, is_first_format, tail_of, by_header, reading};
+ghost use Rattle.rbc_journal.specs.Reading.{Parts, first_put, begins_open, opens_more, was_open, ends_well, is_crash, dropped_of, is_first_format, tail_of, by_header, reading};
 
 use crate::header::{FORMAT, TRACK_DIGITS, format_in, header_in};
 use crate::lines::{line_behind, next_line};
@@ -196,19 +197,30 @@ fn is_crash(seal: &[u8; 16], gate: u8, rest: &[u8]) -> bool
 {
     match gate {
         b' ' => false,
-        b'#' => !goes_on(seal, rest),
+        b'#' => !was_open(seal, rest),
         _ => ends_well(seal, rest),
     }
 }
 
-/// Whether bytes behind a gate that is read as open begin with a put whose seal is right, an open gate behind it, and more.
-fn goes_on(seal: &[u8; 16], behind: &[u8]) -> bool
-    ensures { result ≡ goes_on seal.now (32 ∷ behind.now) }
+/// Whether a gate was open before: behind it stands a put whose seal is right, and it is one of a beginning, or has an
+/// open gate behind it, and more.
+fn was_open(seal: &[u8; 16], behind: &[u8]) -> bool
+    ensures { result ≡ was_open seal.now (32 ∷ behind.now) }
 {
     let Some(put) = put_behind(seal, behind) else {
         return false;
     };
+    if is_marked(behind) {
+        return true;
+    }
     opens_more(put.rest)
+}
+
+/// Whether the line behind a gate that is read as open is one of a beginning.
+fn is_marked(behind: &[u8]) -> bool
+    ensures { result ≡ bytes_eq (take 2 behind.now) mark }
+{
+    behind.starts_with(b"##")
 }
 
 /// Whether bytes begin with an open gate, and more stands behind it.
@@ -218,14 +230,18 @@ fn opens_more(bytes: &[u8]) -> bool
     matches!(bytes, [b' ', _, ..])
 }
 
-/// Whether bytes behind a gate that is read as open are puts whose seals are right, and a closed gate at their end.
+/// Whether bytes behind a gate that is read as open are one put whose seal is right, none of a beginning, and a closed
+/// gate at their end.
 fn ends_well(seal: &[u8; 16], behind: &[u8]) -> bool
     ensures { result ≡ ends_well seal.now (32 ∷ behind.now) }
 {
     let Some(put) = put_behind(seal, behind) else {
         return false;
     };
-    puts_in(put.seal, put.rest).rest == b"#".as_slice()
+    if is_marked(behind) {
+        return false;
+    }
+    put.rest == b"#".as_slice()
 }
 
 /// Whether a file is a journal of the format before this: lines, at least one, with no comment, and a closed gate.

@@ -53,8 +53,8 @@ pub(crate) fn has_seal_form(line: &[u8]) -> bool
     hex::decode_to_slice(digits, &mut [0; 8]).is_ok()
 }
 
-/// Whether a line is a comment.
-pub(crate) fn is_comment(line: &[u8]) -> bool
+/// Whether a line is a comment: one that is not told.
+pub fn is_comment(line: &[u8]) -> bool
     ensures { result ≡ is_comment line.now }
 {
     matches!(line, [b'#', ..])

@@ -57,7 +57,7 @@ impl Calls for SystemFile {
         self.file.sync_data()
     }
 
-    // A file in place of another has these bytes already: `Found::replaced` has put it there.
+    // A file in place of another has these bytes already: `FoundFile::replaced` has put it there.
     fn replace(&mut self, front: &[u8], rest: &[u8]) -> io::Result<()> {
         if self.is_new {
             self.write(0, front)?;

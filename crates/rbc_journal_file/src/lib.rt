@@ -6,15 +6,15 @@ mod asked;
 mod calls;
 mod opening;
 mod past;
-mod place;
+mod paths;
 mod recorded;
 mod timed;
 
 pub use asked::{Call, CallFailed, Role};
 pub use calls::{Calls, SystemFile};
-pub use opening::{Found, OpenFault, create, open};
+pub use opening::{FoundFile, OpenFault, create, open};
 pub use past::{Bytes, Past};
-pub use place::Place;
+pub use paths::JournalPaths;
 pub use rbc_journal::{
     ReadFault, Readable, beginning_in, begun_file, next_told, read, track_digest,
 };

@@ -1,7 +1,7 @@
 //! Opening the file of a journal, and the new file that takes its place.
 
-use crate::place::is_link;
-use crate::{Call, CallFailed, Place, Role, SystemFile};
+use crate::paths::is_link;
+use crate::{Call, CallFailed, JournalPaths, Role, SystemFile};
 use std::alloc::AllocGlobal;
 use std::fs::{File, Files, Metadata, OpenOptions, TryLockError};
 use std::io::{ErrorKind, Read, Write};
@@ -44,9 +44,9 @@ fn asked<T>(call: Call, role: Role, answer: io::Result<T>) -> Result<T, OpenFaul
 
 /// What was found where a journal stands. Until it is dropped no other centre can open the file.
 #[derive(Drop)]
-pub struct Found<'a> {
+pub struct FoundFile<'a> {
     bytes: Option<Vec<u8>>,
-    place: &'a Place,
+    place: &'a JournalPaths,
     file: Option<File>,
 }
 
@@ -56,10 +56,10 @@ pub struct Found<'a> {
 /// `InUse` or `OtherName`, before the file is read; `File`, also where a link leads nowhere; `Memory`.
 pub fn open<'a, R: Files<File = File> + AllocGlobal>(
     rt: &R,
-    place: &'a Place,
-) -> Result<Found<'a>, OpenFault> {
+    place: &'a JournalPaths,
+) -> Result<FoundFile<'a>, OpenFault> {
     let Some(mut file) = locked(rt, place.of(Role::Journal))? else {
-        return Ok(Found {
+        return Ok(FoundFile {
             bytes: None,
             place,
             file: None,
@@ -67,7 +67,7 @@ pub fn open<'a, R: Files<File = File> + AllocGlobal>(
     };
     let mut bytes = Vec::new(rt.alloc());
     asked(Call::Read, Role::Journal, file.read_to_end(&mut bytes))?;
-    Ok(Found {
+    Ok(FoundFile {
         bytes: Some(bytes),
         place,
         file: Some(file),
@@ -127,7 +127,7 @@ fn lock(file: &File, role: Role) -> Result<(), OpenFault> {
 }
 
 /// Puts the names in a folder on the disk.
-fn sync_folder<R: Files<File = File>>(rt: &R, place: &Place) -> Result<(), OpenFault> {
+fn sync_folder<R: Files<File = File>>(rt: &R, place: &JournalPaths) -> Result<(), OpenFault> {
     let folder = fs::open(rt, place.of(Role::Folder));
     let folder = asked(Call::Open, Role::Folder, folder)?;
     asked(Call::Sync, Role::Folder, folder.sync_all())
@@ -137,7 +137,10 @@ fn sync_folder<R: Files<File = File>>(rt: &R, place: &Place) -> Result<(), OpenF
 ///
 /// # Errors
 /// `InUse`, where a file is there already; `File`.
-pub fn create<R: Files<File = File>>(rt: &R, place: &Place) -> Result<SystemFile, OpenFault> {
+pub fn create<R: Files<File = File>>(
+    rt: &R,
+    place: &JournalPaths,
+) -> Result<SystemFile, OpenFault> {
     let file = match File::create_new(rt, place.of(Role::Journal)) {
         Ok(file) => file,
         Err(error) if error.kind() == ErrorKind::AlreadyExists => return Err(OpenFault::InUse),
@@ -148,7 +151,7 @@ pub fn create<R: Files<File = File>>(rt: &R, place: &Place) -> Result<SystemFile
     Ok(SystemFile::new(file))
 }
 
-impl Found<'_> {
+impl FoundFile<'_> {
     /// The bytes of the file. None where there is no file.
     pub fn bytes(&self) -> Option<&[u8]> {
         match &self.bytes {

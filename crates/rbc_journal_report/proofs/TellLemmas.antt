@@ -11,15 +11,15 @@ use Rattle.rbc_journal.specs.Reading.{Parts, is_first_format, is_whole, dropped_
 use Rattle.rbc_journal.specs.declared.reading.ReadFault.{ReadFault}
 use Rattle.rbc_journal.specs.declared.reading.ReadFault.TheVariants.{NotAJournal, FirstFormat, OtherFormat, Damaged, OtherTrack}
 use Rattle.rbc_journal_report.specs.Telling.{own_digest, Telling, state_of, damage_of, telling_by, telling_beside}
-use Rattle.rbc_journal_report.specs.declared.telling.State.{State}
-use Rattle.rbc_journal_report.specs.declared.telling.State.TheVariants.{Damaged as DamagedAt}
+use Rattle.rbc_journal_report.specs.declared.telling.FileState.{FileState}
+use Rattle.rbc_journal_report.specs.declared.telling.FileState.TheVariants.{Damaged as DamagedAt}
 
 module _ (given : Option (List ℕ)) (bytes digest : List ℕ) (is : digest ≡ unwrap_or given (own_digest bytes)) where
-  pub tell_whole : (parts : Parts) (text : List ℕ) (state : State) → reading bytes digest ≡ Ok parts → counted text ≡ counted bytes
+  pub tell_whole : (parts : Parts) (text : List ℕ) (state : FileState) → reading bytes digest ≡ Ok parts → counted text ≡ counted bytes
       → state ≡ state_of (length parts.dropped) → telling_beside given bytes ≡ Ok (record { lines = counted text; state = state })
   tell_whole parts text state read same ends =
       ap (telling_by (counted bytes)) (ap (reading bytes) (sym is) ∙ read)
-      ∙ ap₂ (λ (lines : List (List ℕ)) (s : State). Ok (record { lines = lines; state = s })) (sym same) (sym ends)
+      ∙ ap₂ (λ (lines : List (List ℕ)) (s : FileState). Ok (record { lines = lines; state = s })) (sym same) (sym ends)
 
   pub tell_fault : (fault : ReadFault) (told : Result Telling ReadFault) → reading bytes digest ≡ Err fault
       → telling_by (counted bytes) (Err fault) ≡ told → telling_beside given bytes ≡ told

@@ -8,8 +8,8 @@ use Rattle.rbc_journal.specs.declared.journal.Journal.{Journal}
 use Rattle.rbc_journal.specs.declared.reading.ReadFault.{ReadFault}
 use Rattle.rbc_journal.specs.declared.reading.ReadFault.TheVariants.{Damaged, OtherTrack}
 use Rattle.rbc_journal_report.specs.Telling.{Telling, named_in}
-use Rattle.rbc_journal_report.specs.declared.telling.State.{State}
-use Rattle.rbc_journal_report.specs.declared.telling.State.TheVariants.{Whole, Cut, Damaged as DamagedAt}
+use Rattle.rbc_journal_report.specs.declared.telling.FileState.{FileState}
+use Rattle.rbc_journal_report.specs.declared.telling.FileState.TheVariants.{Whole, Cut, Damaged as DamagedAt}
 
 -- The journal is on the disk, and a crash at any later moment leaves a file that tells these lines.
 pub record Tells {D : Type 0} (seen : D → List ℕ) (may_leave : D → List ℕ → Type 0) (journal : Journal D) (lines : List (List ℕ)) : Type 0 where
@@ -26,7 +26,7 @@ abbrev pub begins_with : {D : Type 0} → (D → List ℕ) → Journal D → Lis
 begins_with seen journal = beginning_of (counted (seen journal.device))
 
 -- The first damaged line, where it stands in the header or in the put behind it: then it isn't known what the journal begins with.
-abbrev pub damage_in_front : State → Option ℕ
+abbrev pub damage_in_front : FileState → Option ℕ
 damage_in_front (DamagedAt line) = if nat_le line 4 then Some line else None
 damage_in_front Whole = None
 damage_in_front (Cut bytes) = None

@@ -6,8 +6,8 @@ use Rattle.rbc_journal.specs.Journal.{told_of}
 use Rattle.rbc_journal.specs.declared.reading.ReadFault.{ReadFault}
 use Rattle.rbc_journal.specs.declared.reading.ReadFault.TheVariants.{Damaged}
 use Rattle.rbc_journal_report.specs.Telling.{Telling, text_of}
-use Rattle.rbc_journal_report.specs.declared.telling.State.{State}
-use Rattle.rbc_journal_report.specs.declared.telling.State.TheVariants.{Whole, Cut, Damaged as DamagedAt}
+use Rattle.rbc_journal_report.specs.declared.telling.FileState.{FileState}
+use Rattle.rbc_journal_report.specs.declared.telling.FileState.TheVariants.{Whole, Cut, Damaged as DamagedAt}
 use Rattle.rbc_journal_report.specs.declared.following.LookFailed.{LookFailed}
 use Rattle.rbc_journal_report.specs.declared.following.LookFailed.TheVariants.{Unreadable, Memory}
 use Rattle.rbc_journal_report.specs.declared.following.FollowFault.{FollowFault}
@@ -34,7 +34,7 @@ shown_after before lines = if go_on before lines then lines else before
 abbrev pub text_behind : List (List ℕ) → List (List ℕ) → List ℕ
 text_behind before lines = if go_on before lines then text_of (told_of (drop (length before) lines)) else []
 
-abbrev pub doubt_by : Bool → State → Option Doubt
+abbrev pub doubt_by : Bool → FileState → Option Doubt
 doubt_by goes_on Whole = if goes_on then None else Some Another
 doubt_by goes_on (Cut bytes) = if goes_on then None else Some Another
 doubt_by goes_on (DamagedAt line) = Some (Unread (Damaged line))

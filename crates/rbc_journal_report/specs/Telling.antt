@@ -10,8 +10,8 @@ use Rattle.rbc_journal.specs.Journal.{told_of}
 use Rattle.rbc_journal.specs.Reading.{Parts, reading}
 use Rattle.rbc_journal.specs.declared.reading.ReadFault.{ReadFault}
 use Rattle.rbc_journal.specs.declared.reading.ReadFault.TheVariants.{Damaged}
-use Rattle.rbc_journal_report.specs.declared.telling.State.{State}
-use Rattle.rbc_journal_report.specs.declared.telling.State.TheVariants.{Whole, Cut, Damaged as DamagedAt}
+use Rattle.rbc_journal_report.specs.declared.telling.FileState.{FileState}
+use Rattle.rbc_journal_report.specs.declared.telling.FileState.TheVariants.{Whole, Cut, Damaged as DamagedAt}
 
 -- ---- what a file is
 
@@ -37,10 +37,10 @@ checked (Err fault) = Err fault
 -- The lines of a file that stand, comments and seals among them, and how it ends.
 pub record Telling : Type 0 where
   pub lines : List (List ℕ)
-  pub state : State
+  pub state : FileState
 
 -- whole, or cut by so many bytes
-abbrev pub state_of : ℕ → State
+abbrev pub state_of : ℕ → FileState
 state_of dropped = if dropped == 0 then Whole else Cut dropped
 
 -- the line at which a file is damaged
@@ -118,7 +118,7 @@ given_text None own = []
 given_text (Some given) None = []
 given_text (Some given) (Some own) = if bytes_eq given own then codes "same track\n" else codes "other track\n"
 
-abbrev pub state_text : State → List ℕ
+abbrev pub state_text : FileState → List ℕ
 state_text Whole = line_of (codes "whole" ∷ [])
 state_text (Cut bytes) = line_of (codes "cut" ∷ decimal bytes ∷ [])
 state_text (DamagedAt line) = line_of (codes "damaged" ∷ decimal line ∷ [])

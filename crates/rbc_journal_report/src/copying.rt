@@ -15,7 +15,7 @@ ghost use Rattle.rbc_journal_report.specs.Telling.{named_in, telling, told_lines
 ghost use Rattle.rbc_journal_report.specs.declared.copying.CopyFault.TheVariants.{Read, Few, New};
 
 use crate::counting::count;
-use crate::telling::{State, Told, named, tell};
+use crate::telling::{FileContent, FileState, named, tell};
 use rbc_journal::{
     Device, Journal, JournalFault, ReadFault, beginning_in, begun_file, next_told, read,
 };
@@ -122,7 +122,7 @@ pub fn renew<D: Device>(
 ///
 /// # Errors
 /// As `refusal_by` of `specs/Copying.antt` tells them.
-fn track_of(told: &Told, given: Option<[u8; 64]>) -> Result<[u8; 64], ReadFault>
+fn track_of(told: &FileContent, given: Option<[u8; 64]>) -> Result<[u8; 64], ReadFault>
     ensures ok { IfOk result (λ track. named_in (counted told.now.text.now) ≡ Some track) }
     ensures same { IfOk result (λ track. IfSome given (λ digest. digest ≡ track)) }
     ensures taken { IfOk result (λ track. refusal_by given (named_in (counted told.now.text.now)) (damage_in_front told.now.state)
@@ -143,11 +143,11 @@ fn track_of(told: &Told, given: Option<[u8; 64]>) -> Result<[u8; 64], ReadFault>
 }
 
 /// The first damaged line, where it stands in the header or in the put behind it.
-fn damage_in_front(state: State) -> Option<u64>
+fn damage_in_front(state: FileState) -> Option<u64>
     ensures { result ≡ damage_in_front state }
 {
     match state {
-        State::Damaged(line) if line <= BEHIND_HEADER => Some(line),
+        FileState::Damaged(line) if line <= BEHIND_HEADER => Some(line),
         _ => None,
     }
 }

@@ -10,7 +10,7 @@ ghost use Rattle.rbc_journal_report.specs.Telling.{IsText, telling_beside, text_
 
 use crate::following::{Doubt, FollowFault};
 use crate::printing::print_text;
-use crate::telling::{State, tell_beside};
+use crate::telling::{FileState, tell_beside};
 use rbc_journal::ReadFault;
 use rbc_words::Sink;
 use std::alloc::Global;
@@ -97,11 +97,11 @@ impl Follower {
 }
 
 /// Why a file can't be followed that ends so, and that goes on from what was written or does not.
-fn doubt_by(goes_on: bool, state: State) -> Option<Doubt>
+fn doubt_by(goes_on: bool, state: FileState) -> Option<Doubt>
     ensures { result ≡ doubt_by goes_on state }
 {
     match state {
-        State::Damaged(line) => Some(Doubt::Unread(ReadFault::Damaged(line))),
+        FileState::Damaged(line) => Some(Doubt::Unread(ReadFault::Damaged(line))),
         _ if goes_on => None,
         _ => Some(Doubt::Another),
     }

@@ -13,4 +13,4 @@ pub use following::{Doubt, FollowFault, LookFailed, Watched, follow};
 pub use printing::{print_lines, print_report};
 pub use rbc_journal::{Journal, JournalFault, ReadFault};
 pub use rbc_streams::WholeFault;
-pub use telling::{State, Told, check, digest_of, named, tell, tell_beside};
+pub use telling::{FileContent, FileState, check, digest_of, named, tell, tell_beside};

@@ -8,7 +8,7 @@ ghost use Rattle.rbc_journal.specs.Journal.{told_of};
 ghost use Rattle.rbc_journal_report.specs.Telling.{telling, text_of, told_lines, kind_text, digest_word, given_text, state_text, head_text, first_begun, begins_text, total_text, counts_text, told_text, report_text};
 
 use crate::counting::{count, count_of};
-use crate::telling::{State, Told, first_begun, named, tell};
+use crate::telling::{FileContent, FileState, first_begun, named, tell};
 use rbc_journal::next_told;
 use rbc_streams::put;
 use rbc_words::{Sink, Word, WriteFailed, print_line};
@@ -101,7 +101,7 @@ fn print_one<W: Sink>(line: &[u8], writer: &mut W) -> Result<(), WriteFailed>
 
 /// Writes a report.
 fn print_told<W: Sink>(
-    told: &Told,
+    told: &FileContent,
     given: Option<[u8; 64]>,
     writer: &mut W,
 ) -> Result<(), WriteFailed>
@@ -202,13 +202,13 @@ fn print_kind<W: Sink>(text: &[u8], kind: &[u8], writer: &mut W) -> Result<(), W
 }
 
 /// Writes how a file ends.
-fn print_state<W: Sink>(state: State, writer: &mut W) -> Result<(), WriteFailed>
+fn print_state<W: Sink>(state: FileState, writer: &mut W) -> Result<(), WriteFailed>
     requires { W.failed writer.old ≡ false }
     ensures { Prints (W.written writer.old) (W.written writer.new) (W.failed writer.new) (state_text state) result }
 {
     match state {
-        State::Whole => put(writer, b"whole\n"),
-        State::Cut(bytes) => print_line(b"cut", &[Word::Count(bytes)], writer),
-        State::Damaged(line) => print_line(b"damaged", &[Word::Count(line)], writer),
+        FileState::Whole => put(writer, b"whole\n"),
+        FileState::Cut(bytes) => print_line(b"cut", &[Word::Count(bytes)], writer),
+        FileState::Damaged(line) => print_line(b"damaged", &[Word::Count(line)], writer),
     }
 }

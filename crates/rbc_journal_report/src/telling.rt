@@ -15,7 +15,7 @@ use std::alloc::Global;
 
 /// How a journal file ends.
 #[derive(Clone, Copy, Debug, PartialEq, Eq)]
-pub enum State {
+pub enum FileState {
     /// It is at rest.
     Whole,
     /// A crash left so many bytes behind its closed gate, of a put that was never acknowledged.
@@ -26,18 +26,18 @@ pub enum State {
 
 /// What is told of a journal file.
 #[derive(Clone, Copy)]
-pub struct Told<'a> {
+pub struct FileContent<'a> {
     /// The lines that stand, each with its gate and its line feed, with comments and seals.
     pub text: &'a [u8],
     /// How the file ends.
-    pub state: State,
+    pub state: FileState,
 }
 
 /// What is told of a file.
 ///
 /// # Errors
 /// It is no journal of format 2.
-pub fn tell(bytes: &[u8]) -> Result<Told<'_>, ReadFault>
+pub fn tell(bytes: &[u8]) -> Result<FileContent<'_>, ReadFault>
     ensures ok { IfOk result (λ told. telling bytes.now ≡ Ok (record { lines = counted told.text.now; state = told.state })) }
     ensures err { IfErr result (λ fault. telling bytes.now ≡ Err fault) }
     ensures text { IfOk result (λ told. IsText told.text.now) }
@@ -49,7 +49,7 @@ pub fn tell(bytes: &[u8]) -> Result<Told<'_>, ReadFault>
 ///
 /// # Errors
 /// It is no journal of format 2, or of another track and not damaged.
-pub fn tell_beside(bytes: &[u8], given: Option<[u8; 64]>) -> Result<Told<'_>, ReadFault>
+pub fn tell_beside(bytes: &[u8], given: Option<[u8; 64]>) -> Result<FileContent<'_>, ReadFault>
     ensures ok { IfOk result (λ told. telling_beside given bytes.now
         ≡ Ok (record { lines = counted told.text.now; state = told.state })) }
     ensures err { IfErr result (λ fault. telling_beside given bytes.now ≡ Err fault) }
@@ -57,7 +57,7 @@ pub fn tell_beside(bytes: &[u8], given: Option<[u8; 64]>) -> Result<Told<'_>, Re
 {
     let own = named(bytes).unwrap_or([b'-'; 64]);
     match read(bytes, &given.unwrap_or(own)) {
-        Ok(file) => Ok(Told {
+        Ok(file) => Ok(FileContent {
             text: file.text,
             state: state_of(file.dropped.len()),
         }),
@@ -66,7 +66,7 @@ pub fn tell_beside(bytes: &[u8], given: Option<[u8; 64]>) -> Result<Told<'_>, Re
 }
 
 /// What is told of a file that is not read to its end.
-fn tell_damaged(bytes: &[u8], fault: ReadFault) -> Result<Told<'_>, ReadFault>
+fn tell_damaged(bytes: &[u8], fault: ReadFault) -> Result<FileContent<'_>, ReadFault>
     ensures ok { IfOk result (λ told. telling_by (counted bytes.now) (Err fault)
         ≡ Ok (record { lines = counted told.text.now; state = told.state })) }
     ensures err { IfErr result (λ told. telling_by (counted bytes.now) (Err fault) ≡ Err told) }
@@ -75,9 +75,9 @@ fn tell_damaged(bytes: &[u8], fault: ReadFault) -> Result<Told<'_>, ReadFault>
     let Some(line) = damage_of(fault) else {
         return Err(fault);
     };
-    Ok(Told {
+    Ok(FileContent {
         text: first_lines(bytes, line.saturating_sub(1)),
-        state: State::Damaged(line),
+        state: FileState::Damaged(line),
     })
 }
 
@@ -120,13 +120,13 @@ pub fn digest_of<R: Source>(alloc: Global, reader: &mut R) -> Result<[u8; 64], W
 }
 
 /// Whole, or cut by so many bytes.
-fn state_of(dropped: usize) -> State
+fn state_of(dropped: usize) -> FileState
     ensures { result ≡ state_of dropped }
 {
     if dropped == 0 {
-        State::Whole
+        FileState::Whole
     } else {
-        State::Cut(dropped as u64)
+        FileState::Cut(dropped as u64)
     }
 }
 

@@ -2,6 +2,8 @@ pub mod TellingLemmas
 mod BetweenLemmas
 pub mod AddingLemmas
 mod FollowingLemmas
+mod NoteLemmas
+mod ReplayingLemmas
 mod SayingLemmas
 mod KeepingLemmas
 mod TalkLemmas

@@ -1,6 +1,7 @@
 pub mod Faults
 pub mod Tells
 pub mod Adds
+pub mod Notes
 pub mod Kept
 pub mod Advances
 pub mod Laws

@@ -1,9 +1,9 @@
 //! The centre with a journal answers lines: a reply that tells of an entry is written once the entry is on the disk.
 
-ghost use Rattle.std.specs.Prelude.{◌≡◌, ◌||◌, ◌++◌, ◌∷◌, [], ℕ, List, false, length, nat_lt, Ok, IfOk, MatchBool};
+ghost use Rattle.std.specs.Prelude.{◌≡◌, ◌||◌, ◌+◌, ◌++◌, ◌∷◌, [], ℕ, List, false, length, nat_lt, Ok, IfOk, MatchBool, MatchOption};
 ghost use Rattle.std.specs.Thread.{IsSync};
 ghost use Rattle.rbc_journal.specs.Journal.{IsTold};
-ghost use Rattle.rbc_journal.specs.Settled.{staged, IsSettled, HasRoom};
+ghost use Rattle.rbc_journal.specs.Settled.{staged_lines, staged, IsSettled, HasRoom};
 ghost use Rattle.rbc_model.specs.HistoryText.{IsToldOfTrack};
 ghost use Rattle.rbc_model.specs.SessionText.{parse_session, IsSayable};
 ghost use Rattle.rbc_model.specs.Sessions.{Prints};
@@ -12,11 +12,16 @@ ghost use Rattle.rbc_server.specs.Records.{scene_now};
 ghost use Rattle.rbc_session_laws.specs.declared.command.Command.TheVariants.{Event, Authority};
 ghost use Rattle.rbc_session_laws.specs.Commands.{resolve};
 ghost use Rattle.rbc_server.specs.SessionLines.{request_view};
+ghost use Rattle.rbc_group_commit.specs.Pages.{with_note};
+ghost use Rattle.rbc_group_commit.specs.declared.line.TheConstants.{LONGEST_NOTE};
 ghost use Rattle.rbc_kept.specs.Kept.{IsGoing};
 ghost use Rattle.rbc_kept.specs.Advances.{Advances, RestsOnly};
+ghost use Rattle.rbc_kept.specs.Notes.{note_behind};
 
 use crate::Kept;
 use crate::entry_line::line_text;
+use crate::note::note_behind;
+use rbc_group_commit::LONGEST_NOTE;
 use rbc_journal::Device;
 use rbc_model::limits::LONGEST_LINE;
 use rbc_model::{LineFault, Memory, Told, TrainId};
@@ -24,7 +29,7 @@ use rbc_server::replies::{SessionRefusal, SessionReply};
 use rbc_server::words::{Request, parse};
 use rbc_server::{View, candidate, commit, in_vain, resolve, stopped, tell};
 use rbc_session_laws::Command;
-use rbc_streams::{Answers, Sink, WriteFailed};
+use rbc_streams::{LineHandler, Sink, WriteFailed};
 use std::alloc::Global;
 use std::thread::Threads;
 
@@ -32,7 +37,7 @@ use std::thread::Threads;
 #[derive(Drop)]
 pub(crate) struct JournaledCentre;
 
-impl<D: Device> Answers<JournaledCentre> for Kept<D> {
+impl<D: Device> LineHandler<JournaledCentre> for Kept<D> {
     type State = Kept<D>;
 
     ghost use Rattle.std.specs.Prelude.{◌≡◌, ◌≤◌};
@@ -233,7 +238,7 @@ impl<D: Device> Kept<D> {
         self.say(&reply, more, writer)
     }
 
-    /// Makes room for the line of a request in the journal, and tells that line.
+    /// Makes room for the line of a request in the journal, and for a note behind it, and tells that line.
     ///
     /// # Errors
     ///
@@ -247,22 +252,24 @@ impl<D: Device> Kept<D> {
         ensures batch { self.new.batch ≡ self.old.batch }
         ensures device { self.new.journal.device ≡ self.old.journal.device }
         ensures staged { staged self.new.journal ≡ staged self.old.journal }
+        ensures lines { staged_lines self.new.journal ≡ staged_lines self.old.journal }
         ensures settled { IsSettled D.seen D.may_leave self.new.journal }
-        ensures room { IfOk result (λ text. HasRoom self.new.journal (length text.items)) }
+        ensures room { IfOk result (λ text. HasRoom self.new.journal (length text.items + 2 + LONGEST_NOTE)) }
         ensures line { IfOk result (λ text. IsTold text.items) }
         ensures says { IfOk result (λ text. parse_session text.items ≡ Ok (request_view request.now)) }
     {
         let text = line_text(alloc, request)?;
-        match self.journal.reserve(text.len()) {
+        match self.journal.reserve(text.len() + 2 + LONGEST_NOTE) {
             Ok(()) => Ok(text),
             Err(_) => Err(Memory),
         }
     }
 
-    /// Stages the line of an entry, for which there is room, if the record has gained one since it was at a version.
+    /// Stages the line of an entry, for which there is room, and what is noted of it, if the record has gained one since it was at
+    /// a version.
     fn stage(&mut self, before: u64, text: &[u8])
         requires settled { IsSettled D.seen D.may_leave self.old.journal }
-        requires room { HasRoom self.old.journal (length text.now) }
+        requires room { HasRoom self.old.journal (length text.now + 2 + LONGEST_NOTE) }
         requires line { IsTold text.now }
         ensures history { self.new.history ≡ self.old.history }
         ensures whole { self.new.has_failed ≡ self.old.has_failed }
@@ -272,9 +279,32 @@ impl<D: Device> Kept<D> {
         ensures settled { IsSettled D.seen D.may_leave self.new.journal }
         ensures staged { MatchBool (nat_lt before (length self.old.history.entries))
             (staged self.new.journal ≡ staged self.old.journal ++ text.now ∷ []) (staged self.new.journal ≡ staged self.old.journal) }
+        ensures lines { MatchBool (nat_lt before (length self.old.history.entries))
+            (staged_lines self.new.journal ≡ staged_lines self.old.journal ++ with_note text.now (note_behind self.old.history.entries))
+            (staged_lines self.new.journal ≡ staged_lines self.old.journal) }
     {
         if self.history.version() > before {
             self.journal.stage(text);
+            self.note();
+        }
+    }
+
+    /// Stages what is noted of the record's last entry, for which there is room, behind its line.
+    fn note(&mut self)
+        requires settled { IsSettled D.seen D.may_leave self.old.journal }
+        requires room { HasRoom self.old.journal LONGEST_NOTE }
+        ensures history { self.new.history ≡ self.old.history }
+        ensures whole { self.new.has_failed ≡ self.old.has_failed }
+        ensures replies { self.new.replies ≡ self.old.replies }
+        ensures batch { self.new.batch ≡ self.old.batch }
+        ensures device { self.new.journal.device ≡ self.old.journal.device }
+        ensures settled { IsSettled D.seen D.may_leave self.new.journal }
+        ensures staged { staged self.new.journal ≡ staged self.old.journal }
+        ensures lines { MatchOption (note_behind self.old.history.entries) (staged_lines self.new.journal ≡ staged_lines self.old.journal)
+            (λ note. staged_lines self.new.journal ≡ staged_lines self.old.journal ++ note ∷ []) }
+    {
+        if let Some(note) = note_behind(&self.history) {
+            self.journal.note(note.bytes());
         }
     }
 }

@@ -25,6 +25,9 @@ pub enum KeptFault {
     /// The journal tells more entries than the history may have, which is this number.
     #[error("journal: Entries {0}")]
     Entries(u64),
+    /// The line of this number, from 1 on, leads to another grant than is noted behind it, or to none.
+    #[error("journal: Differs {0}")]
+    Differs(u64),
 }
 
 impl From<JournalFault> for KeptFault {

@@ -1,7 +1,7 @@
 //! A journal keeps the requests that led to the entries of a desk.
 
 use crate::{RequestLine, SeatTold, line_of};
-use rbc_group_commit::{CommitName, Committer, GroupCommit, Told};
+use rbc_group_commit::{CommitName, Committer, GroupCommit, ToldHistory};
 use rbc_journal::Device;
 use rbc_model::Memory;
 use rbc_server::words::Request;
@@ -11,11 +11,11 @@ use std::sync::Wait;
 
 /// The journal of a desk, for its seats: a group commit that hears what they are told.
 #[derive(Drop)]
-pub struct DeskJournal<'a, T: Told + Drop, D: Device, N: CommitName> {
+pub struct DeskJournal<'a, T: ToldHistory + Drop, D: Device, N: CommitName> {
     group_commit: &'a GroupCommit<T, D, N>,
 }
 
-impl<'a, T: Told + Drop, D: Device, N: CommitName> DeskJournal<'a, T, D, N> {
+impl<'a, T: ToldHistory + Drop, D: Device, N: CommitName> DeskJournal<'a, T, D, N> {
     /// Over the group commit of the desk.
     pub fn over(group_commit: &'a GroupCommit<T, D, N>) -> DeskJournal<'a, T, D, N> {
         DeskJournal { group_commit }

@@ -10,6 +10,7 @@ ghost use Rattle.rbc_journal.specs.Seals.{IsWholeText};
 ghost use Rattle.rbc_session_laws.specs.Retelling.{IsRetold};
 ghost use Rattle.rbc_kept.specs.Adds.{Adds};
 ghost use Rattle.rbc_kept.specs.Kept.{IsKept, IsReady};
+ghost use Rattle.rbc_kept.specs.Notes.{AreTrue};
 ghost use Rattle.rbc_kept.specs.Tells.{Tells};
 
 use crate::KeptFault;
@@ -44,8 +45,8 @@ impl<D: Device> Kept<D> {
     ///
     /// # Errors
     ///
-    /// `Memory`, `Foreign`, `Entries` or `Full`, before the file is asked for anything; `Device`. The file comes back, with all that
-    /// counts in it.
+    /// `Memory`, `Foreign`, `Entries`, `Differs` or `Full`, before the file is asked for anything; `Device`. The file comes back,
+    /// with all that counts in it.
     pub fn open(
         rt: &(impl Threads + Sync),
         alloc: Global,
@@ -62,6 +63,9 @@ impl<D: Device> Kept<D> {
         ensures begin { IfOk result (λ kept. begin_of kept.history ≡ begin_of history) }
         ensures same { IfOk result (λ kept. recovered (D.seen kept.journal.device) ≡ recovered file.now.text.now) }
         ensures beginning { IfOk result (λ kept. beginning_of (counted (D.seen kept.journal.device)) ≡ beginning_of (counted file.now.text.now)) }
+
+        // No grant has come out otherwise than was noted.
+        ensures noted { IfOk result (λ kept. AreTrue (counted file.now.text.now) kept.history.entries) }
 
         // A crash at any moment leaves the same lines.
         ensures any_moment { IfOk result (λ kept. LeavesOnly D.moment D.left_since device kept.journal.device
@@ -95,6 +99,7 @@ impl<D: Device> Kept<D> {
         requires same { recovered (D.seen device) ≡ recovered file.now.text.now }
         requires durable { Only (D.seen device) (D.may_leave device) }
         ensures ready { IfOk result (λ kept. IsReady D.seen D.may_leave kept) }
+        ensures history { IfOk result (λ kept. kept.history ≡ history) }
         ensures track { IfOk result (λ kept. kept.history.track ≡ history.track) }
         ensures begin { IfOk result (λ kept. begin_of kept.history ≡ begin_of history) }
         ensures same { IfOk result (λ kept. recovered (D.seen kept.journal.device) ≡ recovered file.now.text.now) }

@@ -10,6 +10,7 @@ mod following;
 mod keeping;
 mod kept;
 mod laws;
+mod note;
 mod opening;
 mod replaying;
 mod request_line;

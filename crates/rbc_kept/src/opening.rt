@@ -7,14 +7,14 @@ ghost use Rattle.rbc_server.specs.Seats.{seated};
 ghost use Rattle.rbc_group_commit.specs.Stamps.{stamp_of};
 
 use crate::{Kept, KeptFault, SeatTold};
-use rbc_group_commit::{CommitName, Committer, GroupCommit, Start, Told};
+use rbc_group_commit::{CommitName, Committer, GroupCommit, Start, ToldHistory};
 use rbc_journal::Device;
 use rbc_server::{Blank, Desk, DeskName, Seat};
 use std::alloc::Global;
 use std::sync::Wait;
 
 /// A desk with its seats, and the group commit of its journal with a committer for each of them.
-pub struct Opened<L: DeskName, T: Told + Drop, D: Device, N: CommitName> {
+pub struct Opened<L: DeskName, T: ToldHistory + Drop, D: Device, N: CommitName> {
     /// The desk.
     pub desk: Desk<L>,
     /// Its seats.
@@ -37,13 +37,13 @@ pub fn open<L: DeskName, D: Device, N: CommitName, R: Wait>(
     kept: Kept<D>,
     seats: usize,
     blank: Blank,
-    stamps: rbc_group_commit::Blank,
+    stamps: rbc_group_commit::BlankStamps,
 ) -> Result<Opened<L, SeatTold<L>, D, N>, (KeptFault, D)>
     requires ready { IsReady D.seen D.may_leave kept }
     requires opened { kept.history ≡ L.opened }
     requires name { blank.ledger.name ≡ L.name }
     requires parts { blank.ledger.parts ≡ L.parts }
-    requires book { blank.journal ≡ L.book }
+    requires book { blank.book ≡ L.book }
     requires one_each { seats ≡ L.parts }
     requires some { (1 ≤ seats) × (seats ≤ 72) }
     requires stamps { stamps ≡ N.book }

@@ -17,7 +17,7 @@ use crate::answering::JournaledCentre;
 use crate::{Kept, RunFault};
 use rbc_journal::Device;
 use rbc_model::SessionFault;
-use rbc_streams::{Sink, Source, converse};
+use rbc_streams::{Sink, Source, serve_lines};
 use std::alloc::Global;
 use std::thread::Threads;
 
@@ -77,7 +77,7 @@ pub fn run<R: Source, W: Sink, D: Device>(
 {
     // The record's track is in form.
     kept.history.known();
-    let ended = converse(rt, alloc, reader, writer, kept, &JournaledCentre);
+    let ended = serve_lines(rt, alloc, reader, writer, kept, &JournaledCentre);
     run_end(ended, kept.has_failed)
 }
 

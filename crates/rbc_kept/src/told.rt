@@ -5,7 +5,8 @@ ghost use Rattle.rbc_kept.specs.Entries.{TellsEntry};
 ghost use Rattle.rbc_server.specs.Later.{IsLater};
 
 use crate::RequestLine;
-use rbc_group_commit::{Line, Told};
+use crate::note::note_in;
+use rbc_group_commit::{EntryLine, ToldHistory};
 use rbc_server::{DeskName, Receipt, Seat, Sight};
 use std::marker::{Model, PhantomData};
 use std::sync::Wait;
@@ -77,7 +78,7 @@ fn go_on(sight: &mut Sight, other: &Sight)
     }
 }
 
-impl<L: DeskName> Told for SeatTold<L> {
+impl<L: DeskName> ToldHistory for SeatTold<L> {
     ghost use Rattle.rbc_kept.specs.Entries.{TellsEntry};
 
     ghost tells = { TellsEntry };
@@ -87,18 +88,20 @@ impl<L: DeskName> Told for SeatTold<L> {
     }
 }
 
-/// The line of the entry that a receipt is for, by what its seat was told.
+/// The line of the entry that a receipt is for, by what its seat was told, and what is noted of that entry.
 #[tactic(auto, using(std::proofs::lemmas::Option::slice_get_within))]
 pub fn line_of<L: DeskName>(
     seat: &Seat<L>,
     receipt: &Receipt,
     text: RequestLine,
-) -> Line<SeatTold<L>>
+) -> EntryLine<SeatTold<L>>
     requires { TellsEntry seat.now.told receipt.now.place text }
     ensures { result ≡ receipt.now.place }
 {
     // A place is below the version, and a record has few entries.
     seat.known();
-    let RequestLine { bytes } = text;
-    Line::new(SeatTold::of(seat), receipt.place(), bytes)
+    let told = SeatTold::of(seat);
+    let RequestLine { bytes, room } = text;
+    let note = note_in(room, receipt);
+    EntryLine::new(told, receipt.place(), bytes, note)
 }

@@ -1,8 +1,8 @@
 -- What is answered to a request.
 use Rattle.std.specs.Prelude.{ℕ, ◌==◌, nat_lt, if◌then◌else◌, Bool, true, false, not, ◌&&◌, List, [], ◌++◌, length, Option, Some, None, codes}
 use Rattle.rbc_page.specs.declared.asked.Asked.{Asked}
-use Rattle.rbc_page.specs.declared.asked.Page.{Page}
-use Rattle.rbc_page.specs.declared.asked.Page.TheVariants.{Viewer, Track, Scene, Metrics, Health}
+use Rattle.rbc_page.specs.declared.asked.Resource.{Resource}
+use Rattle.rbc_page.specs.declared.asked.Resource.TheVariants.{Viewer, Track, Scene, Metrics, Health}
 use Rattle.rbc_page.specs.declared.head.Head.{Head}
 use Rattle.rbc_page.specs.declared.head.Kind.{Kind}
 use Rattle.rbc_page.specs.declared.head.Kind.TheVariants.{Html, Plain, Numbers}
@@ -38,7 +38,7 @@ abbrev pub scene_status : Bool → Bool → Status
 scene_status true known = NoContent
 scene_status false known = unless_known known
 
-abbrev pub status_of : Page → Option ℕ → Option ℕ → ℕ → Status
+abbrev pub status_of : Resource → Option ℕ → Option ℕ → ℕ → Status
 status_of Viewer after known version = unless_known (is_known known 0)
 status_of Track after known version = unless_known (is_known known 0)
 status_of Scene after known version = scene_status (is_early after version) (is_known known version)
@@ -46,14 +46,14 @@ status_of Metrics after known version = Content
 status_of Health after known version = Content
 
 -- the version of what is shown: viewer and track stay what they are
-abbrev pub tag_of : Page → ℕ → Option ℕ
+abbrev pub tag_of : Resource → ℕ → Option ℕ
 tag_of Viewer version = Some 0
 tag_of Track version = Some 0
 tag_of Scene version = Some version
 tag_of Metrics version = None
 tag_of Health version = None
 
-abbrev pub kind_of : Page → Kind
+abbrev pub kind_of : Resource → Kind
 kind_of Viewer = Html
 kind_of Track = Plain
 kind_of Scene = Plain
@@ -62,7 +62,7 @@ kind_of Health = Plain
 
 -- ---- with what
 
-abbrev pub body_of : Page → Shown → List ℕ
+abbrev pub body_of : Resource → Shown → List ℕ
 body_of Viewer shown = shown.viewer
 body_of Track shown = shown.track
 body_of Scene shown = shown.scene

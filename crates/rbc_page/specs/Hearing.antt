@@ -6,8 +6,8 @@ use Rattle.httparse.specs.Grammar.{RequestHead, ReadsRequest, HasNoRequest, prin
 use Rattle.httparse.specs.Spans.{name_and_value}
 use Rattle.rbc_model.specs.Words.{number_in}
 use Rattle.rbc_page.specs.declared.asked.Asked.{Asked}
-use Rattle.rbc_page.specs.declared.asked.Page.{Page}
-use Rattle.rbc_page.specs.declared.asked.Page.TheVariants.{Viewer, Track, Scene, Metrics, Health}
+use Rattle.rbc_page.specs.declared.asked.Resource.{Resource}
+use Rattle.rbc_page.specs.declared.asked.Resource.TheVariants.{Viewer, Track, Scene, Metrics, Health}
 use Rattle.rbc_page.specs.declared.hearing.Heard.{Heard}
 use Rattle.rbc_page.specs.declared.hearing.Heard.TheVariants.{Request, Refused, More}
 use Rattle.rbc_page.specs.declared.head.Status.{Status}
@@ -63,7 +63,7 @@ may_stay minor fields is_alone =
 abbrev pub head_only : List ℕ → Option Bool
 head_only method = if bytes_eq method (codes "GET") then Some false else if bytes_eq method (codes "HEAD") then Some true else None
 
-abbrev pub page_of : List ℕ → Option Page
+abbrev pub page_of : List ℕ → Option Resource
 page_of path =
     if bytes_eq path (codes "/") then Some Viewer
     else if bytes_eq path (codes "/track") then Some Track
@@ -84,7 +84,7 @@ abbrev pub after_in : List ℕ → Option (Option ℕ)
 after_in query = if length query == 0 then Some None else waited (number_after query)
 
 -- only a scene is waited for: the other pages pass over their query
-abbrev pub after_of : Page → List ℕ → Option (Option ℕ)
+abbrev pub after_of : Resource → List ℕ → Option (Option ℕ)
 after_of Scene query = after_in query
 after_of Viewer query = Some None
 after_of Track query = Some None
@@ -93,11 +93,11 @@ after_of Health query = Some None
 
 -- ---- all of it: the request, or how it is refused
 
-abbrev pub by_query : Page → Option ℕ → Bool → Bool → Option (Option ℕ) → Result Asked Status
+abbrev pub by_query : Resource → Option ℕ → Bool → Bool → Option (Option ℕ) → Result Asked Status
 by_query page known is_head stays None = Err BadRequest
 by_query page known is_head stays (Some after) = Ok (record { page = page; after = after; known = known; is_head = is_head; stays = stays })
 
-abbrev pub by_page : List ℕ → Option ℕ → Bool → Bool → Option Page → Result Asked Status
+abbrev pub by_page : List ℕ → Option ℕ → Bool → Bool → Option Resource → Result Asked Status
 by_page query known is_head stays None = Err NotFound
 by_page query known is_head stays (Some page) = by_query page known is_head stays (after_of page query)
 

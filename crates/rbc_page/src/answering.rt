@@ -4,7 +4,7 @@ ghost use Rattle.std.specs.Prelude.{◌≡◌, ◌&&◌, not, [], length, IfOk};
 ghost use Rattle.rbc_page.specs.Answers.{answer_with, body_of, has_body, head_of, is_early, is_known, kind_of, refusal_head, refusal_text, scene_status, size_of, status_of, tag_of, unless_known, with_body};
 
 use crate::fields::put;
-use crate::{Asked, Head, Kind, Page, Status};
+use crate::{Asked, Head, Kind, Resource, Status};
 use rbc_model::Memory;
 
 /// What there is to be shown.
@@ -62,15 +62,15 @@ fn scene_status(is_early: bool, is_known: bool) -> Status
     }
 }
 
-impl Page {
+impl Resource {
     /// What its body is.
     fn kind(self) -> Kind
         ensures { result ≡ kind_of self }
     {
         match self {
-            Page::Viewer => Kind::Html,
-            Page::Track | Page::Scene | Page::Health => Kind::Plain,
-            Page::Metrics => Kind::Numbers,
+            Resource::Viewer => Kind::Html,
+            Resource::Track | Resource::Scene | Resource::Health => Kind::Plain,
+            Resource::Metrics => Kind::Numbers,
         }
     }
 
@@ -79,9 +79,9 @@ impl Page {
         ensures { result ≡ tag_of self version }
     {
         match self {
-            Page::Viewer | Page::Track => Some(0),
-            Page::Scene => Some(version),
-            Page::Metrics | Page::Health => None,
+            Resource::Viewer | Resource::Track => Some(0),
+            Resource::Scene => Some(version),
+            Resource::Metrics | Resource::Health => None,
         }
     }
 }
@@ -108,12 +108,12 @@ impl Asked {
         ensures { result ≡ status_of self.now.page self.now.after self.now.known version }
     {
         match self.page {
-            Page::Viewer | Page::Track => unless_known(is_known(self.known, 0)),
-            Page::Scene => scene_status(
+            Resource::Viewer | Resource::Track => unless_known(is_known(self.known, 0)),
+            Resource::Scene => scene_status(
                 is_early(self.after, version),
                 is_known(self.known, version),
             ),
-            Page::Metrics | Page::Health => Status::Content,
+            Resource::Metrics | Resource::Health => Status::Content,
         }
     }
 
@@ -141,15 +141,15 @@ impl Asked {
 
 impl<'a> Bodies<'a> {
     /// What the page shows.
-    fn of(&self, page: Page) -> &'a [u8]
+    fn of(&self, page: Resource) -> &'a [u8]
         ensures { result.now ≡ body_of page (record { viewer = self.now.viewer.now; track = self.now.track.now; scene = self.now.scene.now; metrics = self.now.metrics.now }) }
     {
         match page {
-            Page::Viewer => self.viewer,
-            Page::Track => self.track,
-            Page::Scene => self.scene,
-            Page::Metrics => self.metrics,
-            Page::Health => b"ok\n",
+            Resource::Viewer => self.viewer,
+            Resource::Track => self.track,
+            Resource::Scene => self.scene,
+            Resource::Metrics => self.metrics,
+            Resource::Health => b"ok\n",
         }
     }
 }

@@ -2,7 +2,7 @@
 
 /// What a path names.
 #[derive(Clone, Copy)]
-pub enum Page {
+pub enum Resource {
     /// `/`: the viewer.
     Viewer,
     /// `/track`: the lines of the track.
@@ -19,7 +19,7 @@ pub enum Page {
 #[derive(Clone, Copy)]
 pub struct Asked {
     /// What its path names.
-    pub page: Page,
+    pub page: Resource,
     /// How many entries the scene's history is to have at least, if it says so.
     pub after: Option<u64>,
     /// The version that the client has, if its tag is one of this centre.

@@ -5,7 +5,7 @@ ghost use Rattle.std.specs.List.{before_first, after_first};
 ghost use Rattle.httparse.specs.Spans.{IsHeaderWithin, IsRequestWithin, IsWithin, header_bytes, span_bytes};
 ghost use Rattle.rbc_page.specs.Hearing.{HearsHeads, IsSaid, RefusesLong, after_in, after_of, before, behind, by_page, by_query, has_value, head_only, heard_of, is_alike, is_closing, known_by, known_in, may_stay, number_after, page_of, said_by, value_in, waited};
 
-use crate::{Asked, Page, Status};
+use crate::{Asked, Resource, Status};
 use httparse::Error;
 use httparse::spans::{EMPTY_HEADER_SPAN, HeaderSpan, RequestSpans, parse_request};
 use rbc_words::{around, number};
@@ -119,19 +119,19 @@ fn head_only(method: &[u8]) -> Option<bool>
 }
 
 /// What a path names.
-fn page_of(path: &[u8]) -> Option<Page>
+fn page_of(path: &[u8]) -> Option<Resource>
     ensures { result ≡ page_of path.now }
 {
     if path == b"/".as_slice() {
-        Some(Page::Viewer)
+        Some(Resource::Viewer)
     } else if path == b"/track".as_slice() {
-        Some(Page::Track)
+        Some(Resource::Track)
     } else if path == b"/scene".as_slice() {
-        Some(Page::Scene)
+        Some(Resource::Scene)
     } else if path == b"/metrics".as_slice() {
-        Some(Page::Metrics)
+        Some(Resource::Metrics)
     } else if path == b"/health".as_slice() {
-        Some(Page::Health)
+        Some(Resource::Health)
     } else {
         None
     }
@@ -166,18 +166,18 @@ fn after_in(query: &[u8]) -> Option<Option<u64>>
 }
 
 /// The version that a query of this page waits for: only a scene is waited for.
-fn after_of(page: Page, query: &[u8]) -> Option<Option<u64>>
+fn after_of(page: Resource, query: &[u8]) -> Option<Option<u64>>
     ensures { result ≡ after_of page query.now }
 {
     match page {
-        Page::Scene => after_in(query),
-        Page::Viewer | Page::Track | Page::Metrics | Page::Health => Some(None),
+        Resource::Scene => after_in(query),
+        Resource::Viewer | Resource::Track | Resource::Metrics | Resource::Health => Some(None),
     }
 }
 
 /// What is said of a page that is asked for so.
 fn by_query(
-    page: Page,
+    page: Resource,
     known: Option<u64>,
     is_head: bool,
     stays: bool,

@@ -15,7 +15,7 @@ mod reception;
 mod text;
 
 pub use answering::{Bodies, refuse, write_answer};
-pub use asked::{Asked, Page};
+pub use asked::{Asked, Resource};
 pub use exchange::{Exchange, MOST_HEAD, Stage};
 pub use head::{Head, Kind, Status};
 pub use hearing::{Heard, MOST_FIELDS, hear};

@@ -4,10 +4,10 @@ ghost use Rattle.std.specs.Prelude.{◌≡◌, Some, IfErr, IfOk};
 ghost use Rattle.rbc_page.specs.Moments.{IsServedAt};
 
 use crate::guest::Guest;
-use crate::{Asked, Fixed, Lookout, Numbers, Page, Refused};
+use crate::{Asked, Fixed, Lookout, Numbers, Refused, Resource};
 use rbc_desk::{DeskName, Onlooker, Seat, State};
 use rbc_model::Memory;
-use rbc_tally::{Counts, Refusal, Tally};
+use rbc_tally::{Counts, RefusalKind, Tally};
 use std::alloc::Global;
 use std::io::{Read, Write};
 use std::net::{OpenListener, OpenStream};
@@ -276,8 +276,13 @@ fn answer_guest<L: DeskName, S>(
 /// # Errors
 ///
 /// [`Memory`]: there is no room for it.
-fn metrics_for(alloc: Global, page: Page, counts: Counts, state: State) -> Result<Vec<u8>, Memory> {
-    if !matches!(page, Page::Metrics) {
+fn metrics_for(
+    alloc: Global,
+    page: Resource,
+    counts: Counts,
+    state: State,
+) -> Result<Vec<u8>, Memory> {
+    if !matches!(page, Resource::Metrics) {
         return Ok(Vec::new(alloc));
     }
     let refused = refused_in(alloc, &counts)?;
@@ -306,7 +311,7 @@ fn metrics_for(alloc: Global, page: Page, counts: Counts, state: State) -> Resul
 /// [`Memory`]: there is no room for them.
 fn refused_in(alloc: Global, counts: &Counts) -> Result<Vec<Refused<'static>>, Memory> {
     let mut refused = Vec::new(alloc);
-    for reason in Refusal::ALL {
+    for reason in RefusalKind::ALL {
         let row = Refused {
             word: reason.name().as_bytes(),
             count: counts.refused_for(reason),

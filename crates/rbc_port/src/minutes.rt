@@ -1,7 +1,7 @@
 //! The lines of the log that tell what a centre has done since the last of them.
 
 use crate::watch::Watch;
-use rbc_tally::{Counts, Reader, Refusal};
+use rbc_tally::{Counts, Reader, RefusalKind};
 use std::alloc::Global;
 use std::fmt;
 use std::fmt::Display;
@@ -142,7 +142,7 @@ impl Since {
     /// The lines that were refused, of each kind of which there are any.
     fn write_refusals<W: fmt::Write>(&self, f: &mut fmt::Formatter<W>) -> fmt::Result {
         let mut mark = ": ";
-        for refusal in Refusal::ALL {
+        for refusal in RefusalKind::ALL {
             let count = self
                 .now
                 .refused_for(refusal)

@@ -7,25 +7,25 @@ use Rattle.rbc_model.specs.PriceTables.{table_at}
 use Rattle.rbc_model.specs.Scales.{unit_of}
 use Rattle.rbc_table_laws.specs.Stretches.{cost_of_step}
 use Rattle.rbc_price.specs.Columns.{stretches_of}
-use Rattle.rbc_price.specs.declared.places.Place.{Place}
+use Rattle.rbc_price.specs.declared.places.PricePlace.{PricePlace}
 use Rattle.rbc_price.specs.Places.{IsDearer, IsFirstRow, IsFirst, comes_before, earlier}
 use Rattle.std.proofs.lemmas.Bool.{cases_lt}
 
 -- ---- the order of places
 
 -- none of three that follow one another comes before the first
-not_before : (a b c : Place) → comes_before b a ≡ false → comes_before c b ≡ false → comes_before c a ≡ false
+not_before : (a b c : PricePlace) → comes_before b a ≡ false → comes_before c b ≡ false → comes_before c a ≡ false
 not_before a b c e f = grind (arith, nat_tests)
 
-not_both_ways : (a b : Place) → comes_before b a ≡ true → comes_before a b ≡ false
+not_both_ways : (a b : PricePlace) → comes_before b a ≡ true → comes_before a b ≡ false
 not_both_ways a b e = grind (arith, nat_tests)
 
-not_before_row : (a b : Place) → b.row ≤ a.row → a.to ≡ b.to → a.from ≡ b.from → comes_before a b ≡ false
+not_before_row : (a b : PricePlace) → b.row ≤ a.row → a.to ≡ b.to → a.from ≡ b.from → comes_before a b ≡ false
 not_before_row a b h e f = grind (arith, nat_tests)
 
 module _ {V : Type 0} (levels : Levels V) (track : StepFunction V) (rows : List (List ℕ)) where
   -- of fewer pairs
-  pub first_of_fewer : (Judged Fewer : ℕ → ℕ → Type 0) (first : Option Place) → ((from to : ℕ) → from < to → to ≤ stretches_of track → Fewer from to → Judged from to)
+  pub first_of_fewer : (Judged Fewer : ℕ → ℕ → Type 0) (first : Option PricePlace) → ((from to : ℕ) → from < to → to ≤ stretches_of track → Fewer from to → Judged from to)
       → IsFirst levels track rows Judged first → IsFirst levels track rows Fewer first
   first_of_fewer Judged Fewer None of f = λ other judged high. f other (of other.from other.to high.on high.column judged) high
   first_of_fewer Judged Fewer (Some place) of f = (f.0, λ other judged high. f.1 other (of other.from other.to high.on high.column judged) high)
@@ -34,7 +34,7 @@ module _ {V : Type 0} (levels : Levels V) (track : StepFunction V) (rows : List 
   pub first_of_none : (Judged : ℕ → ℕ → Type 0) → ((from to : ℕ) → Judged from to → ⊥) → IsFirst levels track rows Judged None
   first_of_none Judged none = λ other judged. absurd (none other.from other.to judged)
 
-  earlier_of : (One Other Both : ℕ → ℕ → Type 0) (a b : Place) (test : Bool) → comes_before b a ≡ test → ((from to : ℕ) → from < to → to ≤ stretches_of track → Both from to → One from to ⊎ Other from to)
+  earlier_of : (One Other Both : ℕ → ℕ → Type 0) (a b : PricePlace) (test : Bool) → comes_before b a ≡ test → ((from to : ℕ) → from < to → to ≤ stretches_of track → Both from to → One from to ⊎ Other from to)
       → IsFirst levels track rows One (Some a) → IsFirst levels track rows Other (Some b) → IsFirst levels track rows Both (Some (if test then b else a))
   earlier_of One Other Both a b true e of f g = (
     g.0,
@@ -52,7 +52,7 @@ module _ {V : Type 0} (levels : Levels V) (track : StepFunction V) (rows : List 
   )
 
   -- of the pairs of both
-  pub first_of_both : (One Other Both : ℕ → ℕ → Type 0) (a b : Option Place) → ((from to : ℕ) → from < to → to ≤ stretches_of track → Both from to → One from to ⊎ Other from to)
+  pub first_of_both : (One Other Both : ℕ → ℕ → Type 0) (a b : Option PricePlace) → ((from to : ℕ) → from < to → to ≤ stretches_of track → Both from to → One from to ⊎ Other from to)
       → IsFirst levels track rows One a → IsFirst levels track rows Other b → IsFirst levels track rows Both (earlier a b)
   first_of_both One Other Both None None of f g =
       λ other judged high. elim (of other.from other.to high.on high.column judged) [ inl one ↦ f other one high | inr two ↦ g other two high ]
@@ -68,7 +68,7 @@ module _ {V : Type 0} (levels : Levels V) (track : StepFunction V) (rows : List 
   abbrev pub Pair : ℕ → ℕ → ℕ → ℕ → Type 0
   Pair from to f t = (f ≡ from) × (t ≡ to)
 
-  dearer_here : (other : Place) (from to cost : ℕ) → other.from ≡ from → other.to ≡ to → cost ≡ cost_of_step levels (unit_of track.end) track from to
+  dearer_here : (other : PricePlace) (from to cost : ℕ) → other.from ≡ from → other.to ≡ to → cost ≡ cost_of_step levels (unit_of track.end) track from to
       → IsDearer rows (cost_of_step levels (unit_of track.end) track other.from other.to) other → IsDearer rows cost (record { row = other.row; from = from; to = to })
   dearer_here other from to cost e f is d =
       let above = d.above in
@@ -78,7 +78,7 @@ module _ {V : Type 0} (levels : Levels V) (track : StepFunction V) (rows : List 
       ap (λ k. cost_of_step levels (unit_of track.end) track k other.to) e ∙ ap (cost_of_step levels (unit_of track.end) track from) f in
       record { start = λ z. sym e ∙ d.start z; above = omega arith }
 
-  pub first_of_row : (from to cost : ℕ) (first : Option Place) → from < to → to ≤ stretches_of track → cost ≡ cost_of_step levels (unit_of track.end) track from to
+  pub first_of_row : (from to cost : ℕ) (first : Option PricePlace) → from < to → to ≤ stretches_of track → cost ≡ cost_of_step levels (unit_of track.end) track from to
       → IsFirstRow rows from to cost first → IsFirst levels track rows (Pair from to) first
   first_of_row from to cost None on column is f =
       λ other judged high. f other.row high.inside (dearer_here other from to cost judged.0 judged.1 is high.dearer)

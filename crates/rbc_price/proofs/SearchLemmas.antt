@@ -11,7 +11,7 @@ use Rattle.rbc_model.specs.PriceTables.{table_at, break_at, step_cost}
 use Rattle.rbc_model.specs.PriceChecks.{first_from, columns, steps_of_use, too_high_at, starts_before, first_too_high, unless_some}
 use Rattle.rbc_model.specs.Scales.{unit_of}
 use Rattle.rbc_price.specs.Columns.{stretches_of}
-use Rattle.rbc_price.specs.declared.places.Place.{Place}
+use Rattle.rbc_price.specs.declared.places.PricePlace.{PricePlace}
 use Rattle.rbc_price.specs.Places.{IsTooHigh, comes_before}
 use Rattle.rbc_model.proofs.ScanLemmas.{le_or_lt}
 
@@ -59,23 +59,23 @@ pub test_of_none : (test : Bool) (reason : Reason) → (if test then None else S
 test_of_none true reason e = refl
 test_of_none false reason e = absurd (cc)
 
-by_row : (a b : Place) → a.row < b.row → comes_before a b ≡ true
+by_row : (a b : PricePlace) → a.row < b.row → comes_before a b ≡ true
 by_row a b h = grind (arith, nat_tests)
 
-by_column : (a b : Place) → a.row ≡ b.row → a.to < b.to → comes_before a b ≡ true
+by_column : (a b : PricePlace) → a.row ≡ b.row → a.to < b.to → comes_before a b ≡ true
 by_column a b e h = grind (arith, nat_tests)
 
-by_start : (a b : Place) → a.row ≡ b.row → a.to ≡ b.to → a.from < b.from → comes_before a b ≡ true
+by_start : (a b : PricePlace) → a.row ≡ b.row → a.to ≡ b.to → a.from < b.from → comes_before a b ≡ true
 by_start a b e f h = grind (arith, nat_tests)
 
 module _ {V : Type 0} (levels : Levels V) (limit : ℕ) (track : StepFunction V) (rows : List (List ℕ)) where
   -- the reason that a place is
-  abbrev pub reason_at : Place → Reason
+  abbrev pub reason_at : PricePlace → Reason
   reason_at place =
       Inequality (suc place.row) (break_at levels (unit_of track.end) limit track.end track.steps place.from) (break_at levels (unit_of track.end) limit track.end track.steps place.to)
 
   -- the refusal that it is
-  pub refused_at : (place : Place) (row from to : ℕ) → row ≡ suc place.row → from ≡ break_at levels (unit_of track.end) limit track.end track.steps place.from
+  pub refused_at : (place : PricePlace) (row from to : ℕ) → row ≡ suc place.row → from ≡ break_at levels (unit_of track.end) limit track.end track.steps place.from
       → to ≡ break_at levels (unit_of track.end) limit track.end track.steps place.to → first_too_high levels limit track rows ≡ Some (reason_at place)
       → Err (Inequality row from to) ≡ unless_some (first_too_high levels limit track rows)
   refused_at place row from to e f g found =
@@ -90,13 +90,13 @@ module _ {V : Type 0} (levels : Levels V) (limit : ℕ) (track : StepFunction V)
   low_starts zero i i' on start = let e = start refl in omega arith
   low_starts (suc j) i i' on start = on
 
-  high_at : (place : Place) → IsTooHigh levels track rows place → too_high_at levels limit track rows place.row place.to place.from ≡ Some (reason_at place)
+  high_at : (place : PricePlace) → IsTooHigh levels track rows place → too_high_at levels limit track rows place.row place.to place.from ≡ Some (reason_at place)
   high_at place high =
       let above = high.dearer.above in
       or_some (nat_le (table_at rows (suc place.row) place.to) (table_at rows place.row place.from + step_cost levels (unit_of track.end) limit track.end track.steps place.from place.to)) (reason_at place)
       (lt-leb (table_at rows (suc place.row) place.to) (table_at rows place.row place.from + step_cost levels (unit_of track.end) limit track.end track.steps place.from place.to) above)
 
-  low_at : (place : Place) → place.row < length rows → 1 ≤ place.to → place.to ≤ stretches_of track
+  low_at : (place : PricePlace) → place.row < length rows → 1 ≤ place.to → place.to ≤ stretches_of track
       → place.from < starts_before levels limit track rows place.row place.to → (IsTooHigh levels track rows place → ⊥)
       → too_high_at levels limit track rows place.row place.to place.from ≡ None
   low_at place row some column start low =
@@ -120,15 +120,15 @@ module _ {V : Type 0} (levels : Levels V) (limit : ℕ) (track : StepFunction V)
         first_from-none 0 (starts_before levels limit track rows j i') (too_high_at levels limit track rows j i')
         (λ i a b. low_at (record { row = j; from = i; to = i' }) row some column (omega arith) (low i))
 
-    pub none_too_high : ((place : Place) → IsTooHigh levels track rows place → ⊥) → first_too_high levels limit track rows ≡ None
+    pub none_too_high : ((place : PricePlace) → IsTooHigh levels track rows place → ⊥) → first_too_high levels limit track rows ≡ None
     none_too_high low =
         first_from-none 0 (steps_of_use levels limit track rows) in_rows (λ j a b.
         first_from-none 1 (columns levels limit track rows) (in_row j) (λ i' c d.
         none_in j i' (omega arith) c (omega arith) (λ i. low (record { row = j; from = i; to = i' }))))
 
-    module _ (place : Place) (high : IsTooHigh levels track rows place)
-        (first : (other : Place) → IsTooHigh levels track rows other → comes_before other place ≡ false) where
-      earlier_is_low : (other : Place) → comes_before other place ≡ true → IsTooHigh levels track rows other → ⊥
+    module _ (place : PricePlace) (high : IsTooHigh levels track rows place)
+        (first : (other : PricePlace) → IsTooHigh levels track rows other → comes_before other place ≡ false) where
+      earlier_is_low : (other : PricePlace) → comes_before other place ≡ true → IsTooHigh levels track rows other → ⊥
       earlier_is_low other before also = let f = first other also in absurd (cc)
 
       in_column : in_row place.row place.to ≡ Some (reason_at place)

@@ -9,7 +9,7 @@ use Rattle.rbc_model.specs.Scales.{unit_of}
 use Rattle.rbc_table_laws.specs.PriceRows.{prices_of, AreWide}
 use Rattle.rbc_table_laws.specs.Stretches.{cost_of_step}
 use Rattle.rbc_costs.specs.Sums.{price_up_to, row_in}
-use Rattle.rbc_price.specs.declared.places.Place.{Place}
+use Rattle.rbc_price.specs.declared.places.PricePlace.{PricePlace}
 use Rattle.rbc_price.specs.Places.{IsTooHigh}
 use Rattle.rbc_price.specs.Totals.{AreTotals, IsSoundColumn}
 
@@ -74,7 +74,7 @@ module _
   price_is j (suc i) = ap (λ row. get_or row i 0) (sym (are.same j))
 
   -- no price of the column is too high
-  pub none_here : (place : Place) → place.to ≡ to → IsTooHigh levels track prices place → ⊥
+  pub none_here : (place : PricePlace) → place.to ≡ to → IsTooHigh levels track prices place → ⊥
   none_here place here high = by_row place.row refl
     where
       column : (row : ℕ) → place.row ≡ row → table_at prices (suc place.row) place.to ≡ price_up_to (row_in number table row) to

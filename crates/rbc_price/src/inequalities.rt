@@ -13,7 +13,7 @@ ghost use Rattle.rbc_price.specs.Places.{IsDearer, IsFirst, IsFirstRow};
 ghost use Rattle.rbc_price.specs.Costs.{IsCostAt, IsLowestStretch};
 
 use crate::columns::{Column, column_before, column_behind, first_column, metre_of};
-use crate::places::{Place, earlier};
+use crate::places::{PricePlace, earlier};
 use crate::sound::is_sound;
 use rbc_costs::{Priced, further, is_at_most, price_at};
 use rbc_model::Reason;
@@ -36,14 +36,14 @@ fn is_too_high(rows: &[Vec<u64>], row: usize, from: usize, to: usize, cost: u64)
 }
 
 /// The place in the first row whose price is too high, for a step that costs so much from one break to another.
-fn first_row(rows: &[Vec<u64>], from: usize, to: usize, cost: u64) -> Option<Place>
+fn first_row(rows: &[Vec<u64>], from: usize, to: usize, cost: u64) -> Option<PricePlace>
     requires on { from < to }
     requires wide { AreAsWideAs to rows.now }
     ensures { IsFirstRow (prices_of rows.now) from to cost result }
 {
     for row in 0..rows.len() {
         if is_too_high(rows, row, from, to, cost) {
-            return Some(Place { row, from, to });
+            return Some(PricePlace { row, from, to });
         }
     }
     None
@@ -64,7 +64,7 @@ fn first_from_break<V: Level>(
     from: Column,
     lowest: Lowest<V>,
     cost: u64,
-) -> Option<Place>
+) -> Option<PricePlace>
     requires whole { track.now.end % unit_of track.now.end ≡ 0 }
     requires wide { AreWide (stretches_of track.now) rows.now }
     requires from { IsColumn track.now from }
@@ -93,7 +93,7 @@ fn first_from_break<V: Level>(
 
 /// The first price that is too high for a step over whose metres the stretch of `column` is the lowest one, and the
 /// last such one.
-fn first_over<V: Level>(track: &Runs<V>, rows: &[Vec<u64>], column: Column) -> Option<Place>
+fn first_over<V: Level>(track: &Runs<V>, rows: &[Vec<u64>], column: Column) -> Option<PricePlace>
     requires whole { track.now.end % unit_of track.now.end ≡ 0 }
     requires wide { AreWide (stretches_of track.now) rows.now }
     requires column { IsColumn track.now column }
@@ -118,7 +118,7 @@ fn first_over<V: Level>(track: &Runs<V>, rows: &[Vec<u64>], column: Column) -> O
 }
 
 /// The first price that is too high.
-fn first_of_all<V: Level>(track: &Runs<V>, rows: &[Vec<u64>]) -> Option<Place>
+fn first_of_all<V: Level>(track: &Runs<V>, rows: &[Vec<u64>]) -> Option<PricePlace>
     requires whole { track.now.end % unit_of track.now.end ≡ 0 }
     requires wide { AreWide (stretches_of track.now) rows.now }
     ensures { IsFirst V.levels track.now (prices_of rows.now) (λ from to. Unit {0}) result }

@@ -15,7 +15,7 @@ use Rattle.rbc_model.specs.Views.{View}
 use Rattle.rbc_model.specs.Words.{line_of, hex_of}
 use Rattle.rbc_words.specs.Replies.{certificate_lines}
 use Rattle.rbc_words.specs.declared.steps_reply.Basis.{Basis}
-use Rattle.rbc_replies.specs.declared.replies.Granted.{Granted}
+use Rattle.rbc_replies.specs.declared.replies.ToldGrant.{ToldGrant}
 use Rattle.rbc_words.specs.PriceText.{prices_of, prices_text}
 use Rattle.rbc_replies.specs.Certificates.{certificate_text, IsBasisOf}
 use Rattle.rbc_replies.specs.Replies.{grant_line, grant_text}
@@ -45,7 +45,7 @@ abbrev pub message_line : List ℕ → List ℕ
 message_line message = line_of (codes "message" ∷ hex_of message ∷ [])
 
 -- the lines of a grant, each before those behind it
-abbrev pub grant_lines : Track → Granted → List ℕ → StepFunction ℕ → StepFunction ℤ → List ℕ
+abbrev pub grant_lines : Track → ToldGrant → List ℕ → StepFunction ℕ → StepFunction ℤ → List ℕ
 grant_lines track granted message speeds grades =
     grant_line track granted
     ++ (message_line message
@@ -54,7 +54,7 @@ grant_lines track granted message speeds grades =
     ++ codes "done\n")))
 
 -- the text of a grant in such lines
-grant_text-own : (track : Track) (granted : Granted)
+grant_text-own : (track : Track) (granted : ToldGrant)
     → grant_text track granted
     ≡ grant_lines track granted (message_bytes granted.authority.now)
     (record { steps = granted.authority.now.speeds; end = granted.authority.now.end })
@@ -69,7 +69,7 @@ grant_text-own track granted =
     ∙ append_assoc first message (speeds ++ (grades ++ codes "done\n"))
 
 -- the same of what is handed over
-pub grant_text-is : (track : Track) (granted : Granted) (message : List ℕ) (speeds : StepFunction ℕ) (grades : StepFunction ℤ)
+pub grant_text-is : (track : Track) (granted : ToldGrant) (message : List ℕ) (speeds : StepFunction ℕ) (grades : StepFunction ℤ)
     → message ≡ message_bytes granted.authority.now
     → speeds.steps ≡ granted.authority.now.speeds → speeds.end ≡ granted.authority.now.end
     → grades.steps ≡ granted.authority.now.grades → grades.end ≡ granted.authority.now.end
@@ -86,7 +86,7 @@ grant_text-is track granted message speeds grades same_message speed_steps speed
     ∙ ap (λ ge. lines message speeds.steps speeds.end grades.steps ge) (sym grade_end)
 
 -- What is printed is the reply to the train that was shown this and is granted that, where what is lent is theirs.
-pub grant_text-is_reply : (track : Track) (granted : Granted) (view : View) (grant : Grants)
+pub grant_text-is_reply : (track : Track) (granted : ToldGrant) (view : View) (grant : Grants)
     → granted.train ≡ grant.train → granted.from ≡ grant.from → granted.authority.now ≡ grant.authority → granted.obstacle ≡ grant.obstacle
     → granted.speeds.limit ≡ view.speed_steps → granted.speeds.track.now.steps ≡ view.speeds
     → granted.grades.limit ≡ view.grade_steps → granted.grades.track.now.steps ≡ view.grades

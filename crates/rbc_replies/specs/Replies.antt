@@ -11,7 +11,7 @@ use Rattle.rbc_model.specs.Words.{line_of, hex_of}
 use Rattle.rbc_model.specs.Messages.{message_bytes}
 use Rattle.rbc_model.specs.SessionReply.{obstacle_words, accepted_reply, blocked_reply, refused_reply, BadLine, UnknownName, BadEvent, Full, Memory}
 use Rattle.rbc_model.specs.SessionReply.{SessionRefusal as Refused}
-use Rattle.rbc_replies.specs.declared.replies.Granted.{Granted}
+use Rattle.rbc_replies.specs.declared.replies.ToldGrant.{ToldGrant}
 use Rattle.rbc_replies.specs.declared.replies.SessionRefusal.{SessionRefusal}
 use Rattle.rbc_replies.specs.declared.replies.SessionRefusal.TheVariants.{BadLine as ToldBadLine, UnknownName as ToldUnknownName, BadEvent as ToldBadEvent, Full as ToldFull, Memory as ToldMemory}
 use Rattle.rbc_replies.specs.declared.replies.SessionReply.{SessionReply}
@@ -31,7 +31,7 @@ refusal_view ToldMemory = Memory
 -- ---- the text of a reply
 
 -- the first line of a grant
-abbrev pub grant_line : Track → Granted → List ℕ
+abbrev pub grant_line : Track → ToldGrant → List ℕ
 grant_line track granted =
     line_of
     (codes "granted"
@@ -42,7 +42,7 @@ grant_line track granted =
     ∷ obstacle_words track granted.obstacle)
 
 -- the lines of a grant
-abbrev pub grant_text : Track → Granted → List ℕ
+abbrev pub grant_text : Track → ToldGrant → List ℕ
 grant_text track granted =
     grant_line track granted
     ++ line_of (codes "message" ∷ hex_of (message_bytes granted.authority.now) ∷ [])

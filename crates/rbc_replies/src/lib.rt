@@ -8,4 +8,4 @@ mod replies;
 pub use printing::{print, print_stopped};
 pub use rbc_words as words;
 pub use rbc_words::Basis;
-pub use replies::{Granted, SessionRefusal, SessionReply};
+pub use replies::{SessionRefusal, SessionReply, ToldGrant};

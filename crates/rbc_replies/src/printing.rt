@@ -10,7 +10,7 @@ ghost use Rattle.rbc_replies.specs.Replies.{refusal_view, grant_line, grant_text
 ghost use Rattle.rbc_replies.specs.Replies.{ObstacleIsOfTrack, EventIsOfTrack, RefusalIsOfTrack, ReplyIsWhole};
 
 use crate::certificates::print_certificate;
-use crate::{Granted, SessionRefusal, SessionReply};
+use crate::{SessionRefusal, SessionReply, ToldGrant};
 use rbc_model::{Obstacle, Refusal, StepsRefusal};
 use rbc_streams::{Sink, WriteFailed, put};
 use rbc_track::Track;
@@ -50,7 +50,7 @@ pub fn print<W: Sink>(
 
 fn print_granted<W: Sink>(
     track: &Track,
-    granted: &Granted,
+    granted: &ToldGrant,
     writer: &mut W,
 ) -> Result<(), WriteFailed>
     requires going { W.failed writer.old ≡ false }
@@ -68,7 +68,7 @@ fn print_granted<W: Sink>(
 /// Writes the first line: the train, the version, from where and up to where it may run, and the obstacle.
 fn print_grant_line<W: Sink>(
     track: &Track,
-    granted: &Granted,
+    granted: &ToldGrant,
     writer: &mut W,
 ) -> Result<(), WriteFailed>
     requires going { W.failed writer.old ≡ false }

@@ -28,7 +28,7 @@ pub enum SessionRefusal {
 
 /// What a train is granted. The message is the authority's, and the profiles can be chosen for what they were chosen for.
 #[derive(Clone, Copy)]
-pub struct Granted<'reply> {
+pub struct ToldGrant<'reply> {
     /// The train's number.
     pub train: TrainId,
     /// How many entries the history has with this one.
@@ -58,7 +58,7 @@ pub enum SessionReply<'reply> {
     /// The event is accepted, and the history has this number of entries with it.
     Accepted(u64),
     /// The train is granted an authority.
-    Granted(Granted<'reply>),
+    Granted(ToldGrant<'reply>),
     /// This train may run no further: this stands in its way, at this distance from its group in metres (negative:
     /// before the group), in a history of this number of entries.
     Blocked(TrainId, Obstacle, i64, u64),

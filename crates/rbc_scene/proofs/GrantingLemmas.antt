@@ -36,7 +36,7 @@ use Rattle.rbc_search.specs.TrainsOnTracks.{TrainOnTrack}
 use Rattle.rbc_search.specs.Books.{Book, HoldsOfTrain, book_with, scene_of, train_in}
 use Rattle.rbc_search.specs.Entries.{on_track}
 use Rattle.rbc_search.specs.Reaches.{BeginsWay}
-use Rattle.rbc_scene.specs.declared.granting.Granted.{Granted}
+use Rattle.rbc_scene.specs.declared.granting.GrantedLine.{GrantedLine}
 use Rattle.rbc_scene.specs.Grants.{granted_train}
 use Rattle.rbc_scene.specs.ScenesOnTracks.{SceneOnTrack, IsKept, scene_on}
 use Rattle.rbc_scene.specs.Steps.{LeadTo, reach_of}
@@ -326,7 +326,7 @@ is_along track scene number distance legs train there locks good accepted lead =
 
 -- what is granted along them is the definition's
 pub says_along : {E : Type 0} (track : Track) (scene : Scene) (number distance : ℕ) (train : Train) → train_numbered scene number ≡ Some train → is_ok (after_grant track scene number distance) ≡ true
-    → (r : Result Granted E) → IfOk r (λ g. g.line.legs ≡ line_to track scene train (train.origin + distance)) → IfOk r (λ g. g.from ≡ start_of train) → IfOk r (λ g. g.to ≡ train.origin + distance)
+    → (r : Result GrantedLine E) → IfOk r (λ g. g.line.legs ≡ line_to track scene train (train.origin + distance)) → IfOk r (λ g. g.from ≡ start_of train) → IfOk r (λ g. g.to ≡ train.origin + distance)
     → IfOk r (λ g. (known : Train) → train_numbered scene number ≡ Some known → granted_train track scene known distance ≡ Ok (with_authority known g.line.legs g.from g.to))
 says_along track scene number distance train there accepted (Ok g) legs from to = λ known same.
     subst (λ (k : Train). granted_train track scene k distance ≡ Ok (with_authority k g.line.legs g.from g.to)) (the_some train known (sym there ∙ same))
@@ -353,7 +353,7 @@ module _ (locks : Locks) (book : Book) (now : SceneOnTrack) (is : scene_on locks
       subst (λ (t : Track). IsAlong t known.train distance legs) (sym f.track)
       (is_along book.track scene number distance legs known.train f.there good_locks (subst (λ (t : Track). IsGoodTrain t known.train) f.track good) accepted_here lead_here)
 
-  pub granted_along_book : {E : Type 0} (r : Result Granted E)
+  pub granted_along_book : {E : Type 0} (r : Result GrantedLine E)
       → ((s : Scene) → IsGoodLocks known.track s.locks → BeginsWay known.track s known.train legs → IfOk r (λ g. g.line.legs ≡ line_to known.track s known.train (known.train.origin + distance)))
       → IfOk r (λ g. g.from ≡ start_of known.train) → IfOk r (λ g. g.to ≡ known.train.origin + distance)
       → IfOk r (λ g. (train : Train) → train_numbered now.scene number ≡ Some train → granted_train now.track now.scene train distance ≡ Ok (with_authority train g.line.legs g.from g.to))

@@ -20,7 +20,7 @@ use std::alloc::Global;
 
 /// An authority from one place to another, and the train's line, continued to have its metres.
 #[derive(Drop)]
-pub(crate) struct Granted {
+pub(crate) struct GrantedLine {
     pub(crate) line: Line,
     pub(crate) from: u32,
     pub(crate) to: u32,
@@ -66,7 +66,7 @@ pub(crate) fn granted_along(
     train: &Train,
     distance: Distance,
     legs: &[Leg],
-) -> Result<Granted, Memory>
+) -> Result<GrantedLine, Memory>
     requires line { IsLine train.now.track legs.now }
     requires near { distance ≤ FARTHEST_END_IN_TENS }
     requires some { 0 < train.now.train.origin + distance }
@@ -84,7 +84,7 @@ pub(crate) fn granted_along(
     let to = train.origin() + distance.metres();
     let line = line_along(alloc, train, legs, to)?;
     let from = train.start();
-    Ok(Granted { line, from, to })
+    Ok(GrantedLine { line, from, to })
 }
 
 /// The authority that the train is granted up to this distance beyond its group, if that is a safe end that a message
@@ -95,7 +95,7 @@ pub(crate) fn granted_to(
     book: &Book,
     train: &Train,
     distance: Distance,
-) -> Result<Granted, OrMemory<Refusal>>
+) -> Result<GrantedLine, OrMemory<Refusal>>
     requires track { train.now.track ≡ book.now.track }
     requires locks { IsGoodLocks book.now.track locks.now }
     ensures track { IfOk result (λ granted. granted.line.track ≡ book.now.track) }
@@ -121,5 +121,5 @@ pub(crate) fn granted_to(
     way.known();
     let line = line_along(alloc, train, way.legs(), to)?;
     let from = train.start();
-    Ok(Granted { line, from, to })
+    Ok(GrantedLine { line, from, to })
 }

@@ -17,7 +17,7 @@ ghost use Rattle.rbc_scene_laws.specs.Good.{IsGoodScene};
 ghost use Rattle.rbc_scene.specs.Steps.{IsEventOfTrack, IsOfTrack, IsReportTold, LeadTo, MayNeedMemory, StepsOrMemory, StepsTo};
 ghost use Rattle.rbc_scene.specs.Steps.{end_cut, end_given_back, granted_at_once, is_crowded, is_out_of_range, reach_of, refused_at_once, told_at_once};
 
-use crate::granting::{Granted, granted_along, granted_to};
+use crate::granting::{GrantedLine, granted_along, granted_to};
 use rbc_model::limits::MOST_TRAINS;
 use rbc_model::{
     Distance, Event, Leg, Memory, Obstacle, OrMemory, Refusal, Report, RouteId, SectionId, Told,
@@ -304,7 +304,7 @@ impl Scene {
         ensures at_once { IfSome (granted_at_once self.old.track self.old.scene train distance)
             (λ refusal. result ≡ Err (Refused refusal)) }
     {
-        let Granted { line, from, to } = self.granted(alloc, train, distance)?;
+        let GrantedLine { line, from, to } = self.granted(alloc, train, distance)?;
         self.book.set_held(train, line, from, to);
         Ok(())
     }
@@ -315,7 +315,7 @@ impl Scene {
         alloc: Global,
         train: TrainId,
         distance: Distance,
-    ) -> Result<Granted, OrMemory<Refusal>>
+    ) -> Result<GrantedLine, OrMemory<Refusal>>
         ensures unknown { train_numbered self.now.scene train ≡ None → result ≡ Err (Refused (UnknownTrain train)) }
         ensures track { IfOk result (λ granted. granted.line.track ≡ self.now.track) }
         ensures granted { (known : KnownTrain) → train_numbered self.now.scene train ≡ Some known
@@ -350,7 +350,7 @@ impl Scene {
             × (self.new.track ≡ self.old.track)) }
         ensures refused { OnErr result (self.new ≡ self.old) }
     {
-        let Granted { line, from, to } = self.granted_along(alloc, train, distance, legs)?;
+        let GrantedLine { line, from, to } = self.granted_along(alloc, train, distance, legs)?;
         self.book.set_held(train, line, from, to);
         Ok(())
     }
@@ -362,7 +362,7 @@ impl Scene {
         train: TrainId,
         distance: Distance,
         legs: &[Leg],
-    ) -> Result<Granted, Memory>
+    ) -> Result<GrantedLine, Memory>
         requires accepted { IsTrue (is_ok (after_grant self.now.track self.now.scene train distance)) }
         requires along { LeadTo self.now.track self.now.scene train distance legs.now }
         ensures track { IfOk result (λ granted. granted.line.track ≡ self.now.track) }

@@ -2,6 +2,7 @@ pub mod Connections
 pub mod Serving
 pub use Rattle.rbc_sessions.specs.Answered
 pub use Rattle.rbc_sessions.specs.Changes
+pub use Rattle.rbc_sessions.specs.Entries
 pub use Rattle.rbc_sessions.specs.Keeping
 pub use Rattle.rbc_sessions.specs.Later
 pub use Rattle.rbc_sessions.specs.Looking

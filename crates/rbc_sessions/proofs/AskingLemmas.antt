@@ -30,7 +30,7 @@ use Rattle.rbc_sweep.specs.Records.{IsRight, begin_of, HistoryOnTrack, scene_now
 use Rattle.rbc_replies.specs.Certificates.{IsBasisOf, speeds_of, grades_of}
 use Rattle.rbc_replies.specs.PriceText.{prices_of}
 use Rattle.rbc_replies.specs.Replies.{ObstacleIsOfTrack, grant_text}
-use Rattle.rbc_replies.specs.declared.replies.Granted.{Granted as ToldGrant}
+use Rattle.rbc_replies.specs.declared.replies.ToldGrant.{ToldGrant}
 use Rattle.rbc_session_laws.specs.Turns.{AnswersAuthority, AnswersAsker, IsGrantFor, IsGranted, IsRefused}
 use Rattle.rbc_sessions.specs.Changes.{Comes}
 use Rattle.rbc_sessions.specs.Shown.{IsToldOf}

@@ -32,7 +32,7 @@ use Rattle.rbc_sweep.specs.Seats.{Seated}
 use Rattle.rbc_sweep.specs.Telling.{IsToldThen}
 use Rattle.rbc_sweep.proofs.AskingLemmas.{viewed}
 use Rattle.rbc_replies.specs.Replies.{refusal_view, ObstacleIsOfTrack, RefusalIsOfTrack, ReplyIsWhole, grant_text}
-use Rattle.rbc_replies.specs.declared.replies.Granted.{Granted as ToldGrant}
+use Rattle.rbc_replies.specs.declared.replies.ToldGrant.{ToldGrant}
 use Rattle.rbc_replies.specs.declared.replies.SessionReply.{SessionReply}
 use Rattle.rbc_model.specs.HistoryText.{IsToldOfTrack}
 use Rattle.rbc_sessions.specs.SeatTurns.{AnswersAsked, IsAnsweredSince}

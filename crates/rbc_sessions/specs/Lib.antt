@@ -11,6 +11,7 @@ pub mod Shown
 pub use Rattle.rbc_sweep.specs.Asking
 pub use Rattle.rbc_sweep.specs.CloseFault
 pub use Rattle.rbc_sweep.specs.Closing
+pub use Rattle.rbc_sweep.specs.Entries
 pub use Rattle.rbc_sweep.specs.Granted
 pub use Rattle.rbc_sweep.specs.Later
 pub use Rattle.rbc_sweep.specs.Looking

@@ -15,7 +15,7 @@ use Rattle.rbc_sweep.specs.ApplyFault.TheVariants.{Full as FullToTold, Refused a
 use Rattle.rbc_sweep.specs.AskFault.{AskFault}
 use Rattle.rbc_sweep.specs.Granted.{Granted as GrantedAtDesk}
 use Rattle.rbc_replies.specs.PriceText.{prices_of}
-use Rattle.rbc_replies.specs.declared.replies.Granted.{Granted}
+use Rattle.rbc_replies.specs.declared.replies.ToldGrant.{ToldGrant}
 use Rattle.rbc_replies.specs.declared.replies.SessionRefusal.{SessionRefusal}
 use Rattle.rbc_replies.specs.declared.replies.SessionRefusal.TheVariants.{BadEvent, Full, Memory}
 
@@ -26,7 +26,7 @@ told_refusal (Refused (RefusedByScene refusal)) = BadEvent refusal
 told_refusal NoMemory = Memory
 
 -- what is told of a candidate that is granted; the history has this number of entries with it
-pub record IsToldOf (candidate : Candidate) (count : ℕ) (granted : Granted) : Type 0 where
+pub record IsToldOf (candidate : Candidate) (count : ℕ) (granted : ToldGrant) : Type 0 where
   pub train : granted.train ≡ candidate.grant.train
   pub version : granted.version ≡ count
   pub from : granted.from ≡ candidate.grant.from

@@ -16,7 +16,7 @@ ghost use Rattle.rbc_sessions.specs.Shown.{IsToldOf};
 ghost use Rattle.rbc_session_laws.specs.Turns.{AnswersAuthority};
 
 use rbc_model::{OrMemory, Refusal, TrainId, ViewFault};
-use rbc_replies::{Basis, Granted, SessionRefusal, SessionReply, print};
+use rbc_replies::{Basis, SessionRefusal, SessionReply, ToldGrant, print};
 use rbc_streams::{Sink, WriteFailed};
 use rbc_sweep::{Candidate, CommitFault, Record, View, candidate};
 use std::alloc::Global;
@@ -124,7 +124,7 @@ pub fn commit<'a>(alloc: Global, history: &mut Record, candidate: &'a Candidate)
 }
 
 /// What is told of a candidate that is granted. The version is the number of entries that the history has with it.
-pub fn told_of(candidate: &Candidate, version: u64) -> Granted<'_>
+pub fn told_of(candidate: &Candidate, version: u64) -> ToldGrant<'_>
     ensures told { IsToldOf candidate.now version result }
     ensures best { IsCandidateOf candidate.now.view candidate.now.grant }
     ensures chosen { HasChosenProfiles candidate.now.view candidate.now.grant }
@@ -135,7 +135,7 @@ pub fn told_of(candidate: &Candidate, version: u64) -> Granted<'_>
     let authority = candidate.authority();
     let message = candidate.message();
     authority.known();
-    Granted {
+    ToldGrant {
         train: candidate.train(),
         version,
         from: candidate.from(),

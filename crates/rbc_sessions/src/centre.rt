@@ -8,7 +8,7 @@ use rbc_model::limits::LONGEST_LINE;
 use rbc_model::{LineFault, TrainId};
 use rbc_replies::{SessionRefusal, SessionReply, print};
 use rbc_session_laws::Command;
-use rbc_streams::{Answers, Sink, WriteFailed};
+use rbc_streams::{LineHandler, Sink, WriteFailed};
 use rbc_sweep::Record;
 use std::alloc::Global;
 use std::thread::Threads;
@@ -17,7 +17,7 @@ use std::thread::Threads;
 #[derive(Drop)]
 pub struct Centre;
 
-impl Answers<Centre> for Record {
+impl LineHandler<Centre> for Record {
     type State = Record;
 
     ghost use Rattle.std.specs.Prelude.{◌≡◌, ◌≤◌, ⊤, false, refl};

@@ -11,7 +11,7 @@ use rbc_model::LineFault;
 use rbc_model::limits::LONGEST_LINE;
 use rbc_replies::{SessionRefusal, SessionReply, print};
 use rbc_session_laws::Command;
-use rbc_streams::{Answers, Sink, WriteFailed};
+use rbc_streams::{LineHandler, Sink, WriteFailed};
 use rbc_sweep::{DeskName, Gate};
 use std::alloc::Global;
 use std::sync::Wait;
@@ -128,7 +128,7 @@ impl<L: DeskName, P: Drop> Hearing<L, P> {
     }
 }
 
-impl<'a, L: DeskName, P: Drop, K: Keeper<L, Committer = P>, G: Gate, R: Wait> Answers<
+impl<'a, L: DeskName, P: Drop, K: Keeper<L, Committer = P>, G: Gate, R: Wait> LineHandler<
     SessionContext<'a, L, K, G, R>,
 > for Hearing<L, P> {
     type State = Hearing<L, P>;

@@ -28,8 +28,8 @@ pub use rbc_replies as replies;
 pub use rbc_replies::words;
 pub use rbc_streams::SessionFault;
 pub use rbc_sweep::{
-    Answer, Blank, Candidate, CloseFault, Desk, DeskName, EntryLimit, Granted, Onlooker, OpenGate,
-    Outcome, Receipt, Record, Seat, Sight, Track, View, candidate, sweep,
+    Answer, Blank, Candidate, CloseFault, Desk, DeskName, Entry, EntryLimit, Granted, Onlooker,
+    OpenGate, Outcome, Receipt, Record, Seat, Sight, Track, View, candidate, sweep,
 };
 pub use sessions::{SessionEnd, run, session};
 pub use showing::show;

@@ -16,7 +16,7 @@ ghost use Rattle.rbc_sessions.specs.Answered.{AnswersAll};
 use crate::centre::Centre;
 use crate::hearing::Hearing;
 use crate::{Keeper, SessionContext, SessionFault, Sitting};
-use rbc_streams::{LineReader, Sink, Source, answer_lines, converse};
+use rbc_streams::{LineReader, Sink, Source, serve_lines, serve_lines_with};
 use rbc_sweep::{DeskName, Gate, Record};
 use std::alloc::Global;
 use std::sync::Wait;
@@ -75,7 +75,7 @@ pub fn run<R: Source, W: Sink>(
 {
     // The record's track is in form.
     history.known();
-    converse(rt, alloc, reader, writer, history, &Centre)
+    serve_lines(rt, alloc, reader, writer, history, &Centre)
 }
 
 /// What a session at a desk leaves.
@@ -162,7 +162,7 @@ pub fn session<
     context.track.known();
     sitting.seat.known();
     let mut hearing = Hearing::new(alloc, sitting);
-    let ended = answer_lines(rt, alloc, lines, reader, writer, &mut hearing, context);
+    let ended = serve_lines_with(rt, alloc, lines, reader, writer, &mut hearing, context);
     let Hearing { sitting, .. } = hearing;
     SessionEnd { sitting, ended }
 }

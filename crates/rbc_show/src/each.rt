@@ -21,7 +21,7 @@ use rbc_lines::{LinesFault, print_track};
 use rbc_model::limits::LONGEST_LINE;
 use rbc_session_laws::Command;
 use rbc_sessions::{Centre, NullSink, Record, command_in};
-use rbc_streams::{Answers, SessionFault, Sink, Source, WriteFailed, converse};
+use rbc_streams::{LineHandler, SessionFault, Sink, Source, WriteFailed, serve_lines};
 use rbc_track::Track;
 use std::alloc::Global;
 use std::thread::Threads;
@@ -129,7 +129,7 @@ fn tell_line<W: Sink>(
     answer_line(rt, alloc, history, line, writer)
 }
 
-impl Answers<()> for Telling {
+impl LineHandler<()> for Telling {
     type State = Telling;
 
     ghost use Rattle.std.specs.Prelude.{◌≡◌, ◌≤◌, false};
@@ -187,7 +187,7 @@ impl Answers<()> for Telling {
 ///
 /// # Errors
 ///
-/// `Memory` where it was refused for a scene, and else whatever [`converse`] answers.
+/// `Memory` where it was refused for a scene, and else whatever [`serve_lines`] answers.
 fn tell_lines<R: Source, W: Sink>(
     rt: &(impl Threads + Sync),
     alloc: Global,
@@ -207,7 +207,7 @@ fn tell_lines<R: Source, W: Sink>(
     ensures talk { (input : List ℕ) × Consumes (R.left reader.old) (R.left reader.new) input
         × OnOk result (IsTalk LONGEST_LINE TellsLine telling.old telling.new input (W.written writer.old) (W.written writer.new) (Ok tt)) }
 {
-    let ended = converse(rt, alloc, reader, writer, telling, &());
+    let ended = serve_lines(rt, alloc, reader, writer, telling, &());
     if telling.has_lost() {
         return Err(SessionFault::Memory);
     }

@@ -14,7 +14,7 @@ use rbc_kept::server::Record;
 use rbc_lines::print_track;
 use rbc_model::Memory;
 use rbc_model::limits::LONGEST_LINE;
-use rbc_streams::{Answers, SessionFault, Sink, Source, WriteFailed, converse};
+use rbc_streams::{LineHandler, SessionFault, Sink, Source, WriteFailed, serve_lines};
 use std::alloc::Global;
 use std::thread::Threads;
 
@@ -36,7 +36,7 @@ impl Following {
     }
 }
 
-impl Answers<()> for Following {
+impl LineHandler<()> for Following {
     type State = Following;
 
     ghost use Rattle.std.specs.Prelude.{◌≡◌, ◌≤◌, false};
@@ -90,7 +90,7 @@ impl Answers<()> for Following {
 ///
 /// # Errors
 ///
-/// `Memory` where it was refused, and else whatever [`converse`] answers.
+/// `Memory` where it was refused, and else whatever [`serve_lines`] answers.
 fn follow_lines<R: Source, W: Sink>(
     rt: &(impl Threads + Sync),
     alloc: Global,
@@ -110,7 +110,7 @@ fn follow_lines<R: Source, W: Sink>(
     ensures talk { (input : List ℕ) × Consumes (R.left reader.old) (R.left reader.new) input
         × OnOk result (IsTalk LONGEST_LINE FollowsLine following.old following.new input (W.written writer.old) (W.written writer.new) (Ok tt)) }
 {
-    let ended = converse(rt, alloc, reader, writer, following, &());
+    let ended = serve_lines(rt, alloc, reader, writer, following, &());
     if following.has_lost() {
         return Err(SessionFault::Memory);
     }

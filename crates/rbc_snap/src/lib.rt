@@ -4,8 +4,8 @@
 
 mod eye;
 mod faults;
-mod journal;
 mod law;
+mod moments;
 mod name;
 mod press;
 mod published;
@@ -14,8 +14,8 @@ mod sight;
 
 pub use eye::Eye;
 pub use faults::{Behind, EyeFault};
-pub use journal::Journal;
 pub use law::Law;
+pub use moments::NewHistory;
 pub use name::HistoryName;
 pub use press::Press;
 pub use published::{Issue, Published};

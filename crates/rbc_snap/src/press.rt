@@ -9,9 +9,9 @@ ghost use Rattle.rbc_snap.specs.Later.{IsLater};
 ghost use Rattle.rbc_snap.specs.Sights.{seen_of};
 
 use crate::eye::End;
-use crate::journal::Head;
+use crate::moments::Head;
 use crate::rule::{Known, Names, OneHistory, Sees};
-use crate::{Eye, HistoryName, Issue, Journal, Published, Sight};
+use crate::{Eye, HistoryName, Issue, NewHistory, Published, Sight};
 use core::mem::replace_with;
 use left_right::writer::Writer;
 use rbc_model::Memory;
@@ -151,16 +151,16 @@ impl<J: HistoryName> Press<J> {
     pub fn new<R: Wait>(
         rt: &R,
         alloc: Global,
-        journal: Journal,
+        book: NewHistory,
         log: &Record,
         readers: usize,
     ) -> Result<(Press<J>, Vec<Eye<J>>), Memory>
-        requires journal { journal ≡ J.book }
+        requires book { book ≡ J.book }
         requires readers { (0 < readers) × (readers < 2 ^ 32) }
         ensures press { IfOk result (λ made. made.0 ≡ pressed log.now log.now) }
         ensures eyes { IfOk result (λ made. made.1.items ≡ replicate readers (watching log.now (length log.now.entries))) }
     {
-        let (head, sight) = journal.begin(rt, log);
+        let (head, sight) = book.begin(rt, log);
         log.right();
         let mut eyes = Vec::with_capacity(alloc, readers)?;
         let (first, second) = copies(alloc, &sight, log)?;

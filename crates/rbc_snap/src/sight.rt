@@ -6,7 +6,7 @@ ghost use Rattle.rbc_logbook_laws.specs.Counts.{head_of};
 ghost use Rattle.rbc_snap.specs.Later.{IsLater};
 ghost use Rattle.rbc_snap.specs.Sights.{seen_of};
 
-use crate::journal::{Glimpse, Head, add};
+use crate::moments::{Glimpse, Head, add};
 use rbc_record::Record;
 use std::marker::Model;
 

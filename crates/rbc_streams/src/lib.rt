@@ -1,8 +1,8 @@
-//! Readers and writers of bytes, the lines of what is read, and sessions: what answers the lines, and the one loop over
-//! them.
+//! Readers and writers of bytes, the lines of what is read, and sessions: line handlers, which answer the lines, and the one
+//! loop over them.
 #![tactic(auto)]
 
-mod answers;
+mod line_handler;
 mod line_reader;
 mod retried;
 mod session;
@@ -11,11 +11,11 @@ mod streams;
 mod text;
 mod whole;
 
-pub use answers::Answers;
+pub use line_handler::LineHandler;
 pub use line_reader::{Advance, LineReader};
 pub use rbc_model::{Memory, SessionFault};
 pub use retried::{LastCall, Retried};
-pub use session::{answer_lines, converse, next_line};
+pub use session::{next_line, serve_lines, serve_lines_with};
 pub use stream::{Buffered, Stream};
 pub use streams::{ReadFailed, Sink, Source, WriteFailed, put};
 pub use text::Text;

@@ -6,109 +6,110 @@ ghost use Rattle.rbc_model.specs.Sessions.{Prints};
 ghost use Rattle.rbc_model.specs.Talks.{IsTalk};
 ghost use Rattle.rbc_streams.specs.LineReading.{at_start, Goes, HasLine, KnowsEnd};
 
-use crate::{Advance, Answers, LineReader, Sink, Source, WriteFailed};
+use crate::{Advance, LineHandler, LineReader, Sink, Source, WriteFailed};
 use rbc_model::SessionFault;
 use rbc_model::limits::MOST_LINES;
 use std::alloc::Global;
 use std::thread::Threads;
 
 /// Answers each line of the reader, in order, up to the end of the input or the first fault. Before each read of the
-/// reader all replies so far are handed on. What answers is told of each line whether a further one has been read, so that
-/// the reply may rest: none rests where the reader is read, nor at the end.
+/// reader all replies so far are handed on. The line handler is told of each line whether a further one has been read, so
+/// that the reply may rest: none rests where the reader is read, nor at the end.
 ///
 /// # Errors
 /// `Memory` before anything is read or written. Then, for each line in order: `Read` where the reader fails, `Write`
-/// where the writer does, or what answers, `Overlong` behind the reply to a line that is too long; `Lines` where a further byte comes
+/// where the writer does, or the line handler, `Overlong` behind the reply to a line that is too long; `Lines` where a further byte comes
 /// after the last line that a session treats.
-pub fn converse<C, A: Answers<C>, R: Source, W: Sink>(
+pub fn serve_lines<C, A: LineHandler<C>, R: Source, W: Sink>(
     rt: &(impl Threads + Sync),
     alloc: Global,
     reader: &mut R,
     writer: &mut W,
-    answerer: &mut A,
+    handler: &mut A,
     help: &C,
 ) -> Result<(), SessionFault>
     requires reader { R.failed reader.old ≡ false }
     requires writer { W.failed writer.old ≡ false }
-    requires ready { A.ready (A.state answerer.old) }
-    requires none_rests { A.rests (A.state answerer.old) ≡ 0 }
+    requires ready { A.ready (A.state handler.old) }
+    requires none_rests { A.rests (A.state handler.old) ≡ 0 }
 
-    // A read or write fault is answered exactly where the reader failed, or the writer or what answers.
+    // A read or write fault is answered exactly where the reader failed, or the writer or the line handler.
     ensures read { (result ≡ Err SessionFault.Read) ↔ IsTrue (R.failed reader.new) }
-    ensures write { (result ≡ Err SessionFault.Write) ↔ IsTrue (A.broken (A.state answerer.new) || W.failed writer.new) }
+    ensures write { (result ≡ Err SessionFault.Write) ↔ IsTrue (A.broken (A.state handler.new) || W.failed writer.new) }
 
     // Without memory nothing begins.
     ensures memory { result ≡ Err SessionFault.Memory
-        → (reader.new ≡ reader.old) × (writer.new ≡ writer.old) × (answerer.new ≡ answerer.old) }
+        → (reader.new ≡ reader.old) × (writer.new ≡ writer.old) × (handler.new ≡ handler.old) }
 
     // Ok is answered at the end of the input, which the last read found.
     ensures end { OnOk result (IsAtEnd (R.left reader.new)) }
     ensures ended { OnOk result (R.ended reader.new ≡ true) }
 
     // No reply rests.
-    ensures none_rests { A.rests (A.state answerer.new) ≡ 0 }
+    ensures none_rests { A.rests (A.state handler.new) ≡ 0 }
 
     // What was written answers the lines of what was read.
     ensures talk { (input : List ℕ) × Consumes (R.left reader.old) (R.left reader.new) input
-        × IsTalk A.longest A.answers (A.state answerer.old) (A.state answerer.new) input
+        × IsTalk A.longest A.answers (A.state handler.old) (A.state handler.new) input
         (W.written writer.old) (W.written writer.new) result }
 
-    // And it was handed on, unless the writer failed, or what answers.
-    ensures handed_on { (A.broken (A.state answerer.new) || W.failed writer.new) ≡ false → W.held_back writer.old ≡ [] → W.held_back writer.new ≡ [] }
+    // And it was handed on, unless the writer failed, or the line handler.
+    ensures handed_on { (A.broken (A.state handler.new) || W.failed writer.new) ≡ false → W.held_back writer.old ≡ [] → W.held_back writer.new ≡ [] }
 {
     let lines = LineReader::new(alloc, A::longest_line())?;
-    answer_lines(rt, alloc, lines, reader, writer, answerer, help)
+    serve_lines_with(rt, alloc, lines, reader, writer, handler, help)
 }
 
-/// The same where there is room for the lines: a reader of lines that was not begun. Memory for these is not refused.
+/// Serves lines as [`serve_lines`] does, where there is room for them: a reader of lines that was not begun. Memory for these is
+/// not refused.
 ///
 /// # Errors
-/// Those of [`converse`], but for `Memory`.
-pub fn answer_lines<C, A: Answers<C>, R: Source, W: Sink>(
+/// Those of [`serve_lines`], but for `Memory`.
+pub fn serve_lines_with<C, A: LineHandler<C>, R: Source, W: Sink>(
     rt: &(impl Threads + Sync),
     alloc: Global,
     mut lines: LineReader,
     reader: &mut R,
     writer: &mut W,
-    answerer: &mut A,
+    handler: &mut A,
     help: &C,
 ) -> Result<(), SessionFault>
     requires lines { lines ≡ at_start A.longest }
     requires reader { R.failed reader.old ≡ false }
     requires writer { W.failed writer.old ≡ false }
-    requires ready { A.ready (A.state answerer.old) }
-    requires none_rests { A.rests (A.state answerer.old) ≡ 0 }
+    requires ready { A.ready (A.state handler.old) }
+    requires none_rests { A.rests (A.state handler.old) ≡ 0 }
 
     // Memory is refused to none that begins.
     ensures begins { result ≢ Err SessionFault.Memory }
 
-    // A read or write fault is answered exactly where the reader failed, or the writer or what answers.
+    // A read or write fault is answered exactly where the reader failed, or the writer or the line handler.
     ensures read { (result ≡ Err SessionFault.Read) ↔ IsTrue (R.failed reader.new) }
-    ensures write { (result ≡ Err SessionFault.Write) ↔ IsTrue (A.broken (A.state answerer.new) || W.failed writer.new) }
+    ensures write { (result ≡ Err SessionFault.Write) ↔ IsTrue (A.broken (A.state handler.new) || W.failed writer.new) }
 
     // Ok is answered at the end of the input, which the last read found.
     ensures end { OnOk result (IsAtEnd (R.left reader.new)) }
     ensures ended { OnOk result (R.ended reader.new ≡ true) }
 
     // No reply rests.
-    ensures none_rests { A.rests (A.state answerer.new) ≡ 0 }
+    ensures none_rests { A.rests (A.state handler.new) ≡ 0 }
 
     // What was written answers the lines of what was read.
     ensures talk { (input : List ℕ) × Consumes (R.left reader.old) (R.left reader.new) input
-        × IsTalk A.longest A.answers (A.state answerer.old) (A.state answerer.new) input
+        × IsTalk A.longest A.answers (A.state handler.old) (A.state handler.new) input
         (W.written writer.old) (W.written writer.new) result }
 
-    // And it was handed on, unless the writer failed, or what answers.
-    ensures handed_on { (A.broken (A.state answerer.new) || W.failed writer.new) ≡ false → W.held_back writer.old ≡ [] → W.held_back writer.new ≡ [] }
+    // And it was handed on, unless the writer failed, or the line handler.
+    ensures handed_on { (A.broken (A.state handler.new) || W.failed writer.new) ≡ false → W.held_back writer.old ≡ [] → W.held_back writer.new ≡ [] }
 {
     for count in 0..MOST_LINES {
         match next_line(&mut lines, reader, writer, count > 0)? {
             Advance::Line => {
                 let more = count + 1 < MOST_LINES && lines.has_line();
-                answerer.answer(rt, alloc, help, lines.line(), more, writer)?;
+                handler.answer(rt, alloc, help, lines.line(), more, writer)?;
             }
             Advance::Overlong => {
-                refuse(writer, answerer, help)?;
+                refuse(writer, handler, help)?;
                 return Err(SessionFault::Overlong);
             }
             Advance::End => return Ok(()),
@@ -162,21 +163,21 @@ pub fn next_line<R: Source, W: Sink>(
 }
 
 /// Answers a line that is too long, and hands the reply on.
-fn refuse<C, A: Answers<C>, W: Sink>(
+fn refuse<C, A: LineHandler<C>, W: Sink>(
     writer: &mut W,
-    answerer: &mut A,
+    handler: &mut A,
     help: &C,
 ) -> Result<(), WriteFailed>
     requires going { W.failed writer.old ≡ false }
-    requires ready { A.ready (A.state answerer.old) }
-    requires none_rests { A.rests (A.state answerer.old) ≡ 0 }
+    requires ready { A.ready (A.state handler.old) }
+    requires none_rests { A.rests (A.state handler.old) ≡ 0 }
     ensures reply { (reply : List ℕ)
         × ((line : List ℕ) → A.longest < length line
-        → A.answers (A.state answerer.old) line reply (A.state answerer.new))
-        × Prints (W.written writer.old) (W.written writer.new) (A.broken (A.state answerer.new) || W.failed writer.new) reply result }
-    ensures none_rests { A.rests (A.state answerer.new) ≡ 0 }
+        → A.answers (A.state handler.old) line reply (A.state handler.new))
+        × Prints (W.written writer.old) (W.written writer.new) (A.broken (A.state handler.new) || W.failed writer.new) reply result }
+    ensures none_rests { A.rests (A.state handler.new) ≡ 0 }
     ensures handed_on { OnOk result (W.held_back writer.new ≡ []) }
 {
-    answerer.refuse(help, writer)?;
+    handler.refuse(help, writer)?;
     writer.flush()
 }

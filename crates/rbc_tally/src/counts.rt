@@ -1,6 +1,6 @@
 //! What was counted.
 
-use crate::{KINDS, Refusal};
+use crate::{KINDS, RefusalKind};
 use std::time::Duration;
 
 /// What a centre has done so far. Each number was true at some moment while it was asked for, and not all of them at one.
@@ -20,7 +20,7 @@ pub struct Counts {
     pub blocked: u64,
     /// Replies to `state` and `scene`.
     pub shown: u64,
-    /// Replies `refused`, of each kind, in the order of [`Refusal::ALL`].
+    /// Replies `refused`, of each kind, in the order of [`RefusalKind::ALL`].
     pub refused: [u64; KINDS],
     /// Entries of the history: those that it had at the start, and those that a reply has told of.
     pub entries: u64,
@@ -36,7 +36,7 @@ pub struct Counts {
 
 impl Counts {
     /// How many replies refused a line for this reason.
-    pub fn refused_for(&self, refusal: Refusal) -> u64 {
+    pub fn refused_for(&self, refusal: RefusalKind) -> u64 {
         self.refused.get(refusal as usize).copied().unwrap_or(0)
     }
 

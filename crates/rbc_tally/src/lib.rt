@@ -7,6 +7,6 @@ mod replies;
 mod tally;
 
 pub use counts::Counts;
-pub use refusal::{KINDS, Refusal};
+pub use refusal::{KINDS, RefusalKind};
 pub use replies::{Replies, Reply};
 pub use tally::{Reader, Tally};

@@ -8,7 +8,7 @@ pub const KINDS: usize = 21;
 
 /// The word behind `refused`.
 #[derive(Clone, Copy, Debug, PartialEq, Eq)]
-pub enum Refusal {
+pub enum RefusalKind {
     /// More bytes than a line may have.
     Overlong,
     /// Bytes that are no text.
@@ -53,71 +53,71 @@ pub enum Refusal {
     Other,
 }
 
-impl Refusal {
+impl RefusalKind {
     /// All of them, in order.
-    pub const ALL: [Refusal; KINDS] = [
-        Refusal::Overlong,
-        Refusal::NotText,
-        Refusal::Command,
-        Refusal::Words,
-        Refusal::Number,
-        Refusal::Name,
-        Refusal::UnknownName,
-        Refusal::Full,
-        Refusal::Clash,
-        Refusal::LinkTaken,
-        Refusal::NotLocked,
-        Refusal::Busy,
-        Refusal::UnknownTrain,
-        Refusal::YieldRange,
-        Refusal::Crowded,
-        Refusal::UnknownGroup,
-        Refusal::Offline,
-        Refusal::Unplaced,
-        Refusal::TooFar,
-        Refusal::Memory,
-        Refusal::Other,
+    pub const ALL: [RefusalKind; KINDS] = [
+        RefusalKind::Overlong,
+        RefusalKind::NotText,
+        RefusalKind::Command,
+        RefusalKind::Words,
+        RefusalKind::Number,
+        RefusalKind::Name,
+        RefusalKind::UnknownName,
+        RefusalKind::Full,
+        RefusalKind::Clash,
+        RefusalKind::LinkTaken,
+        RefusalKind::NotLocked,
+        RefusalKind::Busy,
+        RefusalKind::UnknownTrain,
+        RefusalKind::YieldRange,
+        RefusalKind::Crowded,
+        RefusalKind::UnknownGroup,
+        RefusalKind::Offline,
+        RefusalKind::Unplaced,
+        RefusalKind::TooFar,
+        RefusalKind::Memory,
+        RefusalKind::Other,
     ];
 
     /// Its word.
     pub fn name(self) -> &'static str {
         match self {
-            Refusal::Overlong => "Overlong",
-            Refusal::NotText => "NotText",
-            Refusal::Command => "Command",
-            Refusal::Words => "Words",
-            Refusal::Number => "Number",
-            Refusal::Name => "Name",
-            Refusal::UnknownName => "UnknownName",
-            Refusal::Full => "Full",
-            Refusal::Clash => "Clash",
-            Refusal::LinkTaken => "LinkTaken",
-            Refusal::NotLocked => "NotLocked",
-            Refusal::Busy => "Busy",
-            Refusal::UnknownTrain => "UnknownTrain",
-            Refusal::YieldRange => "YieldRange",
-            Refusal::Crowded => "Crowded",
-            Refusal::UnknownGroup => "UnknownGroup",
-            Refusal::Offline => "Offline",
-            Refusal::Unplaced => "Unplaced",
-            Refusal::TooFar => "TooFar",
-            Refusal::Memory => "Memory",
-            Refusal::Other => "Other",
+            RefusalKind::Overlong => "Overlong",
+            RefusalKind::NotText => "NotText",
+            RefusalKind::Command => "Command",
+            RefusalKind::Words => "Words",
+            RefusalKind::Number => "Number",
+            RefusalKind::Name => "Name",
+            RefusalKind::UnknownName => "UnknownName",
+            RefusalKind::Full => "Full",
+            RefusalKind::Clash => "Clash",
+            RefusalKind::LinkTaken => "LinkTaken",
+            RefusalKind::NotLocked => "NotLocked",
+            RefusalKind::Busy => "Busy",
+            RefusalKind::UnknownTrain => "UnknownTrain",
+            RefusalKind::YieldRange => "YieldRange",
+            RefusalKind::Crowded => "Crowded",
+            RefusalKind::UnknownGroup => "UnknownGroup",
+            RefusalKind::Offline => "Offline",
+            RefusalKind::Unplaced => "Unplaced",
+            RefusalKind::TooFar => "TooFar",
+            RefusalKind::Memory => "Memory",
+            RefusalKind::Other => "Other",
         }
     }
 
     /// The one with this word.
-    pub(crate) fn named(word: &[u8]) -> Refusal {
-        for refusal in Refusal::ALL {
+    pub(crate) fn named(word: &[u8]) -> RefusalKind {
+        for refusal in RefusalKind::ALL {
             if refusal.name().as_bytes() == word {
                 return refusal;
             }
         }
-        Refusal::Other
+        RefusalKind::Other
     }
 }
 
-impl Display for Refusal {
+impl Display for RefusalKind {
     fn fmt<W: fmt::Write>(&self, f: &mut fmt::Formatter<W>) -> fmt::Result {
         f.write_str(self.name())
     }

@@ -1,6 +1,6 @@
 //! Replies, found in the bytes that are written to a client.
 
-use crate::{Refusal, Tally};
+use crate::{RefusalKind, Tally};
 use std::str;
 
 /// How much of a line is looked at, in bytes: enough for `granted`, a train and a version.
@@ -18,7 +18,7 @@ pub enum Reply {
     /// The state or the scene is shown.
     Shown,
     /// The line was refused.
-    Refused(Refusal),
+    Refused(RefusalKind),
 }
 
 impl Reply {
@@ -33,7 +33,7 @@ impl Reply {
             }
             b"blocked" => Some(Reply::Blocked),
             b"state" | b"scene" => Some(Reply::Shown),
-            b"refused" => Some(Reply::Refused(Refusal::named(words.next()?))),
+            b"refused" => Some(Reply::Refused(RefusalKind::named(words.next()?))),
             _ => None,
         }
     }

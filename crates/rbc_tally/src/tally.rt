@@ -1,6 +1,6 @@
 //! The numbers themselves, which any thread counts on without a lock.
 
-use crate::{Counts, KINDS, Refusal, Reply};
+use crate::{Counts, KINDS, RefusalKind, Reply};
 use std::array;
 use std::sync::atomic::{AtomicU64, Ordering};
 use std::time::Duration;
@@ -138,7 +138,7 @@ impl Tally {
     }
 
     // A line was refused.
-    fn refused_for(&self, refusal: Refusal) {
+    fn refused_for(&self, refusal: RefusalKind) {
         if let Some(count) = self.refused.get(refusal as usize) {
             add(count, 1);
         }

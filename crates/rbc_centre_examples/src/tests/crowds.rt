@@ -124,7 +124,7 @@ fn crowd<L: DeskName + Send + Sync, R>(rt: &R, history: Record, blank: Blank) ->
 where
     R: Threads + Wait + Abort + AllocGlobal + Sync,
     requires name { blank.ledger.name ≡ L.name }
-    requires book { blank.journal ≡ L.book }
+    requires book { blank.book ≡ L.book }
     requires parts { (blank.ledger.parts ≡ L.parts) × (4 ≡ L.parts) }
     requires opened { history ≡ L.opened }
 {

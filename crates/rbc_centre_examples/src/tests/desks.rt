@@ -20,7 +20,7 @@ fn work_goes_on<L: DeskName + Send + Sync, R>(rt: &R, history: Record, blank: Bl
 where
     R: Threads + Wait + Abort + AllocGlobal + Sync,
     requires name { blank.ledger.name ≡ L.name }
-    requires book { blank.journal ≡ L.book }
+    requires book { blank.book ≡ L.book }
     requires parts { (blank.ledger.parts ≡ L.parts) × (2 ≡ L.parts) }
     requires opened { history ≡ L.opened }
 {
@@ -129,7 +129,7 @@ fn overtake<L: DeskName, R>(rt: &R, history: Record, blank: Blank, case: &Overta
 where
     R: Threads + Wait + Abort + AllocGlobal + Sync,
     requires name { blank.ledger.name ≡ L.name }
-    requires book { blank.journal ≡ L.book }
+    requires book { blank.book ≡ L.book }
     requires parts { (blank.ledger.parts ≡ L.parts) × (2 ≡ L.parts) }
     requires opened { history ≡ L.opened }
 {
@@ -184,7 +184,7 @@ fn tell_and_ask<L: DeskName, R>(rt: &R, history: Record, blank: Blank)
 where
     R: Threads + Wait + Abort + AllocGlobal + Sync,
     requires name { blank.ledger.name ≡ L.name }
-    requires book { blank.journal ≡ L.book }
+    requires book { blank.book ≡ L.book }
     requires parts { (blank.ledger.parts ≡ L.parts) × (2 ≡ L.parts) }
     requires opened { history ≡ L.opened }
 {

@@ -47,7 +47,7 @@ fn are_granted<L: DeskName, R>(rt: &R, history: Record, blank: Blank) -> bool
 where
     R: Threads + Wait + Abort + AllocGlobal + Sync,
     requires name { blank.ledger.name ≡ L.name }
-    requires book { blank.journal ≡ L.book }
+    requires book { blank.book ≡ L.book }
     requires parts { (blank.ledger.parts ≡ L.parts) × (2 ≡ L.parts) }
     requires opened { history ≡ L.opened }
 {

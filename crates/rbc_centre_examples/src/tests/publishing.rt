@@ -31,7 +31,7 @@ fn ask_without_the_lock<L: DeskName + Send + Sync, R>(rt: &R, history: Record, b
 where
     R: Threads + Wait + Abort + AllocGlobal + Sync,
     requires name { blank.ledger.name ≡ L.name }
-    requires book { blank.journal ≡ L.book }
+    requires book { blank.book ≡ L.book }
     requires parts { (blank.ledger.parts ≡ L.parts) × (2 ≡ L.parts) }
     requires opened { history ≡ L.opened }
 {

@@ -158,7 +158,7 @@ fn is_answered_at_a_desk<L: DeskName, R>(rt: &R, history: Record, blank: Blank, 
 where
     R: Threads + Wait + Abort + AllocGlobal + Sync,
     requires name { blank.ledger.name ≡ L.name }
-    requires book { blank.journal ≡ L.book }
+    requires book { blank.book ≡ L.book }
     requires parts { (blank.ledger.parts ≡ L.parts) × (1 ≡ L.parts) }
     requires opened { history ≡ L.opened }
 {

@@ -24,7 +24,7 @@ fn tell_and_show<L: DeskName, R>(rt: &R, history: Record, blank: Blank)
 where
     R: Wait + Abort + AllocGlobal,
     requires name { blank.ledger.name ≡ L.name }
-    requires book { blank.journal ≡ L.book }
+    requires book { blank.book ≡ L.book }
     requires parts { (blank.ledger.parts ≡ L.parts) × (2 ≡ L.parts) }
     requires opened { history ≡ L.opened }
 {

@@ -47,7 +47,7 @@ where
     R: Threads + Wait + Abort + AllocGlobal + Sync,
     G: Gate + Sync,
     requires name { blank.ledger.name ≡ L.name }
-    requires book { blank.journal ≡ L.book }
+    requires book { blank.book ≡ L.book }
     requires parts { (blank.ledger.parts ≡ L.parts) × (2 ≡ L.parts) }
     requires opened { history ≡ L.opened }
 {
@@ -111,7 +111,7 @@ fn leaves_meanwhile<L: DeskName + Send + Sync, R>(rt: &R, history: Record, blank
 where
     R: Threads + Wait + Abort + AllocGlobal + Sync,
     requires name { blank.ledger.name ≡ L.name }
-    requires book { blank.journal ≡ L.book }
+    requires book { blank.book ≡ L.book }
     requires parts { (blank.ledger.parts ≡ L.parts) × (2 ≡ L.parts) }
     requires opened { history ≡ L.opened }
 {
@@ -154,7 +154,7 @@ fn sweeps_what_it_told<L: DeskName + Send + Sync, R>(rt: &R, history: Record, bl
 where
     R: Threads + Wait + Abort + AllocGlobal + Sync,
     requires name { blank.ledger.name ≡ L.name }
-    requires book { blank.journal ≡ L.book }
+    requires book { blank.book ≡ L.book }
     requires parts { (blank.ledger.parts ≡ L.parts) × (1 ≡ L.parts) }
     requires opened { history ≡ L.opened }
 {

@@ -6,7 +6,9 @@ ghost use Rattle.rbc_journal.specs.Journal.{recovered};
 ghost use Rattle.rbc_journal.specs.Settled.{IsSettled, staged};
 
 use super::journals::{Noted, image_of, lines_in, new_journal, opened};
-use rbc_group_commit::{Blank, CommitName, Committer, GroupCommit, Line, Start, Told};
+use rbc_group_commit::{
+    BlankStamps, CommitName, Committer, EntryLine, GroupCommit, Start, ToldHistory,
+};
 use rbc_journal::{Device, is_told};
 use rbc_journal_file::Recorded;
 use std::alloc::{AllocError, Global};
@@ -22,7 +24,7 @@ const LINES: u64 = 25;
 #[derive(Drop)]
 struct Anything;
 
-impl Told for Anything {
+impl ToldHistory for Anything {
     ghost use Rattle.std.specs.Prelude.{⊤};
 
     ghost tells = { λ _ _ _. ⊤ };
@@ -55,7 +57,11 @@ fn keep_some<D: Device, N: CommitName, R: Wait>(
             return turn;
         }
         if group_commit
-            .keep(rt, &mut committer, Line::new(Anything, place, text))
+            .keep(
+                rt,
+                &mut committer,
+                EntryLine::new(Anything, place, text, None),
+            )
             .is_err()
         {
             return turn;
@@ -91,7 +97,7 @@ fn kept_by_four<N: CommitName + Send + Sync, R: Threads + Wait + Sync>(
     rt: &R,
     alloc: Global,
     fails_at: usize,
-    blank: Blank,
+    blank: BlankStamps,
 ) -> Result<([u64; 4], Vec<u8>), Fail>
     requires { blank ≡ N.book }
 {
@@ -147,11 +153,11 @@ fn lines_are_kept_at_their_places(rt: HostRuntime) -> Result<(), Fail> {
         all.extend_from_slice(line_at(alloc, place)?.as_slice())?;
         all.push(b'\n')?;
     }
-    let (kept, lines) = kept_by_four::<Brand, _>(&rt, alloc, usize::MAX, Blank::new())?;
+    let (kept, lines) = kept_by_four::<Brand, _>(&rt, alloc, usize::MAX, BlankStamps::new())?;
     assert_eq!(rt; kept, [LINES; 4]);
     assert!(rt; lines == all);
     for fails_at in [1usize, 2, 3, 4, 5, 20, 33, 50, 68] {
-        let (kept, lines) = kept_by_four::<Brand, _>(&rt, alloc, fails_at, Blank::new())?;
+        let (kept, lines) = kept_by_four::<Brand, _>(&rt, alloc, fails_at, BlankStamps::new())?;
         assert!(rt; all.as_slice().starts_with(lines.as_slice()));
         let mut seat = 0u64;
         for count in kept {

@@ -6,7 +6,7 @@ ghost use Rattle.rbc_journal.specs.Journal.{recovered};
 ghost use Rattle.rbc_journal.specs.Settled.{IsSettled, staged};
 
 use rbc_journal::{Device, Journal, is_told, new_file, next_told, read, track_digest};
-use rbc_journal_file::{Calls, OpenFault, Place, Recorded, open};
+use rbc_journal_file::{Calls, JournalPaths, OpenFault, Recorded, open};
 use std::alloc::{AllocError, Global};
 use std::test::Fail;
 use std::{fs, io};
@@ -283,7 +283,7 @@ fn a_file_is_one_journal_at_a_time(rt: HostRuntime) -> Result<(), Fail> {
     const PATH: &str = "rbc_journal_test.txt";
     let alloc = rt.alloc();
     let _ = fs::remove_file(&rt, PATH);
-    let place = Place::at(&rt, PATH)?;
+    let place = JournalPaths::at(&rt, PATH)?;
     for line in LINES {
         let Ok(found) = open(&rt, &place) else {
             return Err("it is opened".into());

@@ -2,7 +2,7 @@
 
 ghost use Rattle.std.specs.Prelude.{◌≡◌, IfOk};
 
-use rbc_streams::{Answers, SessionFault, Sink, Stream, WriteFailed, converse, put};
+use rbc_streams::{LineHandler, SessionFault, Sink, Stream, WriteFailed, put, serve_lines};
 use std::alloc::Global;
 use std::cell::RefCell;
 use std::io;
@@ -13,7 +13,7 @@ use std::thread::Threads;
 #[derive(Drop)]
 struct Echo;
 
-impl Answers<()> for Echo {
+impl LineHandler<()> for Echo {
     type State = ();
 
     ghost use Rattle.std.specs.Prelude.{⊤, false, refl};
@@ -215,7 +215,7 @@ fn interruptions_and_faults_in_a_session(rt: HostRuntime) {
             last: full,
         };
         let mut writer = Stream::writer(rt.alloc(), taker).expect(&rt, "room");
-        let outcome = converse(&rt, rt.alloc(), &mut reader, &mut writer, &mut Echo, &());
+        let outcome = serve_lines(&rt, rt.alloc(), &mut reader, &mut writer, &mut Echo, &());
         assert_eq!(rt; outcome, case.outcome);
         assert_eq!(rt; writer.into_writer().taken.as_slice(), case.taken);
     }
@@ -280,7 +280,7 @@ fn replies_are_there_at_each_read(rt: HostRuntime) {
     });
     let mut reader = Stream::reader(PeerEnd { peer: &peer });
     let mut writer = Stream::writer(rt.alloc(), PeerEnd { peer: &peer }).expect(&rt, "room");
-    let outcome = converse(&rt, rt.alloc(), &mut reader, &mut writer, &mut Echo, &());
+    let outcome = serve_lines(&rt, rt.alloc(), &mut reader, &mut writer, &mut Echo, &());
     assert_eq!(rt; outcome, Ok(()));
     let peer = peer.try_borrow_mut().expect(&rt, "free");
     assert_eq!(rt;

@@ -1,6 +1,6 @@
 //! Replies that are counted in whatever pieces they are written.
 
-use rbc_tally::{Counts, Reader, Refusal, Replies, Tally};
+use rbc_tally::{Counts, Reader, RefusalKind, Replies, Tally};
 use std::time::Duration;
 
 /// Replies of each kind, lines of a grant and of a scene that are none, and one that has not come whole.
@@ -35,8 +35,8 @@ fn counted_by_bytes() -> Counts {
 fn are_of_text(counts: &Counts) -> bool {
     (counts.ok, counts.granted, counts.blocked, counts.shown) == (2, 1, 1, 2)
         && (
-            counts.refused_for(Refusal::Clash),
-            counts.refused_for(Refusal::Other),
+            counts.refused_for(RefusalKind::Clash),
+            counts.refused_for(RefusalKind::Other),
         ) == (2, 1)
         && (counts.all_refused(), counts.entries, counts.entries_left())
             == (3, 50_000_000, 10_000_000)

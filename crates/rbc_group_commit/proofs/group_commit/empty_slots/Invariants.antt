@@ -1,5 +1,5 @@
-use Rattle.std.proofs.Common.{◌≡◌, ◌≤◌, vec_len}
+use Rattle.std.proofs.Common.{◌≡◌, ◌≤◌, None, replicate}
 use Rattle.rbc_group_commit.proofs.group_commit.empty_slots.Given as goal
 
 abbrev pub invariant-loop-slot : goal.invariant-loop-slot
-invariant-loop-slot g l = (vec_len l.slots ≡ l._slot) × (72 ≤ l.slots.cap)
+invariant-loop-slot g l = (l.slots.items ≡ replicate l._slot None) × (72 ≤ l.slots.cap)

@@ -2,7 +2,8 @@ use Rattle.std.proofs.Common.{ℕ, List, ◌++◌, drop, sym, ◌∙◌, ap}
 use Rattle.std.proofs.lemmas.List.{append-nil}
 use Rattle.rbc_journal.specs.Gates.{counted}
 use Rattle.rbc_journal.specs.Sessions.{lines_of}
-use Rattle.rbc_journal.specs.Beginnings.{marked_front, beginning_of, joined}
+use Rattle.rbc_journal.specs.Marks.{marked_front}
+use Rattle.rbc_journal.specs.Beginnings.{beginning_of, joined}
 use Rattle.rbc_journal.proofs.BeginningLemmas.{joined_lines, beginning_are, drop_three}
 use Rattle.rbc_journal.proofs.beginning.beginning_in.Goals as goal
 

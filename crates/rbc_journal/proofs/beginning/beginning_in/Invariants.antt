@@ -1,6 +1,7 @@
 use Rattle.std.proofs.Common.{◌≡◌, ◌++◌, length}
 use Rattle.rbc_journal.specs.Gates.{counted}
-use Rattle.rbc_journal.specs.Beginnings.{marked_front, beginning_of, joined}
+use Rattle.rbc_journal.specs.Marks.{marked_front}
+use Rattle.rbc_journal.specs.Beginnings.{beginning_of, joined}
 use Rattle.rbc_journal.proofs.beginning.beginning_in.Given as goal
 
 abbrev pub invariant-loop-line : goal.invariant-loop-line

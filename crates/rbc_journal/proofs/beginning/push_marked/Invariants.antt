@@ -1,7 +1,7 @@
 use Rattle.std.proofs.Common.{◌≡◌, ◌++◌, length, map}
 use Rattle.rbc_journal.specs.Gates.{text}
 use Rattle.rbc_journal.specs.Sessions.{lines_of}
-use Rattle.rbc_journal.specs.Beginnings.{marked}
+use Rattle.rbc_journal.specs.Marks.{marked}
 use Rattle.rbc_journal.proofs.beginning.push_marked.Given as goal
 
 abbrev pub invariant-loop-line : goal.invariant-loop-line

@@ -1,22 +1,23 @@
-use Rattle.std.proofs.Common.{[], ◌∷◌, ◌++◌, sym, ap, ◌∙◌}
-use Rattle.std.specs.Prelude.{bytes_eq}
-use Rattle.rbc_journal.specs.Seals.{seal_line}
-use Rattle.rbc_journal.proofs.PutLemmas.{puts_of_put, puts_then}
-use Rattle.rbc_journal.proofs.ReadingLemmas.{ends_none, ends_by_rest}
+use Rattle.std.proofs.Common.{[], ◌∷◌, Bool, refl, sym, ◌∙◌, ap}
+use Rattle.std.specs.Prelude.{◌&&◌, not, bytes_eq}
+use Rattle.rbc_journal.proofs.PutLemmas.{put_ends, put_marked}
 use Rattle.rbc_journal.proofs.reading.ends_well.Goals as goal
 
-pub returns-in_default : goal.returns-in_default
-returns-in_default c = sym (ends_none c.args.seal.now c.args.behind.now c.in_default.ensures.none)
+pub returns-then-is_marked : goal.returns-then-is_marked
+returns-then-is_marked c =
+    let behind = c.args.behind.now in
+    let put = c.in-Some.put in
+    let found = c.in-Some.ensures.some in
+    sym (put_ends c.args.seal.now (32 ∷ behind) found.0 put.seal put.rest.now found.1
+    ∙ ap (λ (b : Bool). not b && bytes_eq put.rest.now (35 ∷ []))
+    (put_marked c.args.seal.now (32 ∷ behind) found.0 put.seal put.rest.now found.1 behind refl ∙ sym c.is_marked.ensures ∙ c.if-is_marked.true))
 
 pub returns : goal.returns
 returns c =
+    let behind = c.args.behind.now in
+    let put = c.in-Some.put in
     let found = c.in-Some.ensures.some in
-    let more = c.puts_in.ensures.puts in
-    let seal = c.args.seal.now in
-    let all = found.0 ++ seal_line c.in-Some.put.seal ∷ [] in
-    let last = c.puts_in.result in
-    c.eq.ensures ∙ ap (bytes_eq last.rest.now) c.as_slice.ensures
-    ∙ ends_by_rest seal (32 ∷ c.args.behind.now) (all ++ more.0) last.seal last.rest.now
-    (puts_then seal (32 ∷ c.args.behind.now) all c.in-Some.put.seal c.in-Some.put.rest.now more.0 last.seal last.rest.now
-    (puts_of_put seal (32 ∷ c.args.behind.now) found.0 c.in-Some.put.seal c.in-Some.put.rest.now found.1) more.1)
-    c.puts_in.ensures.all
+    c.eq.ensures ∙ ap (bytes_eq put.rest.now) c.as_slice.ensures
+    ∙ sym (put_ends c.args.seal.now (32 ∷ behind) found.0 put.seal put.rest.now found.1
+    ∙ ap (λ (b : Bool). not b && bytes_eq put.rest.now (35 ∷ []))
+    (put_marked c.args.seal.now (32 ∷ behind) found.0 put.seal put.rest.now found.1 behind refl ∙ sym c.is_marked.ensures ∙ c.if-is_marked.false))

@@ -1,29 +1,37 @@
-use Rattle.std.proofs.Common.{List, ℕ, length, arith, refl, ap, ◌∙◌, subst}
+use Rattle.std.proofs.Common.{◌≡◌, Result, Err, ap, sym, subst, ◌∙◌}
+use Rattle.std.proofs.lemmas.Result.{err_from_is_err_and}
+use Rattle.rbc_journal.specs.Gates.{counted}
 use Rattle.rbc_server.specs.Records.{begin_of, HistoryOnTrack}
-use Rattle.rbc_kept.specs.Adds.{Adds, Follows}
-use Rattle.rbc_kept.proofs.AddingLemmas.{replays_on}
-use Rattle.rbc_kept.proofs.TellingLemmas.{begins, ends}
+use Rattle.rbc_kept.specs.Notes.{DiffersFirst}
+use Rattle.rbc_kept.specs.declared.fault.KeptFault.{KeptFault}
+use Rattle.rbc_kept.specs.declared.fault.KeptFault.TheVariants.{Differs}
+use Rattle.rbc_kept.proofs.ReplayingLemmas.{nothing_replayed, replayed_on, differs_here, all_told, all_true}
 use Rattle.rbc_kept.proofs.replaying.replay.Goals as goal
 
-pub loop-comments-init : goal.loop-comments-init
-loop-comments-init g c = record { begin = refl; goes = begins (Adds (begin_of c.args.history.now)) c.args.text.now c.args.history.now.entries c.requires }
+pub loop-line-init : goal.loop-line-init
+loop-line-init g c = nothing_replayed c.args.history.now c.args.text.now c.requires
 
-pub loop-comments-preserved : goal.loop-comments-preserved
-loop-comments-preserved g c =
-    let i = c.loop-comments.invariant in
-    let gains = subst (λ b. Follows b c.loop-comments.history c.in-Some.line.now c.follow.new.history) c.if-not-branch.false c.in_ok-follow.ensures.followed in
-    record {
-      begin = ap begin_of gains.2 ∙ i.begin;
-      goes = replays_on (begin_of c.args.history.now) c.loop-comments.history c.follow.new.history c.args.text.now c.loop-comments.rest.now c.in-Some.after.now c.in-Some.line.now i.begin c.in-Some.ensures.told gains i.goes;
-    }
+pub loop-line-preserved : goal.loop-line-preserved
+loop-line-preserved g c =
+    replayed_on (begin_of c.args.history.now) c.loop-line.history c.enter.new.history c.args.text.now c.loop-line.rest.now c.in-Some.after.now c.in-Some.line.now c.in-Some.ensures.line c.loop-line.invariant
+    c.in_ok-enter.ensures.entered
 
 pub returns-clause-told : goal.returns-clause-told
 returns-clause-told g c =
-    let i = c.loop-comments.invariant in
-    ends (Adds (begin_of c.args.history.now)) c.args.text.now c.loop-comments.rest.now c.loop-comments.history.entries c.in_default.ensures.none i.goes
+    all_told (begin_of c.args.history.now) c.loop-line.history c.args.text.now c.loop-line.rest.now c.in_default.ensures.none c.loop-line.invariant
 
-pub loop-comments-smaller : goal.loop-comments-smaller
-loop-comments-smaller g c = omega (arith, ap (λ (lines : List (List ℕ)). length lines) c.in-Some.ensures.told)
+pub returns-clause-noted : goal.returns-clause-noted
+returns-clause-noted g c =
+    all_true (begin_of c.args.history.now) c.loop-line.history c.args.text.now c.loop-line.rest.now c.in_default.ensures.none c.loop-line.invariant
 
-pub overflow_add-result : goal.overflow_add-result
-overflow_add-result g c = omega (arith, c.version-told.ensures.count, c.known.ensures.few, c.right.ensures.bounded)
+the_fault : (fault other : KeptFault) → (let r : Result (Unit {0}) KeptFault = Err fault in r) ≡ Err other → fault ≡ other
+the_fault fault other e = cc
+
+pub returns-in_err-enter-clause-differs : goal.returns-in_err-enter-clause-differs
+returns-in_err-enter-clause-differs g c = λ count is.
+    let told = err_from_is_err_and c.from_residual.result c.from_residual.ensures.1 in
+    let same = c.in_err-enter.was ∙ ap Err (sym told.2 ∙ the_fault told.0 (Differs count) (sym told.1 ∙ is)) in
+    let found = c.enter.ensures in
+    subst (λ (h : HistoryOnTrack). DiffersFirst (begin_of c.args.history.now) (counted c.args.text.now) count h.entries) (sym c.in_err-enter.ensures.refused)
+    (differs_here (begin_of c.args.history.now) c.loop-line.history c.enter.new.history c.args.text.now c.loop-line.rest.now c.in-Some.after.now c.in-Some.line.now c.in-Some.ensures.line c.loop-line.invariant
+    count (found.count count same) (found.noted count same) (found.differs count same))

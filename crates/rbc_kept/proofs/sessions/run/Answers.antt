@@ -7,75 +7,75 @@ use Rattle.rbc_kept.proofs.KeepingLemmas.{ready_goes}
 use Rattle.rbc_kept.proofs.TalkLemmas.{leaves_in, begin_in, ready_after, fails_in, kept_session, kept_answers}
 use Rattle.rbc_kept.proofs.sessions.run.Goals as goal
 
-pub converse-ended-requires-clause-ready : goal.converse-ended-requires-clause-ready
-converse-ended-requires-clause-ready g c κs within = ready_goes g.D.Device.seen g.D.Device.may_leave c.args.kept.now c.requires.ready
+pub serve_lines-ended-requires-clause-ready : goal.serve_lines-ended-requires-clause-ready
+serve_lines-ended-requires-clause-ready g c κs within = ready_goes g.D.Device.seen g.D.Device.may_leave c.args.kept.now c.requires.ready
 
 pub returns-clause-read : goal.returns-clause-read
-returns-clause-read g c = rw c.run_end.ensures (read_told c.converse-ended.result c.converse-ended.new.answerer.has_failed _ _ c.converse-ended.ensures.read c.converse-ended.ensures.write)
+returns-clause-read g c = rw c.run_end.ensures (read_told c.serve_lines-ended.result c.serve_lines-ended.new.handler.has_failed _ _ c.serve_lines-ended.ensures.read c.serve_lines-ended.ensures.write)
 
 pub returns-clause-write : goal.returns-clause-write
 returns-clause-write g c told =
-    write_told c.converse-ended.result c.converse-ended.new.answerer.has_failed (g.W.Sink.failed c.converse-ended.new.writer) c.converse-ended.ensures.write (sym c.run_end.ensures ∙ told)
+    write_told c.serve_lines-ended.result c.serve_lines-ended.new.handler.has_failed (g.W.Sink.failed c.serve_lines-ended.new.writer) c.serve_lines-ended.ensures.write (sym c.run_end.ensures ∙ told)
 
 pub returns-clause-journal : goal.returns-clause-journal
-returns-clause-journal g c = rw c.run_end.ensures (journal_told c.converse-ended.result c.converse-ended.new.answerer.has_failed)
+returns-clause-journal g c = rw c.run_end.ensures (journal_told c.serve_lines-ended.result c.serve_lines-ended.new.handler.has_failed)
 
 pub returns-clause-failed : goal.returns-clause-failed
 returns-clause-failed g c told =
     fails_in g.D.Device.seen g.D.Device.may_leave g.D.Device.moment g.D.Device.left_since g.D.Device.faults g.met.D.Device.only_now g.met.D.Device.counts_now
-    c.args.kept.now c.converse-ended.new.answerer c.converse-ended.ensures.talk.0 _ _ c.converse-ended.result c.requires.ready c.converse-ended.ensures.talk.2
-    (broken_told c.converse-ended.result c.converse-ended.new.answerer.has_failed (sym c.run_end.ensures ∙ told))
+    c.args.kept.now c.serve_lines-ended.new.handler c.serve_lines-ended.ensures.talk.0 _ _ c.serve_lines-ended.result c.requires.ready c.serve_lines-ended.ensures.talk.2
+    (broken_told c.serve_lines-ended.result c.serve_lines-ended.new.handler.has_failed (sym c.run_end.ensures ∙ told))
 
 pub returns-clause-memory : goal.returns-clause-memory
-returns-clause-memory g c told = c.converse-ended.ensures.memory (memory_told c.converse-ended.result c.converse-ended.new.answerer.has_failed (sym c.run_end.ensures ∙ told))
+returns-clause-memory g c told = c.serve_lines-ended.ensures.memory (memory_told c.serve_lines-ended.result c.serve_lines-ended.new.handler.has_failed (sym c.run_end.ensures ∙ told))
 
 pub returns-clause-end : goal.returns-clause-end
 returns-clause-end g c =
-    rw c.run_end.ensures (ok_told c.converse-ended.result c.converse-ended.new.answerer.has_failed (IsAtEnd (g.R.Source.left c.converse-ended.new.reader)) (λ whole. c.converse-ended.ensures.end))
+    rw c.run_end.ensures (ok_told c.serve_lines-ended.result c.serve_lines-ended.new.handler.has_failed (IsAtEnd (g.R.Source.left c.serve_lines-ended.new.reader)) (λ whole. c.serve_lines-ended.ensures.end))
 
 pub returns-clause-ended : goal.returns-clause-ended
 returns-clause-ended g c =
-    rw c.run_end.ensures (ok_told c.converse-ended.result c.converse-ended.new.answerer.has_failed (g.R.Source.ended c.converse-ended.new.reader ≡ true) (λ whole. c.converse-ended.ensures.ended))
+    rw c.run_end.ensures (ok_told c.serve_lines-ended.result c.serve_lines-ended.new.handler.has_failed (g.R.Source.ended c.serve_lines-ended.new.reader ≡ true) (λ whole. c.serve_lines-ended.ensures.ended))
 
 pub returns-clause-ready : goal.returns-clause-ready
 returns-clause-ready g c whole =
     ready_after g.D.Device.seen g.D.Device.may_leave g.D.Device.moment g.D.Device.left_since g.D.Device.faults g.met.D.Device.only_now g.met.D.Device.counts_now
-    c.args.kept.now c.converse-ended.new.answerer c.converse-ended.ensures.talk.0 _ _ c.converse-ended.result c.requires.ready c.converse-ended.ensures.talk.2 c.converse-ended.ensures.none_rests whole
+    c.args.kept.now c.serve_lines-ended.new.handler c.serve_lines-ended.ensures.talk.0 _ _ c.serve_lines-ended.result c.requires.ready c.serve_lines-ended.ensures.talk.2 c.serve_lines-ended.ensures.none_rests whole
 
 pub returns-clause-any_moment : goal.returns-clause-any_moment
 returns-clause-any_moment g c =
     leaves_in g.D.Device.seen g.D.Device.may_leave g.D.Device.moment g.D.Device.left_since g.D.Device.faults g.met.D.Device.only_now g.met.D.Device.counts_now
-    c.args.kept.now c.converse-ended.new.answerer c.converse-ended.ensures.talk.0 _ _ c.converse-ended.result c.requires.ready c.converse-ended.ensures.talk.2
+    c.args.kept.now c.serve_lines-ended.new.handler c.serve_lines-ended.ensures.talk.0 _ _ c.serve_lines-ended.result c.requires.ready c.serve_lines-ended.ensures.talk.2
 
 pub returns-clause-begin : goal.returns-clause-begin
 returns-clause-begin g c =
     begin_in g.D.Device.seen g.D.Device.may_leave g.D.Device.moment g.D.Device.left_since g.D.Device.faults g.met.D.Device.only_now g.met.D.Device.counts_now
-    c.args.kept.now c.converse-ended.new.answerer c.converse-ended.ensures.talk.0 _ _ c.converse-ended.result c.requires.ready c.converse-ended.ensures.talk.2
+    c.args.kept.now c.serve_lines-ended.new.handler c.serve_lines-ended.ensures.talk.0 _ _ c.serve_lines-ended.result c.requires.ready c.serve_lines-ended.ensures.talk.2
 
 pub returns-clause-track : goal.returns-clause-track
 returns-clause-track g c =
     ap (λ (b : Beginning). b.track)
     (begin_in g.D.Device.seen g.D.Device.may_leave g.D.Device.moment g.D.Device.left_since g.D.Device.faults g.met.D.Device.only_now g.met.D.Device.counts_now
-    c.args.kept.now c.converse-ended.new.answerer c.converse-ended.ensures.talk.0 _ _ c.converse-ended.result c.requires.ready c.converse-ended.ensures.talk.2)
+    c.args.kept.now c.serve_lines-ended.new.handler c.serve_lines-ended.ensures.talk.0 _ _ c.serve_lines-ended.result c.requires.ready c.serve_lines-ended.ensures.talk.2)
 
 pub returns-clause-session : goal.returns-clause-session
 returns-clause-session g c = (
-  c.converse-ended.ensures.talk.0,
-  c.converse-ended.ensures.talk.1,
+  c.serve_lines-ended.ensures.talk.0,
+  c.serve_lines-ended.ensures.talk.1,
   rw c.run_end.ensures
       (kept_session g.D.Device.seen g.D.Device.may_leave g.D.Device.moment g.D.Device.left_since g.D.Device.faults g.met.D.Device.only_now g.met.D.Device.counts_now
-      c.args.kept.now c.converse-ended.new.answerer c.converse-ended.ensures.talk.0 _ _ c.converse-ended.result (g.W.Sink.failed c.converse-ended.new.writer) c.converse-ended.ensures.none_rests c.requires.ready c.converse-ended.ensures.talk.2 c.converse-ended.ensures.write),
+      c.args.kept.now c.serve_lines-ended.new.handler c.serve_lines-ended.ensures.talk.0 _ _ c.serve_lines-ended.result (g.W.Sink.failed c.serve_lines-ended.new.writer) c.serve_lines-ended.ensures.none_rests c.requires.ready c.serve_lines-ended.ensures.talk.2 c.serve_lines-ended.ensures.write),
 )
 
 pub returns-clause-answers : goal.returns-clause-answers
 returns-clause-answers g c =
     rw c.run_end.ensures
-    (ok_told c.converse-ended.result c.converse-ended.new.answerer.has_failed
-    (AnswersAll c.args.kept.now.history c.converse-ended.new.answerer.history (g.R.Source.left c.args.reader.now) (g.W.Sink.written c.args.writer.now) (g.W.Sink.written c.converse-ended.new.writer))
+    (ok_told c.serve_lines-ended.result c.serve_lines-ended.new.handler.has_failed
+    (AnswersAll c.args.kept.now.history c.serve_lines-ended.new.handler.history (g.R.Source.left c.args.reader.now) (g.W.Sink.written c.args.writer.now) (g.W.Sink.written c.serve_lines-ended.new.writer))
     (λ whole.
     kept_answers g.D.Device.seen g.D.Device.may_leave g.D.Device.moment g.D.Device.left_since g.D.Device.faults g.met.D.Device.only_now g.met.D.Device.counts_now
-    c.args.kept.now c.converse-ended.new.answerer c.converse-ended.ensures.talk.0 _ _ _ _ c.converse-ended.result c.known.ensures.form c.requires.ready c.converse-ended.ensures.none_rests c.converse-ended.ensures.end c.converse-ended.ensures.talk.1 c.converse-ended.ensures.talk.2 whole))
+    c.args.kept.now c.serve_lines-ended.new.handler c.serve_lines-ended.ensures.talk.0 _ _ _ _ c.serve_lines-ended.result c.known.ensures.form c.requires.ready c.serve_lines-ended.ensures.none_rests c.serve_lines-ended.ensures.end c.serve_lines-ended.ensures.talk.1 c.serve_lines-ended.ensures.talk.2 whole))
 
 pub returns-clause-handed_on : goal.returns-clause-handed_on
 returns-clause-handed_on g c =
-    rw c.run_end.ensures (handed_told c.converse-ended.result c.converse-ended.new.answerer.has_failed (g.W.Sink.failed c.converse-ended.new.writer) _ c.converse-ended.ensures.write c.converse-ended.ensures.handed_on)
+    rw c.run_end.ensures (handed_told c.serve_lines-ended.result c.serve_lines-ended.new.handler.has_failed (g.W.Sink.failed c.serve_lines-ended.new.writer) _ c.serve_lines-ended.ensures.write c.serve_lines-ended.ensures.handed_on)

@@ -6,13 +6,13 @@ pub returns-then-has_lost-clause-read : goal.returns-then-has_lost-clause-read
 returns-then-has_lost-clause-read g c = (
   λ e. absurd (memory_read e),
   λ fails. absurd
-      (no_read c.converse-ended.new.answerer.lost _ c.converse-ended.result c.converse-ended.ensures.write _ c.converse-ended.ensures.read (sym c.has_lost.ensures ∙ c.if-has_lost.true) fails),
+      (no_read c.serve_lines-ended.new.handler.lost _ c.serve_lines-ended.result c.serve_lines-ended.ensures.write _ c.serve_lines-ended.ensures.read (sym c.has_lost.ensures ∙ c.if-has_lost.true) fails),
 )
 
 pub returns-clause-write : goal.returns-clause-write
 returns-clause-write g c = λ e.
-    write_failed c.converse-ended.new.answerer.lost _ c.converse-ended.result c.converse-ended.ensures.write (sym c.has_lost.ensures ∙ c.if-has_lost.false) e
+    write_failed c.serve_lines-ended.new.handler.lost _ c.serve_lines-ended.result c.serve_lines-ended.ensures.write (sym c.has_lost.ensures ∙ c.if-has_lost.false) e
 
 pub returns-clause-going : goal.returns-clause-going
 returns-clause-going g c =
-    still_going c.converse-ended.new.answerer.lost _ c.converse-ended.result c.converse-ended.ensures.write (sym c.has_lost.ensures ∙ c.if-has_lost.false)
+    still_going c.serve_lines-ended.new.handler.lost _ c.serve_lines-ended.result c.serve_lines-ended.ensures.write (sym c.has_lost.ensures ∙ c.if-has_lost.false)

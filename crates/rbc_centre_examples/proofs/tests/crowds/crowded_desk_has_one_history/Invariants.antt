@@ -4,7 +4,7 @@ abbrev pub ghosts-crowd-L-DeskName : goal.ghosts-crowd-L-DeskName
 ghosts-crowd-L-DeskName _ a = record { opened = a.history }
 
 abbrev pub ghosts-crowd-L-HistoryName : goal.ghosts-crowd-L-HistoryName
-ghosts-crowd-L-HistoryName _ a = record { book = a.blank.journal }
+ghosts-crowd-L-HistoryName _ a = record { book = a.blank.book }
 
 abbrev pub ghosts-crowd-L-Ledger : goal.ghosts-crowd-L-Ledger
 ghosts-crowd-L-Ledger _ a = record { name = a.blank.ledger.name; parts = a.blank.ledger.parts }

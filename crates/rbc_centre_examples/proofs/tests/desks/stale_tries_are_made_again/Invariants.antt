@@ -4,7 +4,7 @@ abbrev pub ghosts-overtake-L-DeskName : goal.ghosts-overtake-L-DeskName
 ghosts-overtake-L-DeskName _ a = record { opened = a.history }
 
 abbrev pub ghosts-overtake-L-HistoryName : goal.ghosts-overtake-L-HistoryName
-ghosts-overtake-L-HistoryName _ a = record { book = a.blank.journal }
+ghosts-overtake-L-HistoryName _ a = record { book = a.blank.book }
 
 abbrev pub ghosts-overtake-L-Ledger : goal.ghosts-overtake-L-Ledger
 ghosts-overtake-L-Ledger _ a = record { name = a.blank.ledger.name; parts = a.blank.ledger.parts }

@@ -4,7 +4,7 @@ abbrev pub ghosts-leaves_meanwhile-L-DeskName : goal.ghosts-leaves_meanwhile-L-D
 ghosts-leaves_meanwhile-L-DeskName _ a = record { opened = a.history }
 
 abbrev pub ghosts-leaves_meanwhile-L-HistoryName : goal.ghosts-leaves_meanwhile-L-HistoryName
-ghosts-leaves_meanwhile-L-HistoryName _ a = record { book = a.blank.journal }
+ghosts-leaves_meanwhile-L-HistoryName _ a = record { book = a.blank.book }
 
 abbrev pub ghosts-leaves_meanwhile-L-Ledger : goal.ghosts-leaves_meanwhile-L-Ledger
 ghosts-leaves_meanwhile-L-Ledger _ a = record { name = a.blank.ledger.name; parts = a.blank.ledger.parts }

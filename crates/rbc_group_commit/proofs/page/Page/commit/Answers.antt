@@ -6,7 +6,7 @@ use Rattle.rbc_group_commit.proofs.page.Page.commit.Goals as goal
 pub invariant_of-self : goal.invariant_of-self
 invariant_of-self g c =
     let d = g.D.Device in
-    let tells = g.T.Told.tells c.self.inside.told in
+    let tells = g.T.ToldHistory.tells c.self.inside.told in
     let old = c.self.inside in
     let whole = c.self.invariant.0 c.if-self.false in (
       (λ lost. absurd (true≢false lost)),
@@ -17,7 +17,7 @@ invariant_of-self g c =
 pub invariant_of-self-2 : goal.invariant_of-self-2
 invariant_of-self-2 g c =
     let d = g.D.Device in
-    let tells = g.T.Told.tells c.self.inside.told in
+    let tells = g.T.ToldHistory.tells c.self.inside.told in
     let old = c.self.inside in
     let new = c.commit.new.self in
     let whole = c.self.invariant.0 c.if-self.false in

@@ -9,7 +9,7 @@ failed_whole e = cc
 pub invariant_of-self : goal.invariant_of-self
 invariant_of-self g c =
     let d = g.D.Device in
-    let t = g.T.Told in
+    let t = g.T.ToldHistory in
     let old = c.self.inside in (
       (λ whole. absurd (failed_whole whole)),
       last_told d.seen d.may_leave d.moment d.left_since (t.tells old.told) (t.tells c.hear.new.self) old.journal.device c.make_room.new.journal.device old.lines old.marks c.hear.ensures.same c.make_room.ensures.device c.self.invariant.1,
@@ -19,10 +19,10 @@ invariant_of-self g c =
 pub invariant_of-self-2 : goal.invariant_of-self-2
 invariant_of-self-2 g c =
     let d = g.D.Device in
-    let t = g.T.Told in
+    let t = g.T.ToldHistory in
     let old = c.self.inside in
     let journal = old.journal in
-    let new = c.stage.new.self in
+    let new = c.stage.new.journal in
     let place = c.line.inside.place in
     let text = c.line.inside.text.items in
     let at : place ≡ old.next = c.line.view_is ∙ c.requires.place ∙ sym (ap (λ p. p.next) c.self.view_is) in

@@ -3,7 +3,7 @@ use Rattle.std.proofs.lemmas.List.Elements.{All-nil}
 use Rattle.rbc_journal.specs.Device.{Only}
 use Rattle.rbc_journal.specs.Gates.{text, at_rest, behind, counted, staged_in}
 use Rattle.rbc_journal.specs.Beginnings.{beginning_of}
-use Rattle.rbc_journal.specs.Journal.{IsTold, recovered}
+use Rattle.rbc_journal.specs.Journal.{IsPutLine, recovered}
 use Rattle.rbc_journal.specs.Seals.{AreSealed}
 use Rattle.rbc_journal.proofs.OpenLemmas.{after_replace, is_at_rest, same_lines, same_told}
 use Rattle.rbc_journal.proofs.journal.Journal.open.Goals as goal
@@ -28,7 +28,7 @@ returns-clause-settled g c =
       gate = ap length w.is_text ∙ ap (λ (ls : List (List ℕ)). length (text ls)) (sym count);
       durable = subst (λ (f : List ℕ). Only f (d.may_leave c.replace.new.self)) (sym is) durable;
       waiting = subst (λ (l : List ℕ). l ≡ behind (staged_in l)) (sym none) refl;
-      told = subst (λ (l : List ℕ). All IsTold (staged_in l)) (sym none) (All-nil IsTold);
+      put = subst (λ (l : List ℕ). All IsPutLine (staged_in l)) (sym none) (All-nil IsPutLine);
       fits = search rules;
       seal_fits = λ some. absurd (omega (arith, some, ap length none));
     }

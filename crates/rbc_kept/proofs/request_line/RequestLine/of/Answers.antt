@@ -8,6 +8,8 @@ invariant_of-result c =
     let text = c.in_ok-bytes.bytes.items in (
       text_is_told said text c.requires c.in_ok-bytes.ensures,
       text_is_short said text c.requires c.in_ok-bytes.ensures,
+      c.in_ok-room.ensures.len,
+      c.in_ok-room.ensures.capacity,
     )
 
 pub returns : goal.returns

@@ -12,7 +12,7 @@ invariant_of-press g c =
     let sight = c.begin-head.ensures.sight in
     let itself = subst (λ (s : SeenOf). IsLater log s.history) (sym sight) (later_itself log c.right.ensures) in (
       ap (λ (s : SeenOf). s.book) shown,
-      c.begin-head.ensures.head ∙ ap head_of c.requires.journal,
-      ap (λ (s : SeenOf). s.book) sight ∙ c.requires.journal,
+      c.begin-head.ensures.head ∙ ap head_of c.requires.book,
+      ap (λ (s : SeenOf). s.book) sight ∙ c.requires.book,
       subst (λ (s : SeenOf). IsLater s.history c.begin-head.result.1.history) (sym shown) itself,
     )
