@@ -34,7 +34,8 @@ impl JournalPaths {
     /// The place at just this path.
     ///
     /// # Errors
-    /// As above.
+    ///
+    /// There is no memory for the paths.
     fn just_at(alloc: Global, path: &str) -> Result<JournalPaths, AllocError> {
         Ok(JournalPaths {
             path: with_end(alloc, path, "")?,

@@ -69,7 +69,8 @@ impl Follower {
     /// it does.
     ///
     /// # Errors
-    /// As above.
+    ///
+    /// `Memory`, before anything is written; or `Write`: then a part of it was written, from its start.
     fn show<W: Sink>(&mut self, told: &[u8], writer: &mut W) -> Result<bool, FollowFault>
         requires going { W.failed writer.old ≡ false }
         requires text { IsText self.old.shown.items }
