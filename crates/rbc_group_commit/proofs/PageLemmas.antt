@@ -1,5 +1,5 @@
 -- Lemmas on the journal that is written for many.
-use Rattle.std.proofs.Common.{◌≡◌, ℕ, ◌≤◌, ◌+◌, ⊎_elim, List, [], ◌∷◌, ◌++◌, length, refl, sym, ap, ◌∙◌, subst, arith, length-append, append-nil, append_assoc, Some}
+use Rattle.std.proofs.Common.{◌≡◌, ℕ, ◌≤◌, ◌+◌, ⊎_elim, List, [], ◌∷◌, ◌++◌, length, sym, ap, ◌∙◌, subst, arith, length-append, append-nil, append_assoc, Some}
 use Rattle.std.specs.Prelude.{slice_get}
 use Rattle.rbc_journal.specs.Device.{LeavesOnly}
 use Rattle.rbc_journal.specs.Journal.{recovered, IsBeforeOrAfter}
@@ -30,6 +30,16 @@ module _ {D : Type 0} (seen : D → List ℕ) (may_leave : D → List ℕ → Ty
         counts_staged = omega (arith, at, was.counts_staged, ap length more, length-append (staged old) (text ∷ []));
         told = subst (AreTold known) (sym is) (by_place known all text (λ k l here. learns k l (was.told k l here)) (subst (λ n. known n text) count here));
       }
+
+  -- there is more room, and all else stays
+  pub roomed : (tells : ℕ → List ℕ → Type 0) (old new : Journal D) (lines next : ℕ) → IsWhole seen may_leave tells old lines next
+      → IsSettled seen may_leave new → new.device ≡ old.device → staged new ≡ staged old → IsWhole seen may_leave tells new lines next
+  roomed tells old new lines next was settled same staged_same = record {
+    settled = settled;
+    count = was.count ∙ ap (λ (d : D). length (recovered (seen d))) (sym same);
+    counts_staged = omega (arith, was.counts_staged, ap length staged_same);
+    told = subst (AreTold tells) (ap (λ (d : D). recovered (seen d) ++ staged old) (sym same) ∙ ap (λ (l : List (List ℕ)). recovered (seen new.device) ++ l) (sym staged_same)) was.told;
+  }
 
   -- the staged lines are on the disk
   pub committed : (tells : ℕ → List ℕ → Type 0) (old new : Journal D) (lines next : ℕ) → IsWhole seen may_leave tells old lines next

@@ -1,5 +1,5 @@
 -- A journal that is written for many.
-use Rattle.std.specs.Prelude.{◌≡◌, ◌≤◌, ◌+◌, ◌++◌, ℕ, Bool, List, [], ◌∷◌, length, slice_get, Option, Some, None, false}
+use Rattle.std.specs.Prelude.{◌≡◌, ◌≤◌, ◌+◌, ◌++◌, ℕ, Bool, List, [], ◌∷◌, length, slice_get, Option, Some, None}
 use Rattle.rbc_journal.specs.Journal.{recovered}
 use Rattle.rbc_journal.specs.Settled.{IsSettled, staged}
 use Rattle.rbc_journal.specs.declared.journal.Journal.{Journal}
@@ -7,16 +7,18 @@ use Rattle.rbc_group_commit.specs.Told.{AreTold}
 use Rattle.rbc_group_commit.specs.Stamps.{Lasts}
 use Rattle.rbc_group_commit.specs.declared.stamp.Stamp.{Stamp}
 
--- the file, what was told of the history, how many lines are on the disk, how many with those that are staged, and whether the journal has failed
+-- The file, what was told of the history, how many lines are on the disk, how many with those that are staged, whether the journal has failed, and how many
+-- bytes there is room for in the put.
 pub record PageOf (D T : Type 0) : Type 0 where
   pub device : D
   pub told : T
   pub lines : ℕ
   pub next : ℕ
   pub has_failed : Bool
+  pub room : ℕ
 
-abbrev pub page_of : {D T : Type 0} → D → T → ℕ → ℕ → Bool → PageOf D T
-page_of device told lines next has_failed = record { device = device; told = told; lines = lines; next = next; has_failed = has_failed }
+abbrev pub page_of : {D T : Type 0} → D → T → ℕ → ℕ → Bool → ℕ → PageOf D T
+page_of device told lines next has_failed room = record { device = device; told = told; lines = lines; next = next; has_failed = has_failed; room = room }
 
 -- a line, and the note behind it, if there is one
 abbrev pub with_note : List ℕ → Option (List ℕ) → List (List ℕ)

@@ -1,38 +1,42 @@
-//! The right to lay lines.
+//! What a seat knows of the disk.
 
-ghost use Rattle.std.specs.Prelude.{◌≡◌, ◌<◌};
+ghost use Rattle.std.specs.Prelude.{◌≡◌, IsTrue};
 ghost use mathlib.Core.List.{IsPrefix};
-ghost use Rattle.rbc_group_commit.specs.Marks.{latest};
+ghost use Rattle.rbc_group_commit.specs.Marks.{latest, HasLine};
 
 use crate::CommitName;
 use crate::marks::Mark;
 use std::marker::Model;
 
-/// A seat's committer, with which it lays one line at a time. Contracts see the stamps that it was given, in order.
+/// A seat's committer, with which it waits for its lines. Contracts see the stamps that it was given, in order.
 #[derive(Drop)]
 pub struct Committer<N: CommitName> {
-    pub(crate) slot: usize,
     pub(crate) mark: Mark<N>,
 }
 
 impl<N: CommitName> Model for Committer<N> {
-    ghost use Rattle.std.specs.Prelude.{◌<◌, List};
+    ghost use Rattle.std.specs.Prelude.{List};
     ghost use Rattle.rbc_group_commit.specs.declared.stamp.Stamp.{Stamp};
 
     ghost Value = { List Stamp };
 
     ghost view = { λ p. p.mark };
-
-    ghost invariant = { λ p. p.slot < 72 };
 }
 
 impl<N: CommitName> Committer<N> {
-    /// The committer for a slot.
-    pub(crate) fn new(slot: usize, mark: Mark<N>) -> Committer<N>
-        requires { slot < 72 }
+    /// A committer that was given the stamps of a mark.
+    pub(crate) fn new(mark: Mark<N>) -> Committer<N>
         ensures { result ≡ mark }
     {
-        Committer { slot, mark }
+        Committer { mark }
+    }
+
+    /// Whether it was given a stamp that has the line of this place.
+    pub(crate) fn has(&self, place: u64) -> bool
+        ensures { IsTrue result → HasLine self.now place }
+    {
+        self.mark.known();
+        place < self.mark.lines()
     }
 
     /// Is given what the mark has too.

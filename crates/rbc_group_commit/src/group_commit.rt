@@ -1,16 +1,18 @@
 //! The group commit.
 
-ghost use Rattle.std.specs.Prelude.{◌≡◌, ◌<◌, ◌≤◌, ◌∷◌, [], length, replicate, None, vec_len, vec_capacity, IfOk, IfErr, OnOk, OnErr, IfSome};
+ghost use Rattle.std.specs.Prelude.{◌≡◌, ◌<◌, ◌≤◌, ◌∷◌, ℕ, [], length, replicate, vec_len, vec_capacity, IfOk, IfErr, OnOk, OnErr, IfSome};
 ghost use mathlib.Core.List.{IsPrefix};
 ghost use Rattle.rbc_journal.specs.Journal.{recovered};
 ghost use Rattle.rbc_journal.specs.Settled.{staged, IsSettled};
 ghost use Rattle.rbc_group_commit.specs.Marks.{latest, HasLine};
 ghost use Rattle.rbc_group_commit.specs.Stamps.{stamp_of};
 ghost use Rattle.rbc_group_commit.specs.Told.{AreTold};
+ghost use Rattle.rbc_group_commit.specs.Waiting.{Lacks};
 
 use crate::marks::Mark;
-use crate::waiting_lines::{MOST_COMMITTERS, WaitingLines};
-use crate::{BlankStamps, CommitName, Committer, EntryLine, LONGEST_NOTE, Page, ToldHistory};
+use crate::page::ROOM;
+use crate::waiting_lines::{MOST_WAITING, WaitingLines};
+use crate::{BlankStamps, CommitName, Committer, EntryLine, Page, ToldHistory};
 use rbc_journal::{Device, Journal, JournalFault};
 use std::alloc::{AllocError, Global};
 use std::sync::{Condvar, Mutex, MutexGuard, Wait};
@@ -29,9 +31,6 @@ pub struct GroupCommit<T: ToldHistory + Drop, D: Device, N: CommitName> {
     noted: Condvar,
 }
 
-/// How many bytes the lines of all committers and their notes have at most, each with its line feed and its gate.
-const ROOM: usize = MOST_COMMITTERS * (4_098 + LONGEST_NOTE + 2);
-
 /// What a group commit starts with: a journal that is settled, what was told of the history that its lines tell, and how many
 /// lines it has.
 pub struct Start<T: ToldHistory + Drop, D: Device> {
@@ -43,14 +42,16 @@ pub struct Start<T: ToldHistory + Drop, D: Device> {
     pub lines: u64,
 }
 
-/// A slot for each committer.
+/// This number of slots, in none of which a line lies.
 fn empty_slots<T: ToldHistory + Drop>(
     alloc: Global,
+    count: usize,
 ) -> Result<Vec<Option<EntryLine<T>>>, AllocError>
-    ensures { IfOk result (λ slots. slots.items ≡ replicate 72 None) }
+    ensures count { IfOk result (λ slots. vec_len slots ≡ count) }
+    ensures lacks { IfOk result (λ slots. (place : ℕ) → Lacks slots.items place) }
 {
-    let mut slots = Vec::with_capacity(alloc, MOST_COMMITTERS)?;
-    for _slot in 0..MOST_COMMITTERS {
+    let mut slots = Vec::with_capacity(alloc, count)?;
+    for _slot in 0..count {
         slots.push_reserved(None);
     }
     Ok(slots)
@@ -64,11 +65,10 @@ fn committers_with<N: CommitName>(
 ) -> Vec<Committer<N>>
     requires empty { vec_len committers ≡ 0 }
     requires room { count ≤ vec_capacity committers }
-    requires few { count ≤ 72 }
     ensures { result.items ≡ replicate count mark.now }
 {
-    for slot in 0..count {
-        committers.push_reserved(Committer::new(slot, mark.again()));
+    for _committer in 0..count {
+        committers.push_reserved(Committer::new(mark.again()));
     }
     committers
 }
@@ -104,8 +104,10 @@ impl<T: ToldHistory + Drop, D: Device, N: CommitName> GroupCommit<T, D, N> {
         if let Err(fault) = journal.reserve(ROOM) {
             return Err((fault, journal.into_device()));
         }
-        let (Ok(slots), Ok(room)) = (empty_slots(alloc), Vec::with_capacity(alloc, committers))
-        else {
+        let (Ok(slots), Ok(room)) = (
+            empty_slots(alloc, MOST_WAITING),
+            Vec::with_capacity(alloc, committers),
+        ) else {
             return Err((JournalFault::Memory, journal.into_device()));
         };
         let (page, mark) = Page::new(rt, journal, told, lines, blank);
@@ -113,7 +115,6 @@ impl<T: ToldHistory + Drop, D: Device, N: CommitName> GroupCommit<T, D, N> {
         let waiting = WaitingLines {
             slots,
             latest: mark,
-            is_due: false,
             is_writing: false,
             has_failed: false,
         };
@@ -125,91 +126,80 @@ impl<T: ToldHistory + Drop, D: Device, N: CommitName> GroupCommit<T, D, N> {
         Ok((group_commit, committers))
     }
 
-    /// Lays the line of an entry, and returns once it is on the disk. It waits until the lines of all entries before it are
-    /// laid, and for at most one write beside the one that has its line.
+    /// Lays the line of an entry, to be written with the next commit that reaches its place. It waits only while a line 4,608 places
+    /// before it waits. The seats that wait are not woken: the one that lays a line goes on to keep it, and writes it where no
+    /// other does. Where the journal has failed, the line is dropped.
+    pub fn lay<R: Wait>(&self, rt: &R, line: EntryLine<T>) {
+        let place = line.place();
+        let mut waiting = self.noted.wait_while(
+            rt,
+            self.waiting.lock(rt),
+            |waiting| waiting.lacks_room(place),
+        );
+        (*waiting).lay(line);
+    }
+
+    /// Returns once the line of this place is on the disk: at once, without a lock, where the committer was given a stamp that has
+    /// it. Else it waits until the lines of all entries up to it are laid, and for at most one write beside those that it has a
+    /// part in.
     ///
     /// # Errors
     ///
-    /// The journal has failed, now or before.
+    /// The journal has failed, now or before, and the line is not on the disk.
     #[tactic(auto, using(crate::proofs::MarkLemmas::has_line))]
     pub fn keep<R: Wait>(
         &self,
         rt: &R,
         committer: &mut Committer<N>,
-        line: EntryLine<T>,
+        place: u64,
     ) -> Result<(), NotKept>
-        ensures kept { OnOk result (HasLine committer.new line) }
+        ensures kept { OnOk result (HasLine committer.new place) }
         ensures stays { IsPrefix committer.old committer.new }
         ensures refused { OnErr result (committer.new ≡ committer.old) }
     {
-        let mark = self.follow(rt, committer.slot, line)?;
+        if committer.has(place) {
+            return Ok(());
+        }
+        let mark = self.follow(rt, place)?;
         mark.known();
         committer.note(mark);
         Ok(())
     }
 
-    /// Lays a line in its slot, and goes on until it is on the disk. A seat that is alone locks the waiting lines three times.
+    /// Goes on until the line of this place is on the disk. A seat that is alone locks the waiting lines twice.
     ///
     /// # Errors
     ///
     /// The journal has failed, now or before, and the line is not on the disk.
-    fn follow<R: Wait>(&self, rt: &R, slot: usize, line: EntryLine<T>) -> Result<Mark<N>, NotKept>
-        requires { slot < 72 }
-        ensures { IfOk result (λ mark. line < (latest mark).lines) }
+    fn follow<R: Wait>(&self, rt: &R, place: u64) -> Result<Mark<N>, NotKept>
+        ensures { IfOk result (λ mark. place < (latest mark).lines) }
     {
-        let place = line.place();
-        if let Some(mark) = self.lay(rt, slot, line)? {
-            return Ok(mark);
-        }
         for _ in rt.forever() {
-            if let Some(mark) = self.write(rt, place)? {
-                return Ok(mark);
-            }
-            if let Some(mark) = self.turn(rt, self.waiting.lock(rt), place)? {
+            if let Some(mark) = self.go_on(rt, place)? {
                 return Ok(mark);
             }
         }
         unreachable!()
     }
 
-    /// Lays a line in its slot, and waits, still under the lock, until there is something to do for its seat.
+    /// Waits until there is something to do for the seat whose line has this place, and writes, if that is it. Gives the stamp where it
+    /// has the line.
     ///
     /// # Errors
     ///
     /// The journal has failed, now or before, and the line is not on the disk.
-    fn lay<R: Wait>(
-        &self,
-        rt: &R,
-        slot: usize,
-        line: EntryLine<T>,
-    ) -> Result<Option<Mark<N>>, NotKept>
-        requires { slot < 72 }
-        ensures { IfOk result (λ turn. IfSome turn (λ mark. line < (latest mark).lines)) }
+    fn go_on<R: Wait>(&self, rt: &R, place: u64) -> Result<Option<Mark<N>>, NotKept>
+        ensures { IfOk result (λ found. IfSome found (λ mark. place < (latest mark).lines)) }
     {
-        let place = line.place();
-        let mut waiting = self.waiting.lock(rt);
-        (*waiting).lay(slot, line);
-        self.turn(rt, waiting, place)
-    }
-
-    /// Waits until there is something to do for the seat whose line has this place: the stamp that has the line, or None where the
-    /// seat is to write.
-    ///
-    /// # Errors
-    ///
-    /// The journal has failed, now or before, and the line is not on the disk.
-    fn turn<R: Wait>(
-        &self,
-        rt: &R,
-        waiting: MutexGuard<'_, WaitingLines<T, N>>,
-        place: u64,
-    ) -> Result<Option<Mark<N>>, NotKept>
-        ensures { IfOk result (λ turn. IfSome turn (λ mark. place < (latest mark).lines)) }
-    {
-        let mut waiting = self
-            .noted
-            .wait_while(rt, waiting, |waiting| waiting.must_wait(place));
-        (*waiting).turn(place)
+        let mut waiting = self.noted.wait_while(
+            rt,
+            self.waiting.lock(rt),
+            |waiting| waiting.must_wait(place),
+        );
+        if let Some(mark) = (*waiting).turn(place)? {
+            return Ok(Some(mark));
+        }
+        self.write(rt, waiting, place)
     }
 
     /// Writes the lines that wait, tells all that sleep, and gives the stamp where it has the line of this place.
@@ -217,19 +207,30 @@ impl<T: ToldHistory + Drop, D: Device, N: CommitName> GroupCommit<T, D, N> {
     /// # Errors
     ///
     /// The journal has failed, now or before, and the line is not on the disk.
-    fn write<R: Wait>(&self, rt: &R, place: u64) -> Result<Option<Mark<N>>, NotKept>
+    fn write<R: Wait>(
+        &self,
+        rt: &R,
+        waiting: MutexGuard<'_, WaitingLines<T, N>>,
+        place: u64,
+    ) -> Result<Option<Mark<N>>, NotKept>
         ensures { IfOk result (λ found. IfSome found (λ mark. place < (latest mark).lines)) }
     {
-        let mark = self.write_page(rt);
+        let mark = self.write_page(rt, waiting);
         let found = self.waiting.lock(rt).note(mark, place);
         self.noted.notify_all();
         found
     }
 
-    /// Writes the lines that wait. The page is free again before anyone is told; until then no other seat writes.
-    fn write_page<R: Wait>(&self, rt: &R) -> Option<Mark<N>> {
+    /// Writes the lines that wait, while others are laid. The page is locked under the waiting lines, never the other way round; it is
+    /// free again before anyone is told, and until then no other seat writes.
+    fn write_page<R: Wait>(
+        &self,
+        rt: &R,
+        mut waiting: MutexGuard<'_, WaitingLines<T, N>>,
+    ) -> Option<Mark<N>> {
         let mut page = self.page.lock(rt);
-        self.waiting.lock(rt).hand_over(rt, &mut *page);
+        (*waiting).hand_over(rt, &mut *page);
+        MutexGuard::unlock(waiting);
         (*page).commit(rt)
     }
 

@@ -1,11 +1,12 @@
-//! Four seats that write to one journal, each in a thread of its own, over a file that may fail.
+//! Seats that write to one journal, over a file that may fail: four of them, each in a thread of its own, and one that brings
+//! many lines.
 
-ghost use Rattle.std.specs.Prelude.{◌≡◌, ◌<◌, [], length, OnOk};
+ghost use Rattle.std.specs.Prelude.{◌≡◌, ◌<◌, ◌≤◌, ◌+◌, ◌^◌, [], length, IfSome, OnOk};
 ghost use Rattle.std.specs.Thread.{IsSend, IsSync};
 ghost use Rattle.rbc_journal.specs.Journal.{recovered};
 ghost use Rattle.rbc_journal.specs.Settled.{IsSettled, staged};
 
-use super::journals::{Noted, image_of, lines_in, new_journal, opened};
+use super::journals::{Call, Noted, image_of, lines_in, new_journal, opened};
 use rbc_group_commit::{
     BlankStamps, CommitName, Committer, EntryLine, GroupCommit, Start, ToldHistory,
 };
@@ -38,6 +39,38 @@ fn line_at(alloc: Global, place: u64) -> Result<Vec<u8>, AllocError> {
     digits.to_vec(alloc)
 }
 
+/// The line of the entry at a place: its number, filled up to this number of bytes. None where it is no line, or there is no memory.
+fn entry_at(alloc: Global, place: u64, bytes: usize) -> Option<EntryLine<Anything>>
+    requires { place + 1 < 2 ^ 64 }
+    ensures { IfSome result (λ line. line ≡ place) }
+{
+    let mut text = line_at(alloc, place).ok()?;
+    for _ in text.len()..bytes {
+        text.push(b'x').ok()?;
+    }
+    if !is_told(text.as_slice()) || text.len() > 4_096 {
+        return None;
+    }
+    Some(EntryLine::new(Anything, place, text, None))
+}
+
+/// Lays the line at a place, of this number of bytes.
+fn lay_at<N: CommitName, R: Wait>(
+    rt: &R,
+    alloc: Global,
+    group_commit: &GroupCommit<Anything, Recorded<Noted>, N>,
+    place: u64,
+    bytes: usize,
+) -> Result<(), Fail>
+    requires { place + 1 < 2 ^ 64 }
+{
+    let Some(line) = entry_at(alloc, place, bytes) else {
+        return Err("it is a line".into());
+    };
+    group_commit.lay(rt, line);
+    Ok(())
+}
+
 /// Keeps the lines at every fourth place from this one on, up to the first that is not kept. Tells how many were.
 fn keep_some<D: Device, N: CommitName, R: Wait>(
     rt: &R,
@@ -50,20 +83,11 @@ fn keep_some<D: Device, N: CommitName, R: Wait>(
 {
     for turn in 0..LINES {
         let place = 4 * turn + first;
-        let Ok(text) = line_at(alloc, place) else {
+        let Some(line) = entry_at(alloc, place, 2) else {
             return turn;
         };
-        if !is_told(text.as_slice()) || text.len() > 4_096 {
-            return turn;
-        }
-        if group_commit
-            .keep(
-                rt,
-                &mut committer,
-                EntryLine::new(Anything, place, text, None),
-            )
-            .is_err()
-        {
+        group_commit.lay(rt, line);
+        if group_commit.keep(rt, &mut committer, place).is_err() {
             return turn;
         }
     }
@@ -92,14 +116,24 @@ fn keep_two<D: Device + Send, N: CommitName + Send + Sync, R: Threads + Wait + S
     )
 }
 
-/// Four seats keep their lines, over a file that fails at the call of a number. How many each kept, and the file's lines.
-fn kept_by_four<N: CommitName + Send + Sync, R: Threads + Wait + Sync>(
+/// A new journal that seats write to.
+#[derive(Drop)]
+struct Bench<N: CommitName> {
+    file: Vec<u8>,
+    group_commit: GroupCommit<Anything, Recorded<Noted>, N>,
+    committers: Vec<Committer<N>>,
+}
+
+/// A new journal over a file that fails at the call of a number, with this number of committers.
+fn new_bench<N: CommitName, R: Wait>(
     rt: &R,
     alloc: Global,
     fails_at: usize,
+    count: usize,
     blank: BlankStamps,
-) -> Result<([u64; 4], Vec<u8>), Fail>
-    requires { blank ≡ N.book }
+) -> Result<Bench<N>, Fail>
+    requires book { blank ≡ N.book }
+    requires few { count ≤ 72 }
 {
     let noted = Noted {
         alloc,
@@ -116,10 +150,31 @@ fn kept_by_four<N: CommitName + Send + Sync, R: Threads + Wait + Sync>(
         told: Anything,
         lines: 0,
     };
-    let opened = GroupCommit::<Anything, Recorded<Noted>, N>::open(rt, alloc, start, 4, blank);
-    let Ok((group_commit, mut committers)) = opened else {
+    let opened = GroupCommit::<Anything, Recorded<Noted>, N>::open(rt, alloc, start, count, blank);
+    let Ok((group_commit, committers)) = opened else {
         return Err("there is room".into());
     };
+    Ok(Bench {
+        file,
+        group_commit,
+        committers,
+    })
+}
+
+/// Four seats keep their lines, over a file that fails at the call of a number. How many each kept, and the file's lines.
+fn kept_by_four<N: CommitName + Send + Sync, R: Threads + Wait + Sync>(
+    rt: &R,
+    alloc: Global,
+    fails_at: usize,
+    blank: BlankStamps,
+) -> Result<([u64; 4], Vec<u8>), Fail>
+    requires { blank ≡ N.book }
+{
+    let Bench {
+        file,
+        group_commit,
+        mut committers,
+    } = new_bench::<N, R>(rt, alloc, fails_at, 4, blank)?;
     let (Some(d), Some(c), Some(b), Some(a)) = (
         committers.pop(),
         committers.pop(),
@@ -172,5 +227,112 @@ fn lines_are_kept_at_their_places(rt: HostRuntime) -> Result<(), Fail> {
             seat = seat.saturating_add(1);
         }
     }
+    Ok(())
+}
+
+/// One seat lays the lines of so many places, the last one first, and then keeps each. How many it kept, what was asked of the
+/// file, and the file's lines.
+fn kept_by_one<N: CommitName, R: Wait>(
+    rt: &R,
+    alloc: Global,
+    count: u64,
+    bytes: usize,
+    blank: BlankStamps,
+) -> Result<(u64, Vec<Call>, Vec<u8>), Fail>
+    requires { blank ≡ N.book }
+{
+    let Bench {
+        file,
+        group_commit,
+        mut committers,
+    } = new_bench::<N, R>(rt, alloc, usize::MAX, 1, blank)?;
+    let Some(mut committer) = committers.pop() else {
+        return Err("there is a committer".into());
+    };
+    for turn in 0..count {
+        lay_at(rt, alloc, &group_commit, count - 1 - turn, bytes)?;
+    }
+    let mut kept = 0u64;
+    for place in 0..count {
+        if group_commit.keep(rt, &mut committer, place).is_ok() {
+            kept = kept.saturating_add(1);
+        }
+    }
+    let (device, _told) = group_commit.close().into_parts();
+    let calls = device.into_calls().calls;
+    let image = image_of(alloc, file.as_slice(), calls.as_slice())?;
+    Ok((kept, calls, lines_in(alloc, image.as_slice())?))
+}
+
+// A batch of 64 lines goes in one put, in whatever order they were laid: two writes, each with its sync, behind the opening's call.
+#[test]
+fn a_batch_is_one_put(rt: HostRuntime) -> Result<(), Fail> {
+    let alloc: Global = rt.alloc();
+    let mut all = Vec::new(alloc);
+    for place in 0..64u64 {
+        all.extend_from_slice(line_at(alloc, place)?.as_slice())?;
+        all.push(b'\n')?;
+    }
+    let (kept, calls, lines) = kept_by_one::<Brand, _>(&rt, alloc, 64, 2, BlankStamps::new())?;
+    assert_eq!(rt; kept, 64);
+    assert_eq!(rt; calls.len(), 5);
+    assert!(rt; lines == all);
+    Ok(())
+}
+
+// A put has room for 73 of the longest lines that have no note. One more goes in a put behind it.
+#[test]
+fn what_there_is_no_room_for_goes_in_the_next_put(rt: HostRuntime) -> Result<(), Fail> {
+    let alloc: Global = rt.alloc();
+    for (count, asked) in [(73u64, 5usize), (74, 9)] {
+        let (kept, calls, lines) = kept_by_one::<Brand, _>(
+            &rt,
+            alloc,
+            count,
+            4_096,
+            BlankStamps::new(),
+        )?;
+        assert_eq!(rt; kept, count);
+        assert_eq!(rt; calls.len(), asked);
+        assert_eq!(rt; lines.len() as u64, count.saturating_mul(4_097));
+    }
+    Ok(())
+}
+
+/// A seat's line is not kept, since the file fails. Then it lays lines, one of them where a line lies already.
+fn laid_in_vain<N: CommitName, R: Wait>(
+    rt: &R,
+    alloc: Global,
+    blank: BlankStamps,
+) -> Result<(bool, Vec<Call>), Fail>
+    requires { blank ≡ N.book }
+{
+    let Bench {
+        group_commit,
+        mut committers,
+        ..
+    } = new_bench::<N, R>(rt, alloc, 1, 1, blank)?;
+    let Some(mut committer) = committers.pop() else {
+        return Err("there is a committer".into());
+    };
+    let mut is_kept = false;
+    for place in [5u64, 0] {
+        lay_at(rt, alloc, &group_commit, place, 2)?;
+    }
+    is_kept = is_kept || group_commit.keep(rt, &mut committer, 0).is_ok();
+    for place in [5u64, 1] {
+        lay_at(rt, alloc, &group_commit, place, 2)?;
+        is_kept = is_kept || group_commit.keep(rt, &mut committer, place).is_ok();
+    }
+    let (device, _told) = group_commit.close().into_parts();
+    Ok((is_kept, device.into_calls().calls))
+}
+
+// Where the journal has failed, no line waits, none is kept, and the file is asked for nothing more.
+#[test]
+fn a_line_is_laid_in_vain_behind_a_failure(rt: HostRuntime) -> Result<(), Fail> {
+    let (is_kept, calls) = laid_in_vain::<Brand, _>(&rt, rt.alloc(), BlankStamps::new())?;
+    assert!(rt; !is_kept);
+    assert_eq!(rt; calls.len(), 1);
     Ok(())
 }

@@ -1,7 +1,10 @@
-use Rattle.std.proofs.Common.{arith, subst, sym, true≢false}
+use Rattle.std.proofs.Common.{◌≡◌, true, false, arith, subst, sym, true≢false}
 use Rattle.rbc_group_commit.specs.Pages.{AllLast}
 use Rattle.rbc_group_commit.proofs.PageLemmas.{committed, last_on, stamped}
 use Rattle.rbc_group_commit.proofs.page.Page.commit.Goals as goal
+
+failed_whole : {A : Type 0} → true ≡ false → A
+failed_whole e = absurd (true≢false e)
 
 pub invariant_of-self : goal.invariant_of-self
 invariant_of-self g c =
@@ -9,9 +12,10 @@ invariant_of-self g c =
     let tells = g.T.ToldHistory.tells c.self.inside.told in
     let old = c.self.inside in
     let whole = c.self.invariant.0 c.if-self.false in (
-      (λ lost. absurd (true≢false lost)),
+      failed_whole,
       last_on d.seen d.may_leave d.moment d.left_since tells old.journal c.commit.new.self.device old.lines old.next old.marks old.lines whole (omega arith) c.commit.ensures.any_moment c.self.invariant.1,
       c.self.invariant.2,
+      failed_whole,
     )
 
 pub invariant_of-self-2 : goal.invariant_of-self-2
@@ -28,4 +32,5 @@ invariant_of-self-2 g c =
       (λ _. is),
       subst (λ stamps. AllLast d.moment d.left_since tells new.device old.next stamps) (sym c.stamp.ensures.stamps) after,
       omega arith,
+      (λ _ none. absurd (omega (arith, none))),
     )
