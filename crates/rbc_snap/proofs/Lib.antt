@@ -1,3 +1,4 @@
 pub mod LaterLemmas
+mod EventLemmas
 mod MomentLemmas
 mod StepLemmas

@@ -62,3 +62,13 @@ compared v w xs ys zs is_v is_w m n p q =
     let low : v < w = grind (arith, nat_tests) in
     (omega (arith, low, is_v, is_w), later_of_two xs ys zs m n p q (omega (arith, low, is_v, is_w))))
     (λ not_less. let few : w ≤ v = grind (arith, nat_tests) in later_of_two ys xs zs n m q p (omega (arith, few, is_v, is_w)))
+
+-- of two moments of one book one goes on from the other
+pub beside : (xs ys zs : List HistoryOnTrack) → AreMoments xs → AreMoments ys → IsPrefix xs zs → IsPrefix ys zs
+    → IsLater (latest xs) (latest ys) ⊎ IsLater (latest ys) (latest xs)
+beside xs ys zs m n p q = by_length (grind arith)
+  where
+    by_length : (length (latest xs).entries ≤ length (latest ys).entries) ⊎ (length (latest ys).entries ≤ length (latest xs).entries)
+        → IsLater (latest xs) (latest ys) ⊎ IsLater (latest ys) (latest xs)
+    by_length (inl le) = inl (later_of_two xs ys zs m n p q le)
+    by_length (inr le) = inr (later_of_two ys xs zs n m q p le)

@@ -3,6 +3,7 @@ pub mod Sights
 pub mod Knowing
 pub mod Ends
 pub mod Looks
+pub mod Events
 pub use Rattle.rbc_record.specs.BookEntries
 pub use Rattle.rbc_record.specs.Candidates
 pub use Rattle.rbc_record.specs.Entering

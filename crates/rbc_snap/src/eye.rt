@@ -1,20 +1,22 @@
 //! A reader's end, which stands in a seat.
 
-ghost use Rattle.std.specs.Prelude.{◌≡◌, ◌≤◌, length, Ok, IfErr, IfOk};
+ghost use Rattle.std.specs.Prelude.{◌≡◌, ◌≤◌, length, Some, Ok, IfErr, IfOk, IfSome};
 ghost use Rattle.std.specs.Arc.{arc_value};
 ghost use Rattle.left_right.specs.Sides.{view as known_to};
 ghost use Rattle.rbc_record.specs.Records.{IsRight};
 ghost use Rattle.rbc_snap.specs.Ends.{watching};
+ghost use Rattle.rbc_snap.specs.Events.{event_at};
 ghost use Rattle.rbc_snap.specs.Knowing.{knower, knower_of};
 ghost use Rattle.rbc_snap.specs.Later.{IsLater, scene_of};
 ghost use Rattle.rbc_snap.specs.Looks.{IsOfVersion, IsSeenIn, IsUnshared};
 ghost use Rattle.rbc_snap.specs.Sights.{seen_of};
 
+use crate::events::{Events, event_at};
 use crate::rule::{Known, OneHistory, Sees};
 use crate::{Behind, EyeFault, HistoryName, Published, Sight};
 use core::mem::replace_with;
 use left_right::reader::{Reader, Reading};
-use rbc_model::{OrMemory, TrainId};
+use rbc_model::{Event, OrMemory, TrainId};
 use rbc_record::{Scene, View, view};
 use std::alloc::Global;
 use std::marker::{Model, PhantomData};
@@ -36,6 +38,7 @@ type Shown = Result<(Arc<Scene>, u64), OrMemory<Behind>>;
 pub struct Eye<J: HistoryName> {
     reader: End,
     told: Sight,
+    events: Arc<Events<J>>,
     of: PhantomData<J>,
 }
 
@@ -181,8 +184,8 @@ fn enter_and_share<J: HistoryName, R: Wait>(
 }
 
 impl<J: HistoryName> Eye<J> {
-    /// An eye over a reader, whose seat was told this.
-    pub(crate) fn over(reader: End, told: Sight) -> Eye<J>
+    /// An eye over a reader and over these events, whose seat was told this.
+    pub(crate) fn over(reader: End, told: Sight, events: Arc<Events<J>>) -> Eye<J>
         requires knows { known_to reader.place ≡ knower J.book (known_to reader.place).entries }
         requires told { told.book ≡ J.book }
         ensures { result ≡ watching told.history (known_to reader.place).entries }
@@ -190,6 +193,7 @@ impl<J: HistoryName> Eye<J> {
         Eye {
             reader,
             told,
+            events,
             of: PhantomData,
         }
     }
@@ -248,6 +252,14 @@ impl<J: HistoryName> Eye<J> {
         let Answered { answer, told: then } = shown;
         *told = then;
         answer
+    }
+
+    /// The event at a place of the history that its seat was told. None from that history's end on, and where the press has
+    /// not put it there.
+    pub fn event(&self, place: u64) -> Option<Event>
+        ensures event { IfSome result (λ event. event_at self.now.told place ≡ Some event) }
+    {
+        event_at(&self.events, &self.told, place)
     }
 
     /// Takes in what the press told.

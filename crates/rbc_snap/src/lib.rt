@@ -2,6 +2,7 @@
 //! What is seen goes on from all that was told before.
 #![tactic(auto)]
 
+mod events;
 mod eye;
 mod faults;
 mod law;
@@ -19,7 +20,7 @@ pub use moments::NewHistory;
 pub use name::HistoryName;
 pub use press::Press;
 pub use published::{Issue, Published};
-pub use rbc_model::{Memory, OrMemory, ViewFault};
+pub use rbc_model::{Event, Memory, OrMemory, ViewFault};
 pub use rbc_record::{
     ApplyFault, Candidate, CommitFault, Entry, EntryLimit, Grant, Receipt, Record, Scene, Train,
     View, candidate,

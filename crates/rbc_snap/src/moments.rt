@@ -17,11 +17,13 @@ pub(crate) type Head = Word<Record, u64, Law>;
 /// Moments that were seen. It has no bytes.
 pub(crate) type Glimpse = Seen<Record, u64, Law>;
 
-/// A history that has no moment yet. Contracts see which it is. It takes no memory.
+/// A history that has no moment yet, and whether its events are put where eyes read them. Contracts see which history it is.
+/// It takes no memory.
 #[derive(Drop)]
 pub struct NewHistory {
     head: Head,
     seen: Glimpse,
+    has_events: bool,
 }
 
 impl Model for NewHistory {
@@ -64,13 +66,28 @@ pub(crate) fn add(head: &Head, seen: &Glimpse, count: u64, log: &Record) -> Opti
 }
 
 impl NewHistory {
-    /// A history with no moment.
+    /// A history with no moment, whose events no eye reads.
     pub fn new() -> NewHistory {
+        NewHistory::of(false)
+    }
+
+    /// A history with no moment, whose events eyes read: each takes 64 bytes.
+    pub fn with_events() -> NewHistory {
+        NewHistory::of(true)
+    }
+
+    fn of(has_events: bool) -> NewHistory {
         let (seen, mut first, _second) = Seen::open(Start::alone(), 0, 0);
         NewHistory {
             head: Word::tracked(0, &mut first),
             seen,
+            has_events,
         }
+    }
+
+    /// Whether its events are put where eyes read them.
+    pub(crate) fn has_events(&self) -> bool {
+        self.has_events
     }
 
     /// The history, with the record as its first moment.
@@ -78,7 +95,7 @@ impl NewHistory {
         ensures head { result.0 ≡ head_of self }
         ensures sight { result.1 ≡ seen_of self log.now }
     {
-        let NewHistory { head, seen } = self;
+        let NewHistory { head, seen, .. } = self;
         // No one else adds moments, so the first try succeeds.
         for _ in rt.forever() {
             if let Some(first) = add(&head, &seen, 0, log) {

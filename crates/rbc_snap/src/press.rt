@@ -4,10 +4,11 @@ ghost use Rattle.std.specs.Prelude.{◌≡◌, ◌≤◌, ◌<◌, ◌^◌, drop
 ghost use Rattle.left_right.specs.Sides.{view as known_to};
 ghost use Rattle.rbc_logbook_laws.specs.Counts.{head_of};
 ghost use Rattle.rbc_snap.specs.Ends.{pressed, put, watching};
-ghost use Rattle.rbc_snap.specs.Knowing.{knower_of};
+ghost use Rattle.rbc_snap.specs.Knowing.{knower, knower_of};
 ghost use Rattle.rbc_snap.specs.Later.{IsLater};
 ghost use Rattle.rbc_snap.specs.Sights.{seen_of};
 
+use crate::events::{Events, add_if, no_events};
 use crate::eye::End;
 use crate::moments::Head;
 use crate::rule::{Known, Names, OneHistory, Sees};
@@ -28,6 +29,8 @@ pub struct Press<J: HistoryName> {
     writer: Ends,
     head: Head,
     sight: Sight,
+    events: Arc<Events<J>>,
+    has_events: bool,
     of: PhantomData<J>,
 }
 
@@ -99,6 +102,22 @@ fn reader(writer: &mut Ends) -> Result<End, Memory>
     Ok(reader)
 }
 
+/// An eye that knows what the writer knows, and whose seat was told this.
+fn eye<J: HistoryName>(
+    writer: &mut Ends,
+    sight: &Sight,
+    events: &Arc<Events<J>>,
+) -> Result<Eye<J>, Memory>
+    requires knows { known_to writer.old.desk.place ≡ knower J.book (known_to writer.old.desk.place).entries }
+    requires book { sight.now.book ≡ J.book }
+    ensures knows { known_to writer.new.desk.place ≡ known_to writer.old.desk.place }
+    ensures shown { writer.new.desk.shown.value ≡ writer.old.desk.shown.value }
+    ensures eye { IfOk result (λ eye. eye ≡ watching sight.now.history (known_to writer.old.desk.place).entries) }
+{
+    let events = Arc::try_clone(events)?;
+    Ok(Eye::over(reader(writer)?, sight.again(), events))
+}
+
 /// Goes on to the record. Only the press adds moments, so the first try succeeds.
 fn advance<R: Wait>(rt: &R, head: &Head, sight: &mut Sight, log: &Record)
     requires head { head.now ≡ head_of sight.old.book }
@@ -147,7 +166,7 @@ impl<J: HistoryName> Press<J> {
     ///
     /// # Errors
     ///
-    /// [`Memory`], where the allocator refuses room for the scenes, or for the readers.
+    /// [`Memory`], where the allocator refuses room for the scenes, for the events of the record, or for the readers.
     pub fn new<R: Wait>(
         rt: &R,
         alloc: Global,
@@ -160,8 +179,11 @@ impl<J: HistoryName> Press<J> {
         ensures press { IfOk result (λ made. made.0 ≡ pressed log.now log.now) }
         ensures eyes { IfOk result (λ made. made.1.items ≡ replicate readers (watching log.now (length log.now.entries))) }
     {
+        let has_events = book.has_events();
         let (head, sight) = book.begin(rt, log);
         log.right();
+        let events = no_events(alloc)?;
+        add_if(rt, has_events, &events, &sight, log)?;
         let mut eyes = Vec::with_capacity(alloc, readers)?;
         let (first, second) = copies(alloc, &sight, log)?;
         let (mut writer, is_shown) = turn(rt, Writer::new(alloc, first, second, readers)?);
@@ -170,8 +192,8 @@ impl<J: HistoryName> Press<J> {
             return Err(Memory);
         }
         for _reader in 0..readers {
-            match reader(&mut writer) {
-                Ok(reader) => eyes.push_reserved(Eye::over(reader, sight.again())),
+            match eye(&mut writer, &sight, &events) {
+                Ok(eye) => eyes.push_reserved(eye),
                 Err(fault) => {
                     let _ = writer.take(rt);
                     return Err(fault);
@@ -182,6 +204,8 @@ impl<J: HistoryName> Press<J> {
             writer,
             head,
             sight,
+            events,
+            has_events,
             of: PhantomData,
         };
         Ok((press, eyes))
@@ -206,12 +230,13 @@ impl<J: HistoryName> Press<J> {
         advance(rt, &self.head, &mut self.sight, log);
     }
 
-    /// Publishes the scene of the record whose history the press tells, unless readers see it.
+    /// Puts the events of the record's new entries behind those that eyes read, if they do, and publishes its scene, unless readers see it.
+    /// The press tells the history of the record.
     ///
     /// # Errors
     ///
-    /// [`Memory`], where the allocator refuses room for the scene, or for what is published. Readers see what they saw, up to
-    /// the next call.
+    /// [`Memory`], where the allocator refuses room for the events, for the scene, or for what is published. Readers see what they
+    /// saw, up to the next call, which adds what is left of the events.
     pub fn show<R: Wait>(&mut self, rt: &R, alloc: Global, log: &Record) -> Result<(), Memory>
         requires { self.old.told ≡ log.now }
         ensures told { self.new.told ≡ self.old.told }
@@ -220,7 +245,14 @@ impl<J: HistoryName> Press<J> {
         if !self.is_behind() {
             return Ok(());
         }
-        let Press { writer, sight, .. } = self;
+        let Press {
+            writer,
+            sight,
+            events,
+            has_events,
+            ..
+        } = self;
+        add_if(rt, *has_events, events, sight, log)?;
         let issue = issue(alloc, sight, log)?;
         show(rt, writer, issue)
     }
@@ -255,6 +287,8 @@ impl<J: HistoryName> Press<J> {
             writer,
             head: _,
             sight: _,
+            events: _,
+            has_events: _,
             of: _,
         } = self;
         let _ = writer.take(rt);

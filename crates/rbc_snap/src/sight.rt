@@ -1,10 +1,10 @@
 //! What was seen of a history.
 
-ghost use Rattle.std.specs.Prelude.{◌≡◌, ◌<◌, ◌∷◌, [], length, MatchBool};
+ghost use Rattle.std.specs.Prelude.{◌≡◌, ◌<◌, ◌∷◌, ◌⊎◌, [], length, MatchBool};
 ghost use Rattle.rbc_record.specs.Records.{IsRight};
 ghost use Rattle.rbc_logbook_laws.specs.Counts.{head_of};
 ghost use Rattle.rbc_snap.specs.Later.{IsLater};
-ghost use Rattle.rbc_snap.specs.Sights.{seen_of};
+ghost use Rattle.rbc_snap.specs.Sights.{seen_of, latest, AreMoments};
 
 use crate::moments::{Glimpse, Head, add};
 use rbc_record::Record;
@@ -79,6 +79,24 @@ impl Sight {
         let mut both = self.seen.again();
         both.learn(&other.seen);
         self.version < other.version
+    }
+
+    /// The moments up to this one.
+    pub(crate) fn glimpse(&self) -> Glimpse
+        ensures moments { AreMoments result.log }
+        ensures seen { seen_of result.book (latest result.log) ≡ self.now }
+    {
+        self.seen.again()
+    }
+
+    /// Of this moment and the last of those one goes on from the other. This does nothing.
+    pub(crate) fn is_beside(&self, seen: &Glimpse)
+        requires book { seen.now.book ≡ self.now.book }
+        requires moments { AreMoments seen.now.log }
+        ensures { IsLater self.now.history (latest seen.now.log) ⊎ IsLater (latest seen.now.log) self.now.history }
+    {
+        let mut both = self.seen.again();
+        both.learn(seen);
     }
 
     /// Goes on to the record, as the next moment. False where there are other moments.

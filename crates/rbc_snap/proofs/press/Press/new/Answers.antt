@@ -1,5 +1,6 @@
-use Rattle.std.proofs.Common.{ap, sym, subst, ◌∙◌}
+use Rattle.std.proofs.Common.{◌≡◌, length, replicate, ap, sym, subst, arith, ◌∙◌}
 use Rattle.rbc_logbook_laws.specs.Counts.{head_of}
+use Rattle.rbc_snap.specs.Ends.{watching}
 use Rattle.rbc_snap.specs.Later.{IsLater}
 use Rattle.rbc_snap.specs.Sights.{SeenOf}
 use Rattle.rbc_snap.proofs.LaterLemmas.{later_itself}
@@ -16,3 +17,9 @@ invariant_of-press g c =
       ap (λ (s : SeenOf). s.book) sight ∙ c.requires.book,
       subst (λ (s : SeenOf). IsLater s.history c.begin-head.result.1.history) (sym shown) itself,
     )
+
+pub returns-clause-eyes : goal.returns-clause-eyes
+returns-clause-eyes g c =
+    let log = c.args.log.now in
+    let all : c.loop-reader._reader ≡ c.args.readers = omega (arith, c.loop-reader.auto._reader-end, c.loop-reader-test.false) in
+    c.loop-reader.invariant.3 ∙ ap (λ count. replicate count (watching log (length log.entries))) all
