@@ -74,9 +74,9 @@ just_shown (Ok s) version v e = (is_same_view-decides v s).1 (the_view s v e)
 just_shown (Err fault) version v e = cc
 
 -- what a call that enters a candidate's grant answers, as a try
-pub tries : (answer : Result Receipt (OrMemory CommitFault)) (old new : HistoryOnTrack) (candidate : Candidate) → has_train old candidate.view.train ≡ true
+pub tries : (answer : Result Receipt (OrMemory CommitFault)) (old new : HistoryOnTrack) (candidate : Candidate) → has_train old candidate.view.train ≡ true → is_full old ≡ false
     → EntersOrMemory answer old new (entry_granted old candidate) → Tries (tried answer) old new candidate
-tries (Ok receipt) old new candidate known e =
+tries (Ok receipt) old new candidate known room e =
     let grant = only_grant (is_full old) (is_shown old candidate.view) (length old.entries) (Granted candidate.grant) receipt.entry e.0 in (
       grant.0,
       e.1,
@@ -84,12 +84,12 @@ tries (Ok receipt) old new candidate known e =
       shown_just (view old.track (scene_now old) candidate.view.train) (length old.entries) candidate.view grant.2,
       grant.1,
     )
-tries (Err (Refused FullToGrants)) old new candidate known e =
-    ((only_full (is_full old) (is_shown old candidate.view) (length old.entries) (Granted candidate.grant) e.0, known), e.1)
-tries (Err (Refused (Stale at))) old new candidate known e =
+tries (Err (Refused FullToGrants)) old new candidate known room e =
+    absurd (both_ways (is_full old) room (only_full (is_full old) (is_shown old candidate.view) (length old.entries) (Granted candidate.grant) e.0))
+tries (Err (Refused (Stale at))) old new candidate known room e =
     let other = only_stale (is_full old) (is_shown old candidate.view) (length old.entries) at (Granted candidate.grant) e.0 in
     ((λ current. both_ways (is_shown old candidate.view) other (just_shown (view old.track (scene_now old) candidate.view.train) (length old.entries) candidate.view current)), e.1)
-tries (Err Memory) old new candidate known e = (known, e.1)
+tries (Err Memory) old new candidate known room e = (known, e.1)
 
 -- ---- trains that are there
 

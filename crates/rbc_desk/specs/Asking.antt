@@ -39,9 +39,9 @@ IsViewIn history train seen = (view history.track (scene_now history) train ≡ 
 abbrev pub IsMadeIn : HistoryOnTrack → Candidate → Type 0
 IsMadeIn history candidate = IsViewIn history candidate.view.train (candidate.view, candidate.version)
 
--- Nothing is granted: the history shows the train no end; or it has the train and is full, or memory was refused.
+-- Nothing is granted: the history shows the train no end; or it shows it one and is full; or it has the train, and memory was refused.
 abbrev pub IsRefused : HistoryOnTrack → ℕ → OrMemory AskFault → Type 0
-IsRefused history train (Refused Full) = (is_full history ≡ true) × (has_train history train ≡ true)
+IsRefused history train (Refused Full) = (is_full history ≡ true) × ((seen : View) × (shown history train ≡ Ok seen))
 IsRefused history train (Refused UnknownTrain) = shown history train ≡ Err UnknownTrain
 IsRefused history train (Refused (Blocked obstacle at version)) = shown history train ≡ Err (Blocked obstacle at version)
 IsRefused history train Memory = has_train history train ≡ true

@@ -11,6 +11,7 @@ pub use Rattle.rbc_snap.specs.CommitFault
 pub use Rattle.rbc_snap.specs.Ends
 pub use Rattle.rbc_snap.specs.Entering
 pub use Rattle.rbc_snap.specs.Entries
+pub use Rattle.rbc_snap.specs.Events
 pub use Rattle.rbc_snap.specs.Forms
 pub use Rattle.rbc_snap.specs.Later
 pub use Rattle.rbc_snap.specs.Present

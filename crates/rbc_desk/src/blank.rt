@@ -14,13 +14,23 @@ pub struct Blank {
 }
 
 impl Blank {
-    /// For a desk with this number of seats.
+    /// For a desk with this number of seats, none of which reads events.
     pub fn new(seats: usize) -> Blank
         ensures { result.ledger.parts ≡ seats }
     {
         Blank {
             ledger: ledger::Blank::new(seats as u64),
             book: NewHistory::new(),
+        }
+    }
+
+    /// For a desk with this number of seats, from which the events of its history can be read: each takes 64 bytes.
+    pub fn with_events(seats: usize) -> Blank
+        ensures { result.ledger.parts ≡ seats }
+    {
+        Blank {
+            ledger: ledger::Blank::new(seats as u64),
+            book: NewHistory::with_events(),
         }
     }
 }

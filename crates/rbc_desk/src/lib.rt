@@ -26,8 +26,8 @@ pub use name::DeskName;
 pub use onlooker::Onlooker;
 pub use rbc_model::{Memory, OrMemory, Told};
 pub use rbc_snap::{
-    ApplyFault, Behind, Candidate, CommitFault, Entry, EntryLimit, Grant, HistoryName, Receipt,
-    Record, Scene, Sight, Train, View, candidate,
+    ApplyFault, Behind, Candidate, CommitFault, Entry, EntryLimit, Event, Grant, HistoryName,
+    Receipt, Record, Scene, Sight, Train, View, candidate,
 };
 pub use rbc_track::Track;
 pub use seat::Seat;

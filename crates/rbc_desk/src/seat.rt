@@ -1,7 +1,8 @@
 //! A worker's seat.
 
-ghost use Rattle.std.specs.Prelude.{◌≡◌, [], length, IfOk};
+ghost use Rattle.std.specs.Prelude.{◌≡◌, [], length, Some, IfOk, IfSome};
 ghost use Rattle.std.specs.Arc.{arc_value};
+ghost use Rattle.rbc_snap.specs.Events.{event_at};
 ghost use Rattle.rbc_snap.specs.Later.{IsLater, scene_of};
 ghost use Rattle.rbc_snap.specs.Sights.{seen_of};
 ghost use Rattle.rbc_desk.specs.Looking.{HasLooked};
@@ -9,7 +10,7 @@ ghost use Rattle.rbc_desk.specs.Seats.{seated};
 
 use crate::DeskName;
 use rbc_model::OrMemory;
-use rbc_snap::{Behind, Eye, Receipt, Scene, Sight};
+use rbc_snap::{Behind, Event, Eye, Receipt, Scene, Sight};
 use std::alloc::Global;
 use std::marker::Model;
 use std::sync::ledger::Share;
@@ -78,6 +79,14 @@ impl<L: DeskName> Seat<L> {
         ensures looked { HasLooked self.old self.new }
     {
         self.eye.scene(rt)
+    }
+
+    /// The event at a place of the history that the seat was told. The desk's lock is not taken for it. None from that history's end
+    /// on, and where the desk has not put it there.
+    pub fn event(&self, place: u64) -> Option<Event>
+        ensures { IfSome result (λ event. event_at self.now.told place ≡ Some event) }
+    {
+        self.eye.event(place)
     }
 
     /// What the seat was told, as a moment of the desk's history.

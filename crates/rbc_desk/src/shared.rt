@@ -12,7 +12,7 @@ ghost use Rattle.rbc_snap.specs.Entering.{EntersOrMemory, entry_told, refused_at
 ghost use Rattle.rbc_snap.specs.Ends.{pressed};
 ghost use Rattle.rbc_snap.specs.Present.{has_train};
 ghost use Rattle.rbc_snap.specs.Steps.{IsOfTrack};
-ghost use Rattle.rbc_snap.specs.Records.{begin_of};
+ghost use Rattle.rbc_snap.specs.Records.{begin_of, is_full};
 ghost use Rattle.rbc_desk.specs.Closing.{all_receipts, IsUnmatchedIn};
 ghost use Rattle.rbc_desk.specs.States.{state_of};
 ghost use Rattle.rbc_desk.specs.Trains.{numbers_of};
@@ -100,6 +100,7 @@ fn enter(
     candidate: &Candidate,
 ) -> Result<Option<Receipt>, OrMemory<AskFault>>
     requires known { has_train log.old candidate.now.view.train ≡ true }
+    requires room { is_full log.old ≡ false }
     requires shown { candidate.now.version ≡ length log.old.entries → IsMadeIn log.old candidate.now }
     ensures { Tries result log.old log.new candidate.now }
 {
@@ -116,6 +117,30 @@ pub(crate) fn fault_at(version: u64, fault: ViewFault) -> AskFault
     match fault {
         ViewFault::UnknownTrain => AskFault::UnknownTrain,
         ViewFault::Blocked(obstacle, at) => AskFault::Blocked(obstacle, at, version),
+    }
+}
+
+/// What the record shows the train, and its version.
+fn look(log: &Record, alloc: Global, train: TrainId) -> Result<(View, u64), OrMemory<AskFault>>
+    ensures seen { IfOk result (IsViewIn log.now train) }
+    ensures refused { IfErr result (IsRefused log.now train) }
+{
+    let version = log.version();
+    match log.view(alloc, train) {
+        Ok(view) => Ok((view, version)),
+        Err(OrMemory::Refused(fault)) => Err(OrMemory::Refused(fault_at(version, fault))),
+        Err(OrMemory::Memory) => Err(OrMemory::Memory),
+    }
+}
+
+/// Why a full record grants the train nothing: it shows it no end; or it is full.
+fn full_refusal(log: &Record, alloc: Global, train: TrainId) -> OrMemory<AskFault>
+    requires { is_full log.now ≡ true }
+    ensures { IsRefused log.now train result }
+{
+    match look(log, alloc, train) {
+        Ok(_seen) => OrMemory::Refused(AskFault::Full),
+        Err(fault) => fault,
     }
 }
 
@@ -273,12 +298,7 @@ impl<L: DeskName> Shared<L> {
         ensures refused { IfErr result (IsRefused self.now.log train) }
     {
         self.bring(rt, seat);
-        let version = self.log.version();
-        match self.log.view(alloc, train) {
-            Ok(view) => Ok((view, version)),
-            Err(OrMemory::Refused(fault)) => Err(OrMemory::Refused(fault_at(version, fault))),
-            Err(OrMemory::Memory) => Err(OrMemory::Memory),
-        }
+        look(&self.log, alloc, train)
     }
 
     /// Enters what the candidate would grant, and gives the seat the receipt. None where the record shows its train
@@ -335,11 +355,11 @@ impl<L: DeskName> Shared<L> {
         } = seat;
         press.bring(rt, eye);
         *is_ahead = press.is_behind();
+        if log.is_full() {
+            return Err(full_refusal(log, alloc, candidate.view().train()));
+        }
         if !is_there(log, candidate) {
             return Err(OrMemory::Refused(AskFault::UnknownTrain));
-        }
-        if log.is_full() {
-            return Err(OrMemory::Refused(AskFault::Full));
         }
         found.reserve(1)?;
         receipts.reserve(1)?;

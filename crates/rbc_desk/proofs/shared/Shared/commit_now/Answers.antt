@@ -1,9 +1,10 @@
-use Rattle.std.proofs.Common.{rules, ◌∙◌, refl, sym, subst}
+use Rattle.std.proofs.Common.{rules, ◌∙◌, ap, refl, sym, subst}
 use Rattle.std.proofs.lemmas.Result.{err_from_is_err_and}
 use Rattle.rbc_snap.specs.Later.{IsLater}
 use Rattle.rbc_snap.proofs.LaterLemmas.{later_still}
 use Rattle.rbc_snap.specs.Records.{HistoryOnTrack}
-use Rattle.rbc_desk.specs.Asking.{IsMadeIn}
+use Rattle.rbc_model.specs.Views.{View}
+use Rattle.rbc_desk.specs.Asking.{IsMadeIn, IsRefused}
 use Rattle.rbc_desk.specs.Seats.{Seated}
 use Rattle.rbc_desk.proofs.AskingLemmas.{later_twice, made_still, missing_shown}
 use Rattle.rbc_desk.proofs.shared.Shared.commit_now.Goals as goal
@@ -24,7 +25,7 @@ returns-then-not-is_there-clause-tries g c =
     (missing_shown log c.args.candidate.now.view.train (sym c.if-not-is_there.ensures), refl)
 
 pub returns-then-is_full-clause-tries : goal.returns-then-is_full-clause-tries
-returns-then-is_full-clause-tries g c = ((sym c.if-is_full.ensures, sym c.if-not-is_there.ensures), refl)
+returns-then-is_full-clause-tries g c = (subst (λ train. IsRefused c.args.self.now.log train c.full_refusal.result) (c.train.ensures ∙ ap (λ (v : View). v.train) c.view.ensures.view) c.full_refusal.ensures, refl)
 
 pub returns-in_err-reserve-clause-tries : goal.returns-in_err-reserve-clause-tries
 returns-in_err-reserve-clause-tries g c =
@@ -43,3 +44,6 @@ pub enter-requires-clause-shown : goal.enter-requires-clause-shown
 enter-requires-clause-shown g c =
     let made = subst (λ (s : Seated). IsMadeIn s.told c.args.candidate.now) (sym c.seat.view_is) c.requires in
     made_still c.seat.inside.eye.told c.args.self.now.log c.args.candidate.now (subst (λ (h : HistoryOnTrack). IsLater c.seat.inside.eye.told h) c.args.self.now.published c.bring.ensures.later) made
+
+pub enter-requires-clause-room : goal.enter-requires-clause-room
+enter-requires-clause-room g c = sym c.if-is_full.ensures
