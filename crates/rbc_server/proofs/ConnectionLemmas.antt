@@ -78,7 +78,7 @@ none_begun kept came sitting went parted =
       untold = [];
       all = refl;
       none_untold = λ _. refl;
-      one_untold = lit≤ tt;
+      few_untold = lit≤ tt;
       written = ([], [], refl, Appends-nil came.told);
       each = All-nil (λ (turn : SeatTurn). IsKept (kept sitting.committer) turn.receipt);
     } in

@@ -61,7 +61,7 @@ module _ (history : HistoryOnTrack) (number : ℕ) where
   -- ---- a train that is shown an end
 
   module _ (shown : View) (e : view history.track (scene_now history) number ≡ Ok shown) where
-    full_said : (full : Bool) → full ≡ true
+    pub full_said : (full : Bool) → full ≡ true
         → MatchBool full (IsRefused (begin_of history) history.entries (refused_reply history.track Full) None Full) (IsGranted (begin_of history) history.entries (refused_reply history.track Full) None number shown)
     full_said true h = (refl, refl)
     full_said false h = absurd (let c : ⊥ = cc in c)

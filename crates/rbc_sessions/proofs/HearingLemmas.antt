@@ -1,111 +1,174 @@
 -- Told lines that rest at a sitting, and what becomes of them.
-use Rattle.std.proofs.Common.{◌≡◌, ℕ, ◌<◌, ◌≤◌, ◌+◌, Bool, true, false, List, [], ◌∷◌, ◌++◌, length, take, get_or, Option, Ok, Err, inl, inr, refl, sym, ap, ◌∙◌, subst, append_assoc, append-nil}
-use Rattle.std.specs.Prelude.{All, ◌||◌, MatchBool}
+use Rattle.std.proofs.Common.{◌≡◌, ℕ, ◌<◌, ◌≤◌, Bool, true, false, cond, List, [], ◌∷◌, ◌++◌, drop, length, Option, Result, Ok, Err, inl, inr, refl, sym, ap, ◌∙◌, subst, append_assoc, append-nil, arith, length-append, lit<, lit≤}
+use Rattle.std.proofs.Math.Seq.{drop-append_seam}
+use Rattle.std.specs.Prelude.{All, ◌||◌, ◌⊎◌, MatchBool}
 use Rattle.std.proofs.lemmas.Bool.{both_ways, or_right}
-use Rattle.std.proofs.lemmas.List.{take_all, take_more}
 use Rattle.std.proofs.lemmas.List.Elements.{All-nil, All-push}
-use Rattle.rbc_model.specs.HistoryText.{IsToldOfTrack}
+use Rattle.rbc_model.specs.Histories.{Receipt}
+use Rattle.rbc_model.specs.SessionReply.{SessionRefusal}
+use Rattle.rbc_model.specs.SessionText.{SessionLine}
 use Rattle.rbc_model.specs.Sessions.{Prints, WritesPart}
 use Rattle.rbc_model.specs.Tracks.{Track}
-use Rattle.rbc_model.specs.declared.reports.Told.{Told}
 use Rattle.rbc_session_laws.specs.Commands.{command_in}
-use Rattle.rbc_session_laws.specs.declared.command.Command.TheVariants.{Event}
+use Rattle.rbc_session_laws.specs.declared.command.Command.{Command}
 use Rattle.rbc_sweep.specs.Seats.{Seated}
-use Rattle.rbc_sessions.specs.Hearings.{Advances, CatchesUp, CatchesUpAndTreats, IsGoing, Rests}
-use Rattle.rbc_sessions.specs.SeatChanges.{SeatComes, SeatHears}
+use Rattle.rbc_sessions.specs.Hearings.{Advances, BreaksOff, CatchesUp, CatchesUpAndTreats, IsGoing, Rests}
+use Rattle.rbc_sessions.specs.Resting.{IsPrepared, command_of, commands_resting}
+use Rattle.rbc_sessions.specs.SeatChanges.{SeatHears}
+use Rattle.rbc_sessions.specs.SeatSessions.{receipts_of}
+use Rattle.rbc_sessions.specs.Sittings.{Enters, StaysKept, Treats}
+use Rattle.rbc_sessions.specs.declared.batch.Resting.{Resting}
+use Rattle.rbc_sessions.specs.declared.batch.TheConstants.{MOST_RESTING}
 use Rattle.rbc_sessions.specs.declared.hearing.Hearing.{Hearing}
+use Rattle.rbc_sessions.specs.declared.sitting.Sitting.{Sitting}
+use Rattle.rbc_sessions.proofs.KeepingLemmas.{treats_as}
 
--- ---- what is told, one after the other
+-- ---- what is asked for, one after the other
 
--- one more is told behind the others
-hears_more : (before after next : Seated) (told : List Told) (text reply : List ℕ) (one : Told) → SeatHears before told text after → SeatComes (Ok (Event one)) after reply next
-    → SeatHears before (told ++ one ∷ []) (text ++ reply) next
-hears_more before after next [] text reply one (none, same) comes = (
-  reply,
-  [],
-  next,
-  subst (λ (s : Seated). SeatComes (Ok (Event one)) s reply next) same comes,
-  ap (λ t. t ++ reply) none ∙ sym (append-nil reply),
-  (refl, refl),
-)
-hears_more before after next (first ∷ told) text reply one (said, rest, mid, goes, is, more) comes = (
-  said,
-  rest ++ reply,
-  mid,
-  goes,
-  ap (λ t. t ++ reply) is ∙ append_assoc said rest reply,
-  hears_more mid after next told rest reply one more comes,
-)
+-- the receipts gained stand behind the old ones
+hears_receipts : (before after : Seated) (commands : List Command) (text : List ℕ) → SeatHears before commands text after → (gained : List Receipt) × (after.receipts ≡ before.receipts ++ gained)
+hears_receipts before after [] text (silent, same) = ([], ap (λ (s : Seated). s.receipts) same ∙ sym (append-nil before.receipts))
+hears_receipts before after (one ∷ commands) text (reply, rest, next, comes, is, hears) =
+    let more = hears_receipts next after commands rest hears in (
+      receipts_of comes.0 ++ more.0,
+      more.1 ∙ ap (λ b. b ++ more.0) comes.2 ∙ append_assoc before.receipts (receipts_of comes.0) more.0,
+    )
 
-pub hears_next : (before after next : Seated) (told : List Told) (index : ℕ) (one : Told) (text reply : List ℕ) → index < length told → one ≡ get_or told index one
-    → SeatHears before (take index told) text after → SeatComes (Ok (Event one)) after reply next → SeatHears before (take (index + 1) told) (text ++ reply) next
-hears_next before after next told index one text reply inside same so_far comes =
-    let more : take (index + 1) told ≡ take index told ++ one ∷ [] =
-    take_more told index one inside ∙ ap (λ o. take index told ++ o ∷ []) (sym same) in
-    subst (λ ts. SeatHears before ts (text ++ reply) next) (sym more) (hears_more before after next (take index told) text reply one so_far comes)
+pub hears_longer : (before after : Seated) (commands : List Command) (text : List ℕ) → SeatHears before commands text after → length before.receipts ≤ length after.receipts
+hears_longer before after commands text hears =
+    let gained = hears_receipts before after commands text hears in
+    omega (arith, ap (λ (l : List Receipt). length l) gained.1, length-append before.receipts gained.0)
 
-pub hears_all : (before after : Seated) (told : List Told) (index : ℕ) (text : List ℕ) → length told ≤ index → SeatHears before (take index told) text after → SeatHears before told text after
-hears_all before after told index text past so_far = subst (λ ts. SeatHears before ts text after) (take_all index told past) so_far
+-- ---- what was read
+
+-- what a line asks for on the desk's track is what was read of it
+pub read_asks : (track opened : Track) (line : List ℕ) (command : Result Command SessionRefusal) → track ≡ opened → command ≡ command_in track line
+    → command_in opened line ≡ command
+read_asks track opened line command is read = ap (λ t. command_in t line) (sym is) ∙ sym read
 
 -- ---- what may rest
 
-module _ {L P : Type 0} where
-  module _ (track : Track) (kept : P → ℕ → Type 0) where
-    pub none_left : (hearing : Hearing L P) → hearing.sitting.has_failed ≡ false → hearing.batch ≡ [] → IsGoing track kept hearing
+module _ {L P T : Type 0} where
+  module _ (track : Track) (says : T → SessionLine → Type 0) where
+    pub none_left : (hearing : Hearing L P T) → hearing.sitting.has_failed ≡ false → hearing.batch ≡ [] → IsGoing track says hearing
     none_left hearing whole none = record {
       whole = whole;
-      of_track = subst (All (IsToldOfTrack track)) (sym none) (All-nil (IsToldOfTrack track));
-      free = inl none;
+      each = subst (All (IsPrepared track says)) (sym none) (All-nil (IsPrepared track says));
+      few = subst (λ (b : List (Resting T)). length b < MOST_RESTING) (sym none) (lit< tt);
     }
 
     -- what rests can be entered behind one that was let rest
-    pub rests_going : (before after : Hearing L P) (line : List ℕ) → Rests track kept before line after → IsGoing track kept after
-    rests_going before after line rests =
-        let going = rests.going in record {
-          whole = ap (λ s. s.has_failed) rests.sitting ∙ going.whole;
-          of_track = subst (All (IsToldOfTrack track)) (sym rests.behind) (All-push (IsToldOfTrack track) before.batch rests.told going.of_track rests.of_track);
-          free = inr rests.free;
-        }
+    pub rests_whole : (before after : Hearing L P T) (line : List ℕ) → Rests track says before line after → after.sitting.has_failed ≡ false
+    rests_whole before after line rests = let going = rests.going in ap (λ s. s.has_failed) rests.sitting ∙ going.whole
+
+    pub rests_each : (before after : Hearing L P T) (line : List ℕ) → Rests track says before line after → All (IsPrepared track says) after.batch
+    rests_each before after line rests =
+        let going = rests.going in
+        subst (All (IsPrepared track says)) (sym rests.behind) (All-push (IsPrepared track says) before.batch rests.one going.each rests.prepared)
+
+    pub rests_few : (before after : Hearing L P T) (line : List ℕ) → Rests track says before line after → length after.batch ≤ MOST_RESTING
+    rests_few before after line rests =
+        let going = rests.going in
+        omega (arith, going.few, ap (λ (b : List (Resting T)). length b) rests.behind, length-append before.batch (rests.one ∷ []))
 
     -- ---- how a line is answered
 
-    pub advances_batch : (failed : P → Type 0) (before after : Hearing L P) (line : List ℕ) → Rests track kept before line after → Advances track kept failed before line [] after
-    advances_batch failed before after line rests =
-        let going = rests_going before after line rests in
-        record { how = inl (rests, refl); goes_on = λ whole. going; why = λ broken. absurd (both_ways _ going.whole broken) }
+    module _ (kept : P → ℕ → Type 0) (failed : P → Type 0) where
+      pub advances_batch : (before after : Hearing L P T) (line : List ℕ) → Rests track says before line after → length after.batch < MOST_RESTING → Advances track says kept failed before line [] after
+      advances_batch before after line rests few =
+          let whole = rests_whole before after line rests in
+          record {
+            how = inl (rests, refl);
+            goes_on = λ _. record { whole = whole; each = rests_each before after line rests; few = few };
+            why = λ broken. absurd (both_ways _ whole broken);
+          }
 
-    pub advances_entered : (failed : P → Type 0) (before behind after : Hearing L P) (line text : List ℕ) → Rests track kept before line behind → CatchesUp kept behind text after
-        → Advances track kept failed before line text after
-    advances_entered failed before behind after line text rests catches_up = record {
-      how = inr (inl (behind, rests, catches_up));
-      goes_on = λ whole. none_left after whole catches_up.none_rests;
-      why = λ broken. absurd (both_ways _ catches_up.still_whole broken);
+      pub advances_entered : (before behind after : Hearing L P T) (line text : List ℕ) → Rests track says before line behind → CatchesUp kept behind text after
+          → (after.sitting.has_failed ≡ true → failed after.sitting.committer) → Advances track says kept failed before line text after
+      advances_entered before behind after line text rests catches_up why =
+          record { how = inr (inl (behind, rests, catches_up)); goes_on = λ whole. none_left after whole catches_up.none_rests; why = why }
+
+      pub advances_treated : (before after : Hearing L P T) (line text : List ℕ) → IsGoing track says before → CatchesUpAndTreats kept before line text after ⊎ BreaksOff kept before text after
+          → (after.sitting.has_failed ≡ true → failed after.sitting.committer) → Advances track says kept failed before line text after
+      advances_treated before after line text going (inl treats) why =
+          record { how = inr (inr (inl treats)); goes_on = λ whole. none_left after whole treats.none_rests; why = why }
+      advances_treated before after line text going (inr breaks) why = record {
+        how = inr (inr (inr (going, breaks)));
+        goes_on = λ whole. absurd (both_ways _ whole breaks.failed);
+        why = why;
+      }
+
+    -- any line rests that asks for this, or nothing changes where there was no room
+    pub rests_or_same : (before after : Hearing L P T) (one : Resting T) (command : Result Command SessionRefusal) → command ≡ Ok (command_of one.rested) → (is_room : Bool)
+        → IsGoing track says before → before.sitting.seat.told.track ≡ track → IsPrepared track says one
+        → after.sitting ≡ before.sitting → MatchBool is_room (after.batch ≡ before.batch ++ one ∷ []) (after.batch ≡ before.batch)
+        → MatchBool is_room ((line : List ℕ) → command_in track line ≡ command → Rests track says before line after) (after ≡ before)
+    rests_or_same before after one command is true going on prepared sitting behind = λ line asks. record {
+      going = going;
+      one = one;
+      asks = ap (λ t. command_in t line) on ∙ asks ∙ is;
+      prepared = prepared;
+      behind = behind;
+      sitting = sitting;
     }
-
-    pub advances_treated : (failed : P → Type 0) (before after : Hearing L P) (line text : List ℕ) → CatchesUpAndTreats kept before line text after → (after.sitting.has_failed ≡ true → failed after.sitting.committer)
-        → Advances track kept failed before line text after
-    advances_treated failed before after line text treats why = record { how = inr (inr treats); goes_on = λ whole. none_left after whole treats.none_rests; why = why }
-
-    -- a line that is told rests, or nothing changes where there was no room
-    pub rests_or_same : (before after : Hearing L P) (line : List ℕ) (told : Told) (is_room : Bool) → IsGoing track kept before → command_in before.sitting.seat.told.track line ≡ Ok (Event told)
-        → IsToldOfTrack track told → ((committer : P) (place : ℕ) → kept committer place) → after.sitting ≡ before.sitting
-        → MatchBool is_room (after.batch ≡ before.batch ++ told ∷ []) (after.batch ≡ before.batch)
-        → MatchBool is_room (Rests track kept before line after) (after ≡ before)
-    rests_or_same before after line told true going asks of_track free sitting behind =
-        record { going = going; told = told; asks = asks; of_track = of_track; free = free; behind = behind; sitting = sitting }
-    rests_or_same before after line told false going asks of_track free sitting same =
+    rests_or_same before after one command is false going on prepared sitting same =
         ap (λ s. record { sitting = s; batch = after.batch }) sitting ∙ ap (λ r. record { sitting = before.sitting; batch = r }) same
 
   module _ (kept : P → ℕ → Type 0) where
-    -- where nothing rests there is nothing to catch up with
-    pub nothing_rests : (track : Track) (hearing : Hearing L P) → IsGoing track kept hearing → hearing.batch ≡ [] → CatchesUp kept hearing [] hearing
-    nothing_rests track hearing going none = record {
-      whole = going.whole;
-      free = going.free;
-      hears = subst (λ (items : List Told). SeatHears hearing.sitting.seat items [] hearing.sitting.seat) (sym none) (refl, refl);
-      committer = refl;
-      still_whole = going.whole;
+    -- what rests is entered, and then any line is treated that asks for this
+    pub treated_behind : (track : Track) (before next after : Hearing L P T) (early late : List ℕ) (command : Result Command SessionRefusal)
+        → next.sitting.seat.told.track ≡ track → CatchesUp kept before early next → Treats kept command next.sitting late after.sitting → after.batch ≡ []
+        → (line : List ℕ) → command_in track line ≡ command → CatchesUpAndTreats kept before line (early ++ late) after
+    treated_behind track before next after early late command on catches_up treats none line asks = record {
+      next = next;
+      early = early;
+      late = late;
+      catches_up = catches_up;
+      treats = treats_as kept next.sitting after.sitting late command (command_in next.sitting.seat.told.track line)
+          (sym (ap (λ t. command_in t line) on ∙ asks)) treats;
       none_rests = none;
+      both = refl;
+    }
+
+    -- where nothing rests there is nothing to catch up with
+    pub nothing_rests : (hearing : Hearing L P T) → hearing.sitting.has_failed ≡ false → hearing.batch ≡ [] → CatchesUp kept hearing [] hearing
+    nothing_rests hearing whole none = record {
+      enters = record {
+        whole = whole;
+        replies = [];
+        hears = subst (λ (items : List (Resting T)). SeatHears hearing.sitting.seat (commands_resting items) [] hearing.sitting.seat) (sym none) (refl, refl);
+        gained = [];
+        receipts = sym (append-nil hearing.sitting.seat.receipts);
+        stays = λ place is. is;
+        said = λ _. (refl, All-nil (λ (r : Receipt). kept hearing.sitting.committer r.place));
+        unsaid = λ _. refl;
+      };
+      few = subst (λ (items : List (Resting T)). length items ≤ MOST_RESTING) (sym none) (lit≤ tt);
+      some = λ broken. absurd (both_ways _ whole broken);
+      none_rests = none;
+    }
+
+-- what was asked for was entered, and then all of it was kept, or that failed
+pub entered_kept : {L P : Type 0} (kept : P → ℕ → Type 0) (before after : Sitting L P) (seat : Seated) (commands : List Command) (replies : List ℕ) → before.has_failed ≡ false
+    → SeatHears before.seat commands replies seat → after.seat ≡ seat → StaysKept kept before.committer after.committer
+    → (after.has_failed ≡ false → All (λ (r : Receipt). kept after.committer r.place) (drop (length before.seat.receipts) seat.receipts))
+    → Enters kept before commands (cond after.has_failed [] replies) after
+entered_kept kept before after seat commands replies whole hears same stays is_kept =
+    let gained = hears_receipts before.seat seat commands replies hears in
+    let behind : drop (length before.seat.receipts) seat.receipts ≡ gained.0 =
+    ap (λ (l : List Receipt). drop (length before.seat.receipts) l) gained.1 ∙ drop-append_seam before.seat.receipts gained.0 in
+    record {
+      whole = whole;
+      replies = replies;
+      hears = subst (λ (s : Seated). SeatHears before.seat commands replies s) (sym same) hears;
+      gained = gained.0;
+      receipts = ap (λ (s : Seated). s.receipts) same ∙ gained.1;
+      stays = stays;
+      said = λ fine. (
+        ap (λ b. cond b [] replies) fine,
+        subst (λ (rs : List Receipt). All (λ (r : Receipt). kept after.committer r.place) rs) behind (is_kept fine),
+      );
+      unsaid = λ broken. ap (λ b. cond b [] replies) broken;
     }
 
 -- ---- what is printed
@@ -121,3 +184,9 @@ module _ {E : Type 0} (old new : Option (List ℕ)) (writer_failed : Bool) (earl
     text = longer_part old new early late printed.text;
     failed = or_right failed writer_failed printed.failed;
   }
+
+-- where keeping has not failed, the writer failed where the call says so
+pub prints_by_writer : {E : Type 0} (old new : Option (List ℕ)) (failed writer_failed : Bool) (text : List ℕ) (result : Result (Unit {0}) E) → failed ≡ false
+    → Prints old new (failed || writer_failed) text result → Prints old new writer_failed text result
+prints_by_writer old new true writer_failed text result whole printed = absurd (let c : ⊥ = cc in c)
+prints_by_writer old new false writer_failed text result whole printed = printed

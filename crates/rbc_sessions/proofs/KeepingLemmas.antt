@@ -1,10 +1,11 @@
 -- What is asked for is treated, and its reply is written once what led to the entry is kept.
-use Rattle.std.proofs.Common.{◌≡◌, ℕ, Bool, true, false, cond, List, [], ◌∷◌, ◌++◌, length, Option, Some, None, Result, Ok, Err, refl, sym, ap, ◌∙◌, subst, append-nil}
+use Rattle.std.proofs.Common.{◌≡◌, ℕ, ◌<◌, ◌+◌, Bool, true, false, cond, List, [], ◌∷◌, ◌++◌, get_or, length, take, Option, Some, None, Result, Ok, Err, refl, sym, ap, ◌∙◌, subst, append-nil}
 use Rattle.std.proofs.Math.Seq.{take-append_seam}
 use Rattle.std.proofs.KnownBytes.{Appends-nil}
 use Rattle.std.proofs.lemmas.Bool.{both_ways}
+use Rattle.std.proofs.lemmas.List.Elements.{All-more, All-weaker}
 use Rattle.std.proofs.lemmas.Option.{none-some}
-use Rattle.std.specs.Prelude.{◌||◌, is_err, slice_get}
+use Rattle.std.specs.Prelude.{All, ◌||◌, is_err, slice_get}
 use Rattle.std.specs.Io.KnownBytes.{Appends}
 use Rattle.std.specs.Result.{result_map_both}
 use Rattle.rbc_model.proofs.SaidLineLemmas.{said_line_read}
@@ -125,3 +126,13 @@ module _ {L P : Type 0} (kept : P → ℕ → Type 0) (command : Result Command 
 pub treats_as : {L P : Type 0} (kept : P → ℕ → Type 0) (before after : Sitting L P) (text : List ℕ) (one other : Result Command SessionRefusal) → one ≡ other → Treats kept one before text after
     → Treats kept other before text after
 treats_as kept before after text one other is treats = subst (λ d. Treats kept d before text after) is treats
+
+-- ---- receipts, one by one
+
+-- what led to the entry of one more is kept
+pub places_next : (before after : ℕ → Type 0) (receipts : List Receipt) (index : ℕ) (one : Receipt) → index < length receipts → one ≡ get_or receipts index one → ((place : ℕ) → before place → after place)
+    → All (λ (r : Receipt). before r.place) (take index receipts) → after one.place → All (λ (r : Receipt). after r.place) (take (index + 1) receipts)
+places_next before after receipts index one inside is stays so_far here =
+    All-more (λ (r : Receipt). after r.place) receipts index one inside
+    (All-weaker (λ (r : Receipt). before r.place) (λ (r : Receipt). after r.place) (λ r k. stays r.place k) (take index receipts) so_far)
+    (subst (λ (r : Receipt). after r.place) is here)

@@ -11,6 +11,7 @@ pub mod HistoryLemmas
 pub mod HearingLemmas
 pub mod SittingLemmas
 pub mod KeepingLemmas
+pub mod DueLemmas
 pub mod GrantLemmas
 pub mod TreatingLemmas
 pub mod ShowingLemmas

@@ -1,21 +1,21 @@
 -- The turns of a session at a desk are answered as the function says that computes the answers.
-use Rattle.std.proofs.Common.{◌≡◌, ◌≢◌, ℕ, Bool, true, false, List, [], ◌∷◌, Option, None, Result, Ok, Err, ◌⊎◌, inl, inr, refl, sym, ap, ◌∙◌, subst, append-nil}
+use Rattle.std.proofs.Common.{◌≡◌, ◌≢◌, Bool, true, false, List, [], ◌∷◌, Option, None, Result, Ok, Err, ◌⊎◌, inl, inr, refl, sym, ap, ◌∙◌, subst, append-nil}
 use Rattle.std.specs.Prelude.{bytes_eq}
 use Rattle.std.proofs.lemmas.Slice.Eq.{bytes_eq-Decides}
 use Rattle.rbc_model.specs.SoundTracks.{IsInForm}
 use Rattle.rbc_model.specs.Histories.{Beginning, Entry}
-use Rattle.rbc_model.specs.SessionReply.{SessionRefusal, Full, Memory, refused_reply}
+use Rattle.rbc_model.specs.SessionReply.{SessionRefusal, Memory, refused_reply}
 use Rattle.rbc_sweep.specs.Later.{IsLater}
 use Rattle.rbc_sweep.specs.Records.{begin_of, HistoryOnTrack, history_on}
 use Rattle.rbc_session_laws.specs.declared.command.Command.{Command}
 use Rattle.rbc_session_laws.specs.declared.command.Command.TheVariants.{Nothing, Event, Authority, Show}
 use Rattle.rbc_session_laws.specs.Commands.{command_in}
-use Rattle.rbc_session_laws.specs.Turns.{AnswersLine, AnswersCommand, AnswersEvent, AnswersInquiry}
+use Rattle.rbc_session_laws.specs.Turns.{AnswersLine, AnswersCommand, AnswersEvent, AnswersAuthority, AnswersInquiry}
 use Rattle.rbc_session_laws.proofs.LineLemmas.{lines_are_answered}
 use Rattle.rbc_sessions.specs.Changes.{with_added}
-use Rattle.rbc_sessions.specs.SeatAnswers.{IsLineAnswer, IsHeldUp, AreLineAnswers}
+use Rattle.rbc_sessions.specs.SeatAnswers.{IsLineAnswer, AreLineAnswers}
 use Rattle.rbc_sessions.specs.SeatSessions.{SeatTurn, AreInTurn}
-use Rattle.rbc_sessions.specs.SeatTurns.{AnswersCommandAtDesk, AnswersAsked, IsAnsweredSince, entry_in, IsNext}
+use Rattle.rbc_sessions.specs.SeatTurns.{AnswersCommandAtDesk, IsAnsweredSince, entry_in, IsNext}
 use Rattle.rbc_sessions.proofs.SeatSessionLemmas.{turn_track}
 
 module _ (begun : HistoryOnTrack) (turn : SeatTurn) (form : IsInForm begun.track) where
@@ -50,29 +50,23 @@ module _ (begun : HistoryOnTrack) (turn : SeatTurn) (form : IsInForm begun.track
       (subst (λ d. AnswersCommand (begin_of before) before.entries turn.reply (entry_in turn.receipt) d) (sym (ap (λ t. command_in t turn.line) later.track ∙ e)) answers)
       answered.next answered.told kept
 
-  asked : (train : ℕ) (answered : IsAnsweredSince (λ begin entries added. AnswersAsked begin entries turn.reply added train) begun turn.told turn.receipt)
-      → command_in begun.track turn.line ≡ Ok (Authority train) → turn.reply ≢ refused_reply begun.track Memory
-      → AnswersAsked (begin_of answered.before) answered.before.entries turn.reply (entry_in turn.receipt) train → IsHeldUp begun.track turn.reply ⊎ IsLineAnswer begun turn
-  asked train answered e kept (inl answers) = inr (since (λ begin entries added. AnswersAsked begin entries turn.reply added train) answered (Ok (Authority train)) e answers kept)
-  asked train answered e kept (inr (known, inl (full, (said, none)))) = let later = answered.later in inl (inr (subst (λ t. turn.reply ≡ refused_reply t Full) later.track said))
-  asked train answered e kept (inr (known, inr (said, none))) = let later = answered.later in inl (inl (subst (λ t. turn.reply ≡ refused_reply t Memory) later.track said))
-
   commanded : (command : Result Command SessionRefusal) → command_in begun.track turn.line ≡ command → AnswersCommandAtDesk begun turn.told turn.reply turn.receipt command
-      → turn.reply ≢ refused_reply begun.track Memory → IsHeldUp begun.track turn.reply ⊎ IsLineAnswer begun turn
-  commanded (Ok Nothing) e (said, (none, same)) kept = inr (idle (Ok Nothing) e (said, refl) none same kept)
+      → turn.reply ≢ refused_reply begun.track Memory → IsLineAnswer begun turn
+  commanded (Ok Nothing) e (said, (none, same)) kept = idle (Ok Nothing) e (said, refl) none same kept
   commanded (Ok (Event told)) e answered kept =
-      inr (since (λ begin entries added. AnswersEvent begin entries turn.reply added told) answered (Ok (Event told)) e answered.answered kept)
-  commanded (Ok (Authority train)) e answered kept = asked train answered e kept answered.answered
+      since (λ begin entries added. AnswersEvent begin entries turn.reply added told) answered (Ok (Event told)) e answered.answered kept
+  commanded (Ok (Authority train)) e answered kept =
+      since (λ begin entries added. AnswersAuthority begin entries turn.reply added train) answered (Ok (Authority train)) e answered.answered kept
   commanded (Ok (Show inquiry)) e answered kept =
-      inr (since (λ begin entries added. AnswersInquiry begin entries turn.reply added inquiry) answered (Ok (Show inquiry)) e answered.answered kept)
-  commanded (Err refusal) e (said, (none, same)) kept = inr (idle (Err refusal) e (said, refl) none same kept)
+      since (λ begin entries added. AnswersInquiry begin entries turn.reply added inquiry) answered (Ok (Show inquiry)) e answered.answered kept
+  commanded (Err refusal) e (said, (none, same)) kept = idle (Err refusal) e (said, refl) none same kept
 
-  answered_so : AnswersCommandAtDesk begun turn.told turn.reply turn.receipt (command_in begun.track turn.line) → IsHeldUp begun.track turn.reply ⊎ IsLineAnswer begun turn
+  answered_so : AnswersCommandAtDesk begun turn.told turn.reply turn.receipt (command_in begun.track turn.line) → (turn.reply ≡ refused_reply begun.track Memory) ⊎ IsLineAnswer begun turn
   answered_so right = by_memory (bytes_eq turn.reply (refused_reply begun.track Memory)) refl
     where
-      by_memory : (b : Bool) → bytes_eq turn.reply (refused_reply begun.track Memory) ≡ b → IsHeldUp begun.track turn.reply ⊎ IsLineAnswer begun turn
-      by_memory true e = inl (inl ((bytes_eq-Decides turn.reply (refused_reply begun.track Memory)).0 e))
-      by_memory false e = commanded (command_in begun.track turn.line) refl right (λ same. kept ((bytes_eq-Decides turn.reply (refused_reply begun.track Memory)).1 same) e)
+      by_memory : (b : Bool) → bytes_eq turn.reply (refused_reply begun.track Memory) ≡ b → (turn.reply ≡ refused_reply begun.track Memory) ⊎ IsLineAnswer begun turn
+      by_memory true e = inl ((bytes_eq-Decides turn.reply (refused_reply begun.track Memory)).0 e)
+      by_memory false e = inr (commanded (command_in begun.track turn.line) refl right (λ same. kept ((bytes_eq-Decides turn.reply (refused_reply begun.track Memory)).1 same) e))
         where
           kept : {b : Bool} → b ≡ true → b ≡ false → ⊥
           kept so not_so = cc

@@ -1,9 +1,11 @@
 -- What is told and asked at a desk: the desk's answer as the reply to its line.
-use Rattle.std.proofs.Common.{◌≡◌, ℕ, ◌+◌, ◌<◌, ◌≤◌, false, List, length, Option, Some, None, Result, Ok, Err, refl, sym, ap, ◌∙◌, subst, inl, inr, ℤ, arith}
+use Rattle.std.proofs.Common.{◌≡◌, ℕ, ◌+◌, ◌<◌, ◌≤◌, true, false, List, length, Option, Some, None, is_some, Result, Ok, Err, refl, sym, ap, ◌∙◌, subst, inl, inr, ℤ, arith}
 use Rattle.std.proofs.lemmas.Bool.{leb-false}
 use Rattle.std.specs.Prelude.{nat_le, IfOk}
+use Rattle.std.specs.Option.{option_map_or}
 use Rattle.std.specs.Result.{result_map_both}
-use Rattle.rbc_model.specs.Scenes.{Scene}
+use Rattle.rbc_model.specs.Scenes.{Scene, train_numbered}
+use Rattle.rbc_model.specs.Trains.{Train}
 use Rattle.rbc_model.specs.declared.memory.OrMemory.{OrMemory}
 use Rattle.rbc_model.specs.declared.memory.OrMemory.TheVariants.{Refused, Memory as NoMemory}
 use Rattle.rbc_model.specs.declared.refusals.Obstacle.{Obstacle}
@@ -14,8 +16,8 @@ use Rattle.rbc_model.specs.declared.reports.Told.{Told}
 use Rattle.rbc_model.specs.Answers.{RefusesOrMemory}
 use Rattle.rbc_model.specs.SoundTracks.{IsInForm, IsSound}
 use Rattle.rbc_model.specs.Tracks.{Track}
-use Rattle.rbc_model.specs.Views.{View, view}
-use Rattle.rbc_model.specs.Histories.{Beginning, Entry, Receipt, replay}
+use Rattle.rbc_model.specs.Views.{View, greatest_end, shown_up_to, view, view_of}
+use Rattle.rbc_model.specs.Histories.{Beginning, Entry, Receipt, replay, is_full}
 use Rattle.rbc_model.specs.SessionReply.{BadEvent, Full, Memory, accepted_reply, blocked_reply, refused_reply}
 use Rattle.rbc_grant_laws.specs.Candidates.{IsCandidateOf}
 use Rattle.rbc_grant_laws.proofs.CandidateLemmas.{view-train}
@@ -35,10 +37,10 @@ use Rattle.rbc_replies.specs.Replies.{refusal_view, ObstacleIsOfTrack, RefusalIs
 use Rattle.rbc_replies.specs.declared.replies.ToldGrant.{ToldGrant}
 use Rattle.rbc_replies.specs.declared.replies.SessionReply.{SessionReply}
 use Rattle.rbc_model.specs.HistoryText.{IsToldOfTrack}
-use Rattle.rbc_sessions.specs.SeatTurns.{AnswersAsked, IsAnsweredSince}
+use Rattle.rbc_sessions.specs.SeatTurns.{IsAnsweredSince}
 use Rattle.rbc_session_laws.specs.Turns.{AnswersAuthority, AnswersEvent}
 use Rattle.rbc_sessions.specs.Shown.{told_refusal, entry_granted_in, IsToldOf}
-use Rattle.rbc_sessions.proofs.AskingLemmas.{asked_answers, blocked_named, shown_named, granted_answers, told_whole}
+use Rattle.rbc_sessions.proofs.AskingLemmas.{asked_answers, full_said, blocked_named, shown_named, granted_answers, told_whole}
 use Rattle.rbc_sessions.proofs.TellingLemmas.{entered_free, nothing_added, told_answers, not_told_answers, not_told_named}
 
 pub below_most : (most n : ℕ) → most ≤ MOST_ENTRIES → nat_le most n ≡ false → n < MOST_ENTRIES
@@ -106,6 +108,15 @@ stopped_at (Err (BlockedAt other place)) version obstacle at seen_at e =
     let same : other ≡ obstacle = cc in let placed : place ≡ at = cc in let version_told : seen_at ≡ version = cc in
     (ap (λ o. Err (BlockedAt o place)) same ∙ ap (λ p. Err (BlockedAt obstacle p)) placed, version_told)
 
+-- a train that is there is shown an end, or what stands in its way
+some_end : (track : Track) (scene : Scene) (train : Train) (end : Option ℕ) → shown_up_to track scene train end ≡ Err NoTrainShown → ⊥
+some_end track scene train None e = cc
+some_end track scene train (Some end) e = cc
+
+seen_there : (track : Track) (scene : Scene) (found : Option Train) → is_some found ≡ true → option_map_or (view_of track scene) found (Err NoTrainShown) ≡ Err NoTrainShown → ⊥
+seen_there track scene None known e = cc
+seen_there track scene (Some train) known e = some_end track scene train (greatest_end track scene train) e
+
 module _ (begin : Beginning) (entries : List Entry) (train : ℕ) where
   abbrev there : HistoryOnTrack
   there = history_on begin entries
@@ -113,26 +124,32 @@ module _ (begin : Beginning) (entries : List Entry) (train : ℕ) where
   abbrev shown_there : Result View ViewFault
   shown_there = view begin.track (replay begin entries) train
 
-  pub asked_unknown : IsAnswered there train (Err (Refused UnknownTrain)) → AnswersAsked begin entries (refused_reply begin.track (BadEvent (NoSuchTrain train))) None train
+  pub asked_unknown : IsAnswered there train (Err (Refused UnknownTrain)) → AnswersAuthority begin entries (refused_reply begin.track (BadEvent (NoSuchTrain train))) None train
   asked_unknown is =
-      inl (asked_answers there train (refused_reply begin.track (BadEvent (NoSuchTrain train))) None (Err NoTrainShown) (not_seen shown_there (length entries) is) (refl, refl))
+      asked_answers there train (refused_reply begin.track (BadEvent (NoSuchTrain train))) None (Err NoTrainShown) (not_seen shown_there (length entries) is) (refl, refl)
 
   pub asked_blocked : (obstacle : Obstacle) (at : ℤ) (version : ℕ) → IsAnswered there train (Err (Refused (Blocked obstacle at version)))
-      → AnswersAsked begin entries (blocked_reply begin.track train version at obstacle) None train
+      → AnswersAuthority begin entries (blocked_reply begin.track train version at obstacle) None train
   asked_blocked obstacle at version is =
       let stop = stopped_at shown_there (length entries) obstacle at version is in
-      inl
-      (asked_answers there train (blocked_reply begin.track train version at obstacle) None (Err (BlockedAt obstacle at)) stop.0
-      (inl (ap (λ n. blocked_reply begin.track train n at obstacle) stop.1, refl)))
+      asked_answers there train (blocked_reply begin.track train version at obstacle) None (Err (BlockedAt obstacle at)) stop.0
+      (inl (ap (λ n. blocked_reply begin.track train n at obstacle) stop.1, refl))
 
   pub asked_blocked_named : (obstacle : Obstacle) (at : ℤ) (version : ℕ) → IsRight there → IsSound begin.track → IsAnswered there train (Err (Refused (Blocked obstacle at version))) → ObstacleIsOfTrack begin.track obstacle
   asked_blocked_named obstacle at version right sound is = let stop = stopped_at shown_there (length entries) obstacle at version is in blocked_named there train obstacle at right sound stop.0
 
-  pub asked_full : IsAnswered there train (Err (Refused FullToAsker)) → AnswersAsked begin entries (refused_reply begin.track Full) None train
-  asked_full is = inr (is.1, inl (is.0, (refl, refl)))
+  pub asked_full : IsAnswered there train (Err (Refused FullToAsker)) → AnswersAuthority begin entries (refused_reply begin.track Full) None train
+  asked_full (full, (seen, is)) =
+      asked_answers there train (refused_reply begin.track Full) None (Ok seen) (viewed shown_there (length entries) seen is)
+      (inl (full_said there train seen (viewed shown_there (length entries) seen is) (is_full begin entries) full))
 
-  pub asked_given_up : IsAnswered there train (Err NoMemory) → AnswersAsked begin entries (refused_reply begin.track Memory) None train
-  asked_given_up is = inr (is, inr (refl, refl))
+  pub asked_given_up : IsAnswered there train (Err NoMemory) → AnswersAuthority begin entries (refused_reply begin.track Memory) None train
+  asked_given_up is = given_up shown_there refl
+    where
+      given_up : (seen : Result View ViewFault) → shown_there ≡ seen → AnswersAuthority begin entries (refused_reply begin.track Memory) None train
+      given_up (Ok view) e = asked_answers there train (refused_reply begin.track Memory) None (Ok view) e (inr (refl, refl))
+      given_up (Err (BlockedAt obstacle at)) e = asked_answers there train (refused_reply begin.track Memory) None (Err (BlockedAt obstacle at)) e (inr (refl, refl))
+      given_up (Err NoTrainShown) e = absurd (seen_there begin.track (replay begin entries) (train_numbered (replay begin entries) train) is e)
 
   module _ (granted : GrantedAtDesk) (is : IsAnswered there train (Ok granted)) where
     shown_to : shown_there ≡ Ok granted.candidate.view
@@ -143,13 +160,12 @@ module _ (begin : Beginning) (entries : List Entry) (train : ℕ) where
 
     module _ (place : ℕ) (told : ToldGrant) (of_candidate : IsToldOf granted.candidate (place + 1) told)
         (best : IsCandidateOf granted.candidate.view granted.candidate.grant) (chosen : HasChosenProfiles granted.candidate.view granted.candidate.grant) where
-      pub asked_granted : place ≡ granted.receipt.place → IsInForm begin.track → AnswersAsked begin entries (grant_text begin.track told) (Some granted.receipt.entry) train
+      pub asked_granted : place ≡ granted.receipt.place → IsInForm begin.track → AnswersAuthority begin entries (grant_text begin.track told) (Some granted.receipt.entry) train
       asked_granted at form =
-          subst (λ n. AnswersAsked begin entries (grant_text begin.track told) (Some granted.receipt.entry) n) its_train
-          (subst (λ entry. AnswersAsked begin entries (grant_text begin.track told) (Some entry) granted.candidate.view.train) (sym is.3)
-          (inl
+          subst (λ n. AnswersAuthority begin entries (grant_text begin.track told) (Some granted.receipt.entry) n) its_train
+          (subst (λ entry. AnswersAuthority begin entries (grant_text begin.track told) (Some entry) granted.candidate.view.train) (sym is.3)
           (granted_answers there granted.candidate place told is.0 (at ∙ is.2) of_candidate best chosen form
-          (subst (λ n. view begin.track (replay begin entries) n ≡ Ok granted.candidate.view) (sym its_train) shown_to))))
+          (subst (λ n. view begin.track (replay begin entries) n ≡ Ok granted.candidate.view) (sym its_train) shown_to)))
 
       pub asked_granted_whole : IsRight there → IsSound begin.track → ObstacleIsOfTrack begin.track told.obstacle
       asked_granted_whole right sound = told_whole begin.track granted.candidate (place + 1) told of_candidate best chosen (shown_named there train granted.candidate.view right sound shown_to)
@@ -170,15 +186,15 @@ receipt_in (Err fault) = None
 -- the answer after a history that goes on from what the seat had been told, as a reply to a train that asks
 pub asked_at_desk : (train : ℕ) (track : Track) (reply : List ℕ) (answer : Result GrantedAtDesk (OrMemory AskFault)) (old new : Seated) → old.told.track ≡ track
     → IsAnsweredThen old.told new.told train answer
-    → ((scene : Scene) (most : ℕ) (entries : List Entry) → IsAnswered (history_on (begin_on track scene most) entries) train answer → AnswersAsked (begin_on track scene most) entries reply (entry_granted_in answer) train)
-    → IsAnsweredSince (λ t entries added. AnswersAsked t entries reply added train) old.told new.told (receipt_in answer)
+    → ((scene : Scene) (most : ℕ) (entries : List Entry) → IsAnswered (history_on (begin_on track scene most) entries) train answer → AnswersAuthority (begin_on track scene most) entries reply (entry_granted_in answer) train)
+    → IsAnsweredSince (λ t entries added. AnswersAuthority t entries reply added train) old.told new.told (receipt_in answer)
 asked_at_desk train track reply (Ok granted) old new on since says =
     let before = since.before in
     let later = since.later in
     let answered = since.answered in record {
       before = before;
       later = later;
-      answered = subst (λ t. AnswersAsked (begin_on t before.begin before.most) before.entries reply (Some granted.receipt.entry) train) (sym (later.track ∙ on))
+      answered = subst (λ t. AnswersAuthority (begin_on t before.begin before.most) before.entries reply (Some granted.receipt.entry) train) (sym (later.track ∙ on))
           (says before.begin before.most before.entries (asked_on old.told new.told train (Ok granted) track on since));
       next = answered.2;
       told = since.told;
@@ -188,18 +204,11 @@ asked_at_desk train track reply (Err fault) old new on since says =
     let later = since.later in record {
       before = before;
       later = later;
-      answered = subst (λ t. AnswersAsked (begin_on t before.begin before.most) before.entries reply None train) (sym (later.track ∙ on))
+      answered = subst (λ t. AnswersAuthority (begin_on t before.begin before.most) before.entries reply None train) (sym (later.track ∙ on))
           (says before.begin before.most before.entries (asked_on old.told new.told train (Err fault) track on since));
       next = tt;
       told = since.told ∙ nothing_added before;
     }
-
--- what is granted is what the train would be granted alone
-pub granted_alone : (begin : Beginning) (entries : List Entry) (reply : List ℕ) (entry : Entry) (train : ℕ) → AnswersAsked begin entries reply (Some entry) train
-    → AnswersAuthority begin entries reply (Some entry) train
-granted_alone begin entries reply entry train (inl answers) = answers
-granted_alone begin entries reply entry train (inr (known, inl (full, (said, none)))) = absurd (let c : ⊥ = cc in c)
-granted_alone begin entries reply entry train (inr (known, inr (said, none))) = absurd (let c : ⊥ = cc in c)
 
 pub asked_below : (begun after : HistoryOnTrack) (train : ℕ) (answer : Result GrantedAtDesk (OrMemory AskFault)) → IsAnsweredThen begun after train answer → IfOk answer (λ granted. granted.receipt.place < MOST_ENTRIES)
 asked_below begun after train (Ok granted) since =

@@ -19,7 +19,7 @@ use Rattle.rbc_replies.specs.declared.replies.SessionRefusal.{SessionRefusal as 
 use Rattle.rbc_session_laws.specs.declared.command.Command.{Command}
 use Rattle.rbc_session_laws.specs.declared.command.Command.TheVariants.{Nothing, Event, Authority}
 use Rattle.rbc_session_laws.specs.Commands.{command_in, resolve}
-use Rattle.rbc_session_laws.specs.Turns.{AnswersEvent}
+use Rattle.rbc_session_laws.specs.Turns.{AnswersAuthority, AnswersEvent}
 use Rattle.rbc_sweep.specs.ApplyFault.{ApplyFault}
 use Rattle.rbc_sweep.specs.AskFault.{AskFault}
 use Rattle.rbc_sweep.specs.Asking.{IsAnswered, IsAnsweredThen}
@@ -28,12 +28,12 @@ use Rattle.rbc_sweep.specs.Records.{begin_on, history_on}
 use Rattle.rbc_sweep.specs.Seats.{Seated}
 use Rattle.rbc_sweep.specs.Telling.{IsToldThen}
 use Rattle.rbc_sessions.specs.Keeping.{AddsEntry}
-use Rattle.rbc_sessions.specs.SeatTurns.{AnswersAsked, AnswersCommandAtDesk, IsAnsweredSince}
+use Rattle.rbc_sessions.specs.SeatTurns.{AnswersCommandAtDesk, IsAnsweredSince}
 use Rattle.rbc_sessions.specs.Shown.{told_refusal, entry_granted_in}
 use Rattle.rbc_sessions.specs.Sittings.{IsTreated, StaysKept, Treats}
 use Rattle.rbc_sessions.specs.declared.sitting.Sitting.{Sitting}
 use Rattle.rbc_sessions.proofs.KeepingLemmas.{line_is_bad, prints_said, prints_whole, since_adds, treats_as, treats_entered, treats_idle}
-use Rattle.rbc_sessions.proofs.SeatLemmas.{asked_at_desk, granted_alone, not_told_at_desk, receipt_in, told_at_desk}
+use Rattle.rbc_sessions.proofs.SeatLemmas.{asked_at_desk, not_told_at_desk, receipt_in, told_at_desk}
 
 module _ {L P E : Type 0} (kept : P → ℕ → Type 0) (before after : Sitting L P) (old new : Option (List ℕ)) (writer_failed : Bool) (result : Result (Unit {0}) E) where
   -- nothing was entered, and the reply was printed
@@ -82,23 +82,23 @@ module _ {L P E : Type 0} (kept : P → ℕ → Type 0) (before after : Sitting 
 
   pub granted_treated : (train : ℕ) (track : Track) (reply : List ℕ) (granted : GrantedAtDesk) (answer : Result GrantedAtDesk (OrMemory AskFault)) (seat : Seated) → answer ≡ Ok granted → before.has_failed ≡ false
       → after.seat ≡ seat → before.seat.told.track ≡ track → IsAnsweredThen before.seat.told seat.told train answer
-      → ((scene : Scene) (most : ℕ) (entries : List Entry) → IsAnswered (history_on (begin_on track scene most) entries) train answer → AnswersAsked (begin_on track scene most) entries reply (entry_granted_in answer) train)
+      → ((scene : Scene) (most : ℕ) (entries : List Entry) → IsAnswered (history_on (begin_on track scene most) entries) train answer → AnswersAuthority (begin_on track scene most) entries reply (entry_granted_in answer) train)
       → IfOk answer (λ granted. seat.receipts ≡ before.seat.receipts ++ granted.receipt ∷ []) → StaysKept kept before.committer after.committer → (after.has_failed ≡ false → kept after.committer granted.receipt.place)
       → (after.has_failed ≡ false → Prints old new writer_failed reply result) → (after.has_failed ≡ true → (new ≡ old) × (is_err result ≡ true))
       → IsTreated kept (Ok (Authority train)) before after old new writer_failed result
   granted_treated train track reply granted answer seat is whole same on since says receipts stays is_kept said unsaid =
       entered_treated (Ok (Authority train)) seat granted.receipt reply whole same
-      (subst (λ a. IsAnsweredSince (λ t entries added. AnswersAsked t entries reply added train) before.seat.told seat.told (receipt_in a)) is
+      (subst (λ a. IsAnsweredSince (λ t entries added. AnswersAuthority t entries reply added train) before.seat.told seat.told (receipt_in a)) is
       (asked_at_desk train track reply answer before.seat seat on since says))
       (subst (λ a. IfOk a (λ (g : GrantedAtDesk). seat.receipts ≡ before.seat.receipts ++ g.receipt ∷ [])) is receipts) stays is_kept said unsaid
 
   pub denied_treated : (train : ℕ) (track : Track) (reply : List ℕ) (fault : OrMemory AskFault) (answer : Result GrantedAtDesk (OrMemory AskFault)) → answer ≡ Err fault → before.has_failed ≡ false
       → after.committer ≡ before.committer → after.has_failed ≡ before.has_failed → before.seat.told.track ≡ track → IsAnsweredThen before.seat.told after.seat.told train answer
-      → ((scene : Scene) (most : ℕ) (entries : List Entry) → IsAnswered (history_on (begin_on track scene most) entries) train answer → AnswersAsked (begin_on track scene most) entries reply (entry_granted_in answer) train)
+      → ((scene : Scene) (most : ℕ) (entries : List Entry) → IsAnswered (history_on (begin_on track scene most) entries) train answer → AnswersAuthority (begin_on track scene most) entries reply (entry_granted_in answer) train)
       → OnErr answer (after.seat.receipts ≡ before.seat.receipts) → Prints old new writer_failed reply result → IsTreated kept (Ok (Authority train)) before after old new writer_failed result
   denied_treated train track reply fault answer is whole committer same on since says receipts printed =
       idle_treated (Ok (Authority train)) reply whole committer same
-      (subst (λ a. IsAnsweredSince (λ t entries added. AnswersAsked t entries reply added train) before.seat.told after.seat.told (receipt_in a)) is
+      (subst (λ a. IsAnsweredSince (λ t entries added. AnswersAuthority t entries reply added train) before.seat.told after.seat.told (receipt_in a)) is
       (asked_at_desk train track reply answer before.seat after.seat on since says))
       (subst (λ a. OnErr a (after.seat.receipts ≡ before.seat.receipts)) is receipts) printed
 
@@ -118,12 +118,6 @@ module _ {L P E : Type 0} (kept : P → ℕ → Type 0) (sitting : Sitting L P) 
       treated_as kept sitting sitting old new writer_failed result (Err refusal) command is
       (idle_treated kept sitting sitting old new writer_failed result (Err refusal) (refused_reply track refusal) whole refl refl (ap (λ t. refused_reply t refusal) on, (refl, refl)) refl printed)
 
-  -- the line is no request
-  pub bad_line_treated : (line : List ℕ) (fault : LineFault) (track : Track) → track ≡ sitting.seat.told.track → parse_session line ≡ Err fault
-      → Prints old new writer_failed (refused_reply track (BadLine fault)) result → IsTreated kept (command_in sitting.seat.told.track line) sitting sitting old new writer_failed result
-  bad_line_treated line fault track on read printed =
-      refused_treated (command_in sitting.seat.told.track line) (BadLine fault) track on (line_is_bad sitting.seat.told.track line fault read) printed
-
 pub refused_treats : {L P : Type 0} (kept : P → ℕ → Type 0) (sitting : Sitting L P) → sitting.has_failed ≡ false → (line : List ℕ) (fault : LineFault) (track : Track) → track ≡ sitting.seat.told.track
     → parse_session line ≡ Err fault → Treats kept (command_in sitting.seat.told.track line) sitting (refused_reply track (BadLine fault)) sitting
 refused_treats kept sitting whole line fault track on read =
@@ -133,15 +127,6 @@ refused_treats kept sitting whole line fault track on read =
 -- a line that is too long is no request
 pub overlong_read : (line : List ℕ) → LONGEST_LINE < length line → parse_session line ≡ Err Overlong
 overlong_read line long = rw (lt-ltb LONGEST_LINE (length line) long) refl
-
--- ---- the command of a request
-
--- what a request asks for, as it was found
-pub asked_for : (track other : Track) (said : SessionLine) (found command : Command) → track ≡ other → found ≡ command → Ok found ≡ resolve track said → Ok command ≡ resolve other said
-asked_for track other said found command is same e = subst (λ t. Ok command ≡ resolve t said) is (subst (λ d. Ok d ≡ resolve track said) same e)
-
-pub refused_for : (track other : Track) (said : SessionLine) (refusal : SessionRefusal) → track ≡ other → Err refusal ≡ resolve track said → Err refusal ≡ resolve other said
-refused_for track other said refusal is e = subst (λ t. Err refusal ≡ resolve t said) is e
 
 -- ---- what a request adds
 
@@ -154,10 +139,10 @@ told_adds told receipt place old new said track opened since at on is form sayab
 
 -- what was granted is the entry that the train's request adds
 pub granted_adds : (train : ℕ) (reply : List ℕ) (granted : GrantedAtDesk) (answer : Result GrantedAtDesk (OrMemory AskFault)) (old new : Seated) (said : SessionLine) (track opened : Track) → answer ≡ Ok granted
-    → IsAnsweredThen old.told new.told train answer → ((scene : Scene) (most : ℕ) (entries : List Entry) → IsAnswered (history_on (begin_on track scene most) entries) train answer → AnswersAsked (begin_on track scene most) entries reply (entry_granted_in answer) train)
+    → IsAnsweredThen old.told new.told train answer → ((scene : Scene) (most : ℕ) (entries : List Entry) → IsAnswered (history_on (begin_on track scene most) entries) train answer → AnswersAuthority (begin_on track scene most) entries reply (entry_granted_in answer) train)
     → old.told.track ≡ opened → track ≡ opened → IsInForm track → IsSayable said → resolve opened said ≡ Ok (Authority train) → AddsEntry new.told granted.receipt.place said
 granted_adds train reply granted answer old new said track opened is since says on of_desk form sayable asks =
     let answered = asked_at_desk train track reply answer old new (on ∙ sym of_desk) since says in
-    since_adds (λ t entries added. AnswersAsked t entries reply added train) old.told new.told granted.receipt said (Ok (Authority train)) reply
-    (subst (λ a. IsAnsweredSince (λ t entries added. AnswersAsked t entries reply added train) old.told new.told (receipt_in a)) is answered)
-    (subst IsInForm (of_desk ∙ sym on) form) sayable (ap (λ t. resolve t said) on ∙ asks) (λ t entries answers. granted_alone t entries reply granted.receipt.entry train answers)
+    since_adds (λ t entries added. AnswersAuthority t entries reply added train) old.told new.told granted.receipt said (Ok (Authority train)) reply
+    (subst (λ a. IsAnsweredSince (λ t entries added. AnswersAuthority t entries reply added train) old.told new.told (receipt_in a)) is answered)
+    (subst IsInForm (of_desk ∙ sym on) form) sayable (ap (λ t. resolve t said) on ∙ asks) (λ t entries answers. answers)

@@ -1,7 +1,10 @@
 pub mod Answered
 pub mod Changes
+pub mod Due
 pub mod Hearings
 pub mod Keeping
+pub mod Resting
+pub mod SaidLines
 pub mod SeatChanges
 pub mod SeatSessions
 pub mod SeatAnswers

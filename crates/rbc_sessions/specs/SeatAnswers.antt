@@ -1,7 +1,6 @@
 -- What the lines of a session at a desk are answered: what they are answered in a session of its own, after a history that the seat is told.
-use Rattle.std.specs.Prelude.{◌≡◌, ℕ, List, [], ◌∷◌, ◌⊎◌}
-use Rattle.rbc_model.specs.Tracks.{Track}
-use Rattle.rbc_model.specs.SessionReply.{Full, Memory, refused_reply}
+use Rattle.std.specs.Prelude.{◌≡◌, List, [], ◌∷◌, ◌⊎◌}
+use Rattle.rbc_model.specs.SessionReply.{Memory, refused_reply}
 use Rattle.rbc_sweep.specs.Later.{IsLater}
 use Rattle.rbc_sweep.specs.Records.{begin_of, HistoryOnTrack}
 use Rattle.rbc_session_laws.specs.Answers.{line_answer}
@@ -19,11 +18,7 @@ pub record IsLineAnswer (begun : HistoryOnTrack) (turn : SeatTurn) : Type 0 wher
   pub next : IsNext before.entries turn.receipt
   pub told : turn.told ≡ with_added before (entry_in turn.receipt)
 
--- a line was not treated to its end: memory was refused, or the history was full by the time of a grant
-abbrev pub IsHeldUp : Track → List ℕ → Type 0
-IsHeldUp track reply = (reply ≡ refused_reply track Memory) ⊎ (reply ≡ refused_reply track Full)
-
--- so it is with each turn, from one history to the next
+-- so it is with each turn, from one history to the next, but where memory was refused
 abbrev pub AreLineAnswers : HistoryOnTrack → List SeatTurn → Type 0
 AreLineAnswers begun [] = Unit {0}
-AreLineAnswers begun (turn ∷ turns) = (IsHeldUp begun.track turn.reply ⊎ IsLineAnswer begun turn) × AreLineAnswers turn.told turns
+AreLineAnswers begun (turn ∷ turns) = ((turn.reply ≡ refused_reply begun.track Memory) ⊎ IsLineAnswer begun turn) × AreLineAnswers turn.told turns

@@ -1,11 +1,9 @@
 -- What the treatment of a line makes of a seat.
 use Rattle.std.specs.Prelude.{◌≡◌, ℕ, List, [], ◌∷◌, ◌++◌, Option, Result, Ok}
-use Rattle.rbc_model.specs.declared.reports.Told.{Told}
 use Rattle.rbc_model.specs.Histories.{Receipt}
 use Rattle.rbc_model.specs.SessionReply.{SessionRefusal}
 use Rattle.rbc_sweep.specs.Seats.{Seated}
 use Rattle.rbc_session_laws.specs.declared.command.Command.{Command}
-use Rattle.rbc_session_laws.specs.declared.command.Command.TheVariants.{Event}
 use Rattle.rbc_session_laws.specs.Commands.{command_in}
 use Rattle.rbc_sessions.specs.SeatTurns.{AnswersCommandAtDesk}
 use Rattle.rbc_sessions.specs.SeatSessions.{receipts_of}
@@ -20,8 +18,8 @@ SeatComes command before reply after =
 abbrev pub SeatGoes : Seated → List ℕ → List ℕ → Seated → Type 0
 SeatGoes before line reply after = SeatComes (command_in before.told.track line) before reply after
 
--- What is told, one after the other, is answered by this text, reply by reply, and leads from the one seat to the other.
-abbrev pub SeatHears : Seated → List Told → List ℕ → Seated → Type 0
+-- What is asked for, one after the other, is answered by this text, reply by reply, and leads from the one seat to the other.
+abbrev pub SeatHears : Seated → List Command → List ℕ → Seated → Type 0
 SeatHears before [] text after = (text ≡ []) × (after ≡ before)
-SeatHears before (told ∷ more) text after =
-    (reply : List ℕ) × (rest : List ℕ) × (next : Seated) × SeatComes (Ok (Event told)) before reply next × (text ≡ reply ++ rest) × SeatHears next more rest after
+SeatHears before (command ∷ more) text after =
+    (reply : List ℕ) × (rest : List ℕ) × (next : Seated) × SeatComes (Ok command) before reply next × (text ≡ reply ++ rest) × SeatHears next more rest after

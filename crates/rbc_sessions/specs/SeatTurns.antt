@@ -1,15 +1,14 @@
 -- A session at a desk: what a line is answered from a seat, which receipt the seat gains, and what it is told.
-use Rattle.std.specs.Prelude.{◌≡◌, ℕ, true, List, [], length, Option, option_map, is_some, Some, None, Result, Ok, Err, ◌⊎◌}
-use Rattle.rbc_model.specs.Histories.{Beginning, Entry, Receipt, is_full, replay}
-use Rattle.rbc_model.specs.Scenes.{train_numbered}
-use Rattle.rbc_model.specs.SessionReply.{SessionRefusal, Full, refused_reply}
+use Rattle.std.specs.Prelude.{◌≡◌, ℕ, List, [], length, Option, option_map, Some, None, Result, Ok, Err}
+use Rattle.rbc_model.specs.Histories.{Beginning, Entry, Receipt}
+use Rattle.rbc_model.specs.SessionReply.{SessionRefusal, refused_reply}
 use Rattle.rbc_sweep.specs.Later.{IsLater}
 use Rattle.rbc_sweep.specs.Records.{begin_of, HistoryOnTrack}
 use Rattle.rbc_session_laws.specs.declared.command.Command.{Command}
 use Rattle.rbc_session_laws.specs.declared.command.Command.TheVariants.{Nothing, Event, Authority, Show}
 use Rattle.rbc_sessions.specs.Changes.{with_added}
 use Rattle.rbc_session_laws.specs.Commands.{command_in}
-use Rattle.rbc_session_laws.specs.Turns.{IsRefused, IsGivenUp, AnswersEvent, AnswersAuthority, AnswersInquiry}
+use Rattle.rbc_session_laws.specs.Turns.{AnswersEvent, AnswersAuthority, AnswersInquiry}
 
 -- the entry that a receipt is for, if there is one
 abbrev pub entry_in : Option Receipt → Option Entry
@@ -29,16 +28,6 @@ pub record IsAnsweredSince (Answers : Beginning → List Entry → Option Entry 
   pub next : IsNext before.entries receipt
   pub told : after ≡ with_added before (entry_in receipt)
 
--- A train that is there is put off, whatever it would be shown: the history was full by the time of the grant, or memory was refused.
-abbrev pub IsPutOff : Beginning → List Entry → List ℕ → Option Entry → ℕ → Type 0
-IsPutOff begin entries reply added train =
-    (is_some (train_numbered (replay begin entries) train) ≡ true)
-    × (((is_full begin entries ≡ true) × IsRefused begin entries reply added Full) ⊎ IsGivenUp begin entries reply added)
-
--- What a train that asks at a desk is answered after these entries: what it would be answered alone, or it is put off.
-abbrev pub AnswersAsked : Beginning → List Entry → List ℕ → Option Entry → ℕ → Type 0
-AnswersAsked begin entries reply added train = AnswersAuthority begin entries reply added train ⊎ IsPutOff begin entries reply added train
-
 -- From a seat that had been told this history, and is told that one from then on, a line is answered by this reply, and the seat gains this receipt,
 -- or none.
 module _ (begun after : HistoryOnTrack) (reply : List ℕ) (receipt : Option Receipt) where
@@ -50,7 +39,7 @@ module _ (begun after : HistoryOnTrack) (reply : List ℕ) (receipt : Option Rec
   abbrev pub AnswersCommandAtDesk : Result Command SessionRefusal → Type 0
   AnswersCommandAtDesk (Ok Nothing) = (reply ≡ []) × IsIdle
   AnswersCommandAtDesk (Ok (Event told)) = IsAnsweredSince (λ begin entries added. AnswersEvent begin entries reply added told) begun after receipt
-  AnswersCommandAtDesk (Ok (Authority train)) = IsAnsweredSince (λ begin entries added. AnswersAsked begin entries reply added train) begun after receipt
+  AnswersCommandAtDesk (Ok (Authority train)) = IsAnsweredSince (λ begin entries added. AnswersAuthority begin entries reply added train) begun after receipt
   AnswersCommandAtDesk (Ok (Show inquiry)) = IsAnsweredSince (λ begin entries added. AnswersInquiry begin entries reply added inquiry) begun after receipt
   AnswersCommandAtDesk (Err refusal) = (reply ≡ refused_reply begun.track refusal) × IsIdle
 

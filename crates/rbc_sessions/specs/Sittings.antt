@@ -8,8 +8,9 @@ use Rattle.rbc_sweep.specs.Outcomes.{receipts_of}
 use Rattle.rbc_sweep.specs.declared.outcome.Outcome.{Outcome}
 use Rattle.rbc_session_laws.specs.declared.command.Command.{Command}
 use Rattle.rbc_session_laws.specs.Commands.{command_in}
-use Rattle.rbc_sessions.specs.SeatChanges.{SeatComes}
+use Rattle.rbc_sessions.specs.SeatChanges.{SeatComes, SeatHears}
 use Rattle.rbc_sessions.specs.SeatSessions.{SeatTurn, replies_at_seat}
+use Rattle.rbc_sessions.specs.declared.batch.TheConstants.{MOST_RESTING}
 use Rattle.rbc_sessions.specs.declared.grants.Rank.{Rank}
 use Rattle.rbc_sessions.specs.declared.sitting.Sitting.{Sitting}
 
@@ -41,14 +42,26 @@ IsTreated kept command before after old new writer_failed result =
 abbrev pub TreatsLine : {L P : Type 0} → (P → ℕ → Type 0) → Sitting L P → List ℕ → List ℕ → Sitting L P → Type 0
 TreatsLine kept before line text after = Treats kept (command_in before.seat.told.track line) before text after
 
+-- What is asked for, one after the other, leads from the one seat to the other. The replies are written once what led to all entries is kept; where that failed
+-- nothing is written.
+pub record Enters {L P : Type 0} (kept : P → ℕ → Type 0) (before : Sitting L P) (commands : List Command) (text : List ℕ) (after : Sitting L P) : Type 0 where
+  pub whole : before.has_failed ≡ false
+  pub replies : List ℕ
+  pub hears : SeatHears before.seat commands replies after.seat
+  pub gained : List Receipt
+  pub receipts : after.seat.receipts ≡ before.seat.receipts ++ gained
+  pub stays : StaysKept kept before.committer after.committer
+  pub said : after.has_failed ≡ false → (text ≡ replies) × All (λ (receipt : Receipt). kept after.committer receipt.place) gained
+  pub unsaid : after.has_failed ≡ true → text ≡ []
+
 -- What was written by a session of these turns is made of the replies to the first of them, in order, and what led to the entries of all these is kept.
--- These are all turns, unless keeping has failed: then all but the last.
+-- These are all turns, unless keeping has failed: then all but the last ones, which are no more than may rest.
 pub record AreToldKept (kept : ℕ → Type 0) (has_failed : Bool) (turns : List SeatTurn) (old new : Option (List ℕ)) : Type 0 where
   pub told : List SeatTurn
   pub untold : List SeatTurn
   pub all : turns ≡ told ++ untold
   pub none_untold : has_failed ≡ false → untold ≡ []
-  pub one_untold : length untold ≤ 1
+  pub few_untold : length untold ≤ MOST_RESTING
   pub written : WritesPart old new (replies_at_seat told)
   pub each : All (λ (turn : SeatTurn). IsKept kept turn.receipt) told
 

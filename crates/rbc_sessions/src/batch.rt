@@ -1,68 +1,181 @@
-//! What was told in a session and rests, until it is entered in one hold of the desk's lock.
+//! What was told or asked in a session and rests, until all of it is entered.
 
-ghost use Rattle.std.specs.Prelude.{◌≡◌, ◌++◌, ◌∷◌, [], ℕ, List, All, false, length, MatchBool};
-ghost use Rattle.std.specs.List.{flat_map};
-ghost use Rattle.rbc_model.specs.HistoryText.{IsToldOfTrack};
+ghost use Rattle.std.specs.Prelude.{◌≡◌, ◌≤◌, ◌+◌, ◌||◌, ◌++◌, ◌∷◌, [], ℕ, List, All, IfSome, MatchOption, true, false, drop, is_err, length, MatchBool};
+ghost use Rattle.std.specs.VecDeque.{deque_len};
 ghost use Rattle.rbc_model.specs.Sessions.{Prints};
-ghost use Rattle.rbc_replies.specs.Replies.{reply_text, ReplyIsWhole};
-ghost use Rattle.rbc_sessions.specs.SeatChanges.{SeatHears};
+ghost use Rattle.rbc_sessions.specs.Due.{AreSaidOf, CanBeSaid, IsSaidOf};
+ghost use Rattle.rbc_sessions.specs.Resting.{IsPrepared, command_of, commands_resting};
+ghost use Rattle.rbc_sessions.specs.Sittings.{Enters, StaysKept};
+ghost use Rattle.rbc_sessions.specs.declared.batch.Rested.TheVariants.{Told as RestedTold};
 
-use crate::{Keeper, SessionContext};
-use rbc_model::Told;
+use crate::context::reply_to;
+use crate::{Keeper, SessionContext, Sitting};
+use rbc_model::{OrMemory, Told, TrainId};
 use rbc_replies::{SessionReply, print};
+use rbc_session_laws::Command;
 use rbc_streams::{Sink, WriteFailed};
-use rbc_sweep::{DeskName, Gate, Seat, Track};
+use rbc_sweep::{AskFault, DeskName, Gate, Granted, Track};
 use std::alloc::Global;
+use std::collections::VecDeque;
 use std::marker::Model;
 use std::sync::Wait;
+use std::thread::Threads;
 
-/// What was told and rests, in order, and room for the replies to it. Contracts see it as what was told.
+/// How many lines of a session may rest: all others wait for the desk while these are entered.
+pub const MOST_RESTING: usize = 64;
+
+/// What a line that rests asks the desk for.
+#[derive(Clone, Copy)]
+pub(crate) enum Rested {
+    /// Something was told.
+    Told(Told),
+    /// A train asked for an authority.
+    Asked(TrainId),
+}
+
+/// What rests, and the text of its request, ready to be kept.
 #[derive(Drop)]
-pub(crate) struct Batch {
-    told: Vec<Told>,
-    replies: Vec<SessionReply<'static>>,
+pub(crate) struct Resting<T> {
+    pub(crate) rested: Rested,
+    pub(crate) text: T,
 }
 
-impl Model for Batch {
+/// A reply that is due to what rested.
+#[derive(Drop)]
+pub(crate) enum DueReply {
+    /// To what was told.
+    Told(SessionReply<'static>),
+    /// To a train that asked, by its answer.
+    Asked(TrainId, Result<Granted, OrMemory<AskFault>>),
+}
+
+/// What rests, in order, and room for the replies that are due to it then. Contracts see it as what rests.
+#[derive(Drop)]
+pub(crate) struct Batch<T> {
+    resting: VecDeque<Resting<T>>,
+    dues: Vec<DueReply>,
+}
+
+impl<T> Model for Batch<T> {
     ghost use Rattle.std.specs.Prelude.{◌≡◌, ◌≤◌, List, vec_len, vec_capacity};
-    ghost use Rattle.rbc_model.specs.declared.reports.Told.{Told};
+    ghost use Rattle.std.specs.VecDeque.{deque_len};
+    ghost use Rattle.rbc_sessions.specs.declared.batch.Resting.{Resting};
 
-    ghost Value = { List Told };
+    ghost Value = { List (Resting T) };
 
-    ghost view = { λ r. r.told.items };
+    ghost view = { λ r. r.resting.items };
 
-    ghost invariant = { λ r. (vec_len r.replies ≡ 0) × (vec_len r.told ≤ vec_capacity r.replies) };
+    ghost invariant = { λ r. (vec_len r.dues ≡ 0) × (deque_len r.resting ≤ vec_capacity r.dues) };
 }
 
-/// Prints replies, one behind another.
+/// What a line that asks for this may rest as: none, where it is neither told nor asks for an authority.
+pub(crate) fn rested_of(command: Command) -> Option<Rested>
+    ensures { IfSome result (λ rested. command_of rested ≡ command) }
+{
+    match command {
+        Command::Event(told) => Some(Rested::Told(told)),
+        Command::Authority(train) => Some(Rested::Asked(TrainId::new(train))),
+        Command::Nothing | Command::Show(_) => None,
+    }
+}
+
+/// Prints a reply that is due.
 ///
 /// # Errors
 ///
 /// The writer failed.
-fn print_all<W: Sink>(
-    track: &Track,
-    replies: &[SessionReply],
-    writer: &mut W,
-) -> Result<(), WriteFailed>
+fn print_due<W: Sink>(track: &Track, due: &DueReply, writer: &mut W) -> Result<(), WriteFailed>
     requires going { W.failed writer.old ≡ false }
-    requires whole { All (ReplyIsWhole track.now) replies.now }
-    ensures { Prints (W.written writer.old) (W.written writer.new) (W.failed writer.new)
-        (flat_map (reply_text track.now) replies.now) result }
+    requires due { CanBeSaid track.now due.now }
+    ensures { (text : List ℕ) × IsSaidOf track.now due.now text
+        × Prints (W.written writer.old) (W.written writer.new) (W.failed writer.new) text result }
 {
-    for reply in replies {
-        print(track, reply, writer)?;
+    match due {
+        DueReply::Told(reply) => print(track, reply, writer),
+        DueReply::Asked(train, answer) => print(track, &reply_to(track, *train, answer), writer),
+    }
+}
+
+/// Prints the replies that are due, one behind another.
+///
+/// # Errors
+///
+/// The writer failed.
+fn print_all<W: Sink>(track: &Track, dues: &[DueReply], writer: &mut W) -> Result<(), WriteFailed>
+    requires going { W.failed writer.old ≡ false }
+    requires dues { All (CanBeSaid track.now) dues.now }
+    requires some { (text : List ℕ) × AreSaidOf track.now dues.now text }
+    ensures { (text : List ℕ) × AreSaidOf track.now dues.now text
+        × Prints (W.written writer.old) (W.written writer.new) (W.failed writer.new) text result }
+{
+    for due in dues {
+        print_due(track, due, writer)?;
     }
     Ok(())
 }
 
-impl Batch {
+/// Prints the replies that are due, once all is kept that led to the receipts at a sitting, but for this number of them, which it had before.
+///
+/// # Errors
+///
+/// It could not be kept, and nothing is printed; or the writer failed.
+fn say_all<'a, L: DeskName, K: Keeper<L>, G: Gate, R: Wait, W: Sink>(
+    context: &SessionContext<'a, L, K, G, R>,
+    sitting: &mut Sitting<L, K::Committer>,
+    had: usize,
+    dues: &[DueReply],
+    writer: &mut W,
+) -> Result<(), WriteFailed>
+    requires going { W.failed writer.old ≡ false }
+    requires whole { sitting.old.has_failed ≡ false }
+    requires had { had ≤ length sitting.old.seat.receipts }
+    requires dues { All (CanBeSaid context.now.track.now) dues.now }
+    requires some { (text : List ℕ) × AreSaidOf context.now.track.now dues.now text }
+    ensures seat { sitting.new.seat ≡ sitting.old.seat }
+    ensures stays { StaysKept K.kept sitting.old.committer sitting.new.committer }
+    ensures kept { sitting.new.has_failed ≡ false
+        → All (λ receipt. K.kept sitting.new.committer receipt.place) (drop had sitting.old.seat.receipts) }
+    ensures said { sitting.new.has_failed ≡ false → (text : List ℕ) × AreSaidOf context.now.track.now dues.now text
+        × Prints (W.written writer.old) (W.written writer.new) (W.failed writer.new) text result }
+    ensures why { sitting.new.has_failed ≡ true → K.failed sitting.new.committer }
+    ensures unsaid { sitting.new.has_failed ≡ true → (writer.new ≡ writer.old) × (is_err result ≡ true) }
+{
+    match context.keep_behind(sitting, had) {
+        Ok(()) => print_all(context.track, dues, writer),
+        Err(_) => Err(WriteFailed),
+    }
+}
+
+/// Takes what was told in front of what rests, and its text, if something was.
+pub(crate) fn pop_told<T: Drop>(resting: &mut VecDeque<Resting<T>>) -> Option<(Told, T)>
+    ensures taken { MatchOption result (resting.new.items ≡ resting.old.items)
+        (λ one. resting.old.items ≡ record { rested = RestedTold one.0; text = one.1 } ∷ resting.new.items) }
+    ensures shorter { MatchOption result (deque_len resting.new ≡ deque_len resting.old)
+        (λ one. deque_len resting.new + 1 ≡ deque_len resting.old) }
+{
+    let told = match resting.front() {
+        Some(
+            Resting {
+                rested: Rested::Told(told),
+                ..
+            },
+        ) => *told,
+        _ => return None,
+    };
+    match resting.pop_front() {
+        Some(one) => Some((told, one.text)),
+        None => None,
+    }
+}
+
+impl<T: Drop> Batch<T> {
     /// Nothing rests.
-    pub(crate) fn new(alloc: Global) -> Batch
+    pub(crate) fn new(alloc: Global) -> Batch<T>
         ensures { result ≡ [] }
     {
         Batch {
-            told: Vec::new(alloc),
-            replies: Vec::new(alloc),
+            resting: VecDeque::new(alloc),
+            dues: Vec::new(alloc),
         }
     }
 
@@ -70,48 +183,57 @@ impl Batch {
     pub(crate) fn len(&self) -> usize
         ensures { result ≡ length self.now }
     {
-        self.told.len()
+        self.resting.len()
     }
 
-    /// Lets what is told rest behind the others, and tells whether there was memory for it.
-    pub(crate) fn push(&mut self, told: Told) -> bool
-        ensures { MatchBool result (self.new ≡ self.old ++ told ∷ []) (self.new ≡ self.old) }
+    /// Lets what a line asks for rest behind the others, and tells whether there was memory for it.
+    pub(crate) fn push(&mut self, one: Resting<T>) -> bool
+        ensures { MatchBool result (self.new ≡ self.old ++ one ∷ []) (self.new ≡ self.old) }
     {
-        let Batch {
-            told: batch,
-            replies,
-        } = self;
-        if replies.reserve(batch.len() + 1).is_err() || batch.reserve(1).is_err() {
+        let Batch { resting, dues } = self;
+        if dues.reserve(resting.len() + 1).is_err() || resting.reserve(1).is_err() {
             return false;
         }
-        batch.push_reserved(told);
+        resting.push_back_reserved(one);
         true
     }
 
-    /// Enters what rests from the seat, in one hold of the desk's lock, publishes it unless more comes, and prints the replies.
+    /// Enters what rests at a sitting, in order: what was told between two that ask in one hold of the desk's lock. It is published with the last
+    /// hold, unless more comes. The replies are printed once all that was entered is kept.
     ///
     /// # Errors
     ///
-    /// The writer failed. All is entered.
-    pub(crate) fn enter<'a, L: DeskName, K: Keeper<L>, G: Gate, R: Wait, W: Sink>(
+    /// What was entered could not be kept, and nothing is printed; or the writer failed. All is entered.
+    pub(crate) fn enter<
+        'a,
+        L: DeskName,
+        K: Keeper<L, Text = T>,
+        G: Gate,
+        R: Wait,
+        H: Threads + Sync,
+        W: Sink,
+    >(
         &mut self,
+        rt: &H,
         alloc: Global,
         context: &SessionContext<'a, L, K, G, R>,
-        seat: &mut Seat<L>,
+        sitting: &mut Sitting<L, K::Committer>,
         more: bool,
         writer: &mut W,
     ) -> Result<(), WriteFailed>
         requires going { W.failed writer.old ≡ false }
-        requires of_track { All (IsToldOfTrack L.opened.track) self.old }
+        requires whole { sitting.old.has_failed ≡ false }
+        requires each { All (IsPrepared L.opened.track K.says) self.old }
         ensures none_rests { self.new ≡ [] }
-        ensures heard { (text : List ℕ) × SeatHears seat.old self.old text seat.new
-            × Prints (W.written writer.old) (W.written writer.new) (W.failed writer.new) text result }
+        ensures why { sitting.new.has_failed ≡ true → K.failed sitting.new.committer }
+        ensures entered { (text : List ℕ) × Enters K.kept sitting.old (commands_resting self.old) text sitting.new
+            × Prints (W.written writer.old) (W.written writer.new) (sitting.new.has_failed || W.failed writer.new) text result }
     {
-        let Batch { told, replies } = self;
-        context.hear_all(alloc, seat, told.as_slice(), more, replies);
-        let printed = print_all(context.track, replies.as_slice(), writer);
-        told.clear();
-        replies.clear();
-        printed
+        let Batch { resting, dues } = self;
+        let had = sitting.seat.receipts().len();
+        context.enter_all(rt, alloc, &mut sitting.seat, resting, more, dues);
+        let said = say_all(context, sitting, had, dues.as_slice(), writer);
+        dues.clear();
+        said
     }
 }

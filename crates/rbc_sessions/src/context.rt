@@ -1,37 +1,42 @@
 //! What the seats of a desk have at hand, and how a line is treated from one.
 
-ghost use Rattle.std.specs.Prelude.{◌≡◌, ◌<◌, ◌≤◌, ℕ, List, All, true, false, Ok, IfOk, OnOk, is_err, length, vec_len, vec_capacity};
-ghost use Rattle.std.specs.List.{flat_map};
+ghost use Rattle.std.specs.Prelude.{◌≡◌, ◌<◌, ◌≤◌, ◌+◌, ◌∷◌, ℕ, List, [], All, true, false, Ok, IfOk, OnOk, OnErr, drop, is_err, length, vec_len, vec_capacity};
+ghost use Rattle.std.specs.VecDeque.{deque_len};
 ghost use Rattle.rbc_model.specs.Scenes.{Scene};
 ghost use Rattle.rbc_model.specs.Sessions.{Prints};
-ghost use Rattle.rbc_model.specs.SessionText.{SessionLine, IsSayable};
+ghost use Rattle.rbc_model.specs.SessionText.{IsSayable};
 ghost use Rattle.rbc_model.specs.Histories.{Entry};
 ghost use Rattle.rbc_model.specs.declared.limits.TheConstants.{MOST_ENTRIES};
 ghost use Rattle.rbc_sweep.specs.Records.{IsRight, begin_on, history_on};
 ghost use Rattle.rbc_sweep.specs.Asking.{IsAnswered};
 ghost use Rattle.rbc_replies.specs.Replies.{reply_text, ReplyIsWhole};
 ghost use Rattle.rbc_session_laws.specs.declared.command.Command.TheVariants.{Event, Authority, Show};
-ghost use Rattle.rbc_session_laws.specs.Commands.{command_in, resolve};
+ghost use Rattle.rbc_session_laws.specs.Commands.{resolve};
+ghost use Rattle.rbc_session_laws.specs.Turns.{AnswersAuthority};
 ghost use Rattle.rbc_model.specs.HistoryText.{IsToldOfTrack};
 ghost use Rattle.rbc_replies.specs.SessionLines.{request_view};
-ghost use Rattle.rbc_sessions.specs.Keeping.{AddsEntry};
-ghost use Rattle.rbc_sessions.specs.SeatChanges.{SeatComes, SeatHears};
-ghost use Rattle.rbc_sessions.specs.SeatTurns.{AnswersAsked};
+ghost use Rattle.rbc_sessions.specs.Due.{IsOwedSoFar, Owes, OwesAll};
+ghost use Rattle.rbc_sessions.specs.SeatChanges.{SeatComes};
+ghost use Rattle.rbc_sessions.specs.Resting.{IsPrepared, command_of, commands_resting};
+ghost use Rattle.rbc_sessions.specs.SaidLines.{asked_by, IsReadOn};
 ghost use Rattle.rbc_sessions.specs.Shown.{entry_granted_in};
+ghost use Rattle.rbc_sessions.specs.declared.batch.Rested.TheVariants.{Told as RestedTold, Asked as RestedAsked};
 ghost use Rattle.rbc_sessions.specs.Sittings.{IsTreated, StaysKept};
 
 use crate::asking::told_of;
-use crate::command::resolve;
+use crate::batch::{DueReply, Rested, Resting, pop_told};
+use crate::command::Said;
 use crate::telling::refusal_of;
 use crate::{Keeper, NotKept, Sitting};
 use rbc_lines::{print_shown, print_state};
 use rbc_model::{Inquiry, OrMemory, Refusal, Told, TrainId};
-use rbc_replies::words::{Request, parse};
+use rbc_replies::words::Request;
 use rbc_replies::{SessionRefusal, SessionReply, print};
 use rbc_session_laws::Command;
 use rbc_streams::{Sink, WriteFailed};
 use rbc_sweep::{AskFault, Desk, DeskName, Gate, Granted, Hold, Receipt, Seat, Track};
 use std::alloc::Global;
+use std::collections::VecDeque;
 use std::sync::Wait;
 use std::thread::Threads;
 
@@ -73,39 +78,66 @@ impl<'a, L: DeskName, K, G, R> SessionContext<'a, L, K, G, R> {
 }
 
 impl<'a, L: DeskName, K: Keeper<L>, G: Gate, R: Wait> SessionContext<'a, L, K, G, R> {
-    /// Keeps the request that led to the entry of a receipt.
+    /// Returns once the requests that led to the entries of these receipts are kept, each behind the one before it. Their lines were laid.
+    ///
+    /// # Errors
+    ///
+    /// One could not be kept.
+    fn keep_each(&self, committer: &mut K::Committer, receipts: &[Receipt]) -> Result<(), NotKept>
+        ensures kept { OnOk result (All (λ receipt. K.kept committer.new receipt.place) receipts.now) }
+        ensures failed { OnErr result (K.failed committer.new) }
+        ensures stays { StaysKept K.kept committer.old committer.new }
+    {
+        for receipt in receipts {
+            self.keeper.keep(self.waiting, committer, receipt)?;
+        }
+        Ok(())
+    }
+
+    /// Returns once the requests are kept that led to the entries of the receipts at a sitting, but for this number of them, which it had before.
+    ///
+    /// # Errors
+    ///
+    /// One could not be kept. Then the sitting has failed.
+    pub(crate) fn keep_behind(
+        &self,
+        sitting: &mut Sitting<L, K::Committer>,
+        had: usize,
+    ) -> Result<(), NotKept>
+        requires whole { sitting.old.has_failed ≡ false }
+        requires had { had ≤ length sitting.old.seat.receipts }
+        ensures seat { sitting.new.seat ≡ sitting.old.seat }
+        ensures failed { sitting.new.has_failed ≡ is_err result }
+        ensures why { sitting.new.has_failed ≡ true → K.failed sitting.new.committer }
+        ensures kept { OnOk result (All (λ receipt. K.kept sitting.new.committer receipt.place) (drop had sitting.old.seat.receipts)) }
+        ensures stays { StaysKept K.kept sitting.old.committer sitting.new.committer }
+    {
+        let kept = self.keep_each(&mut sitting.committer, &sitting.seat.receipts()[had..]);
+        sitting.has_failed = kept.is_err();
+        kept
+    }
+
+    /// Returns once the request that led to the entry of a receipt is kept, whose line was laid.
     ///
     /// # Errors
     ///
     /// It could not be kept. Then the sitting has failed.
-    fn keep(
-        &self,
-        sitting: &mut Sitting<L, K::Committer>,
-        receipt: &Receipt,
-        text: K::Text,
-    ) -> Result<(), NotKept>
+    fn keep(&self, sitting: &mut Sitting<L, K::Committer>, receipt: &Receipt) -> Result<(), NotKept>
         requires whole { sitting.old.has_failed ≡ false }
-        requires told { (request : SessionLine) × K.says text request
-            × AddsEntry sitting.old.seat.told receipt.now.place request }
         ensures seat { sitting.new.seat ≡ sitting.old.seat }
         ensures failed { sitting.new.has_failed ≡ is_err result }
         ensures why { sitting.new.has_failed ≡ true → K.failed sitting.new.committer }
         ensures kept { OnOk result (K.kept sitting.new.committer receipt.now.place) }
         ensures stays { StaysKept K.kept sitting.old.committer sitting.new.committer }
     {
-        let Sitting {
-            seat,
-            committer,
-            has_failed,
-        } = sitting;
         let kept = self
             .keeper
-            .keep(self.waiting, committer, seat, receipt, text);
-        *has_failed = kept.is_err();
+            .keep(self.waiting, &mut sitting.committer, receipt);
+        sitting.has_failed = kept.is_err();
         kept
     }
 
-    /// Prints the reply to what led to the entry of a receipt, once that is kept.
+    /// Prints the reply to what led to the entry of a receipt, once that is kept. Its line was laid.
     ///
     /// # Errors
     ///
@@ -114,14 +146,11 @@ impl<'a, L: DeskName, K: Keeper<L>, G: Gate, R: Wait> SessionContext<'a, L, K, G
         &self,
         sitting: &mut Sitting<L, K::Committer>,
         receipt: &Receipt,
-        text: K::Text,
         reply: &SessionReply,
         writer: &mut W,
     ) -> Result<(), WriteFailed>
         requires going { W.failed writer.old ≡ false }
         requires whole { sitting.old.has_failed ≡ false }
-        requires told { (request : SessionLine) × K.says text request
-            × AddsEntry sitting.old.seat.told receipt.now.place request }
         requires reply { ReplyIsWhole self.now.track.now reply.now }
         ensures seat { sitting.new.seat ≡ sitting.old.seat }
         ensures stays { StaysKept K.kept sitting.old.committer sitting.new.committer }
@@ -131,7 +160,7 @@ impl<'a, L: DeskName, K: Keeper<L>, G: Gate, R: Wait> SessionContext<'a, L, K, G
         ensures why { sitting.new.has_failed ≡ true → K.failed sitting.new.committer }
         ensures unsaid { sitting.new.has_failed ≡ true → (writer.new ≡ writer.old) × (is_err result ≡ true) }
     {
-        match self.keep(sitting, receipt, text) {
+        match self.keep(sitting, receipt) {
             Ok(()) => print(self.track, reply, writer),
             Err(_) => Err(WriteFailed),
         }
@@ -177,8 +206,9 @@ impl<'a, L: DeskName, K: Keeper<L>, G: Gate, R: Wait> SessionContext<'a, L, K, G
             .event_ahead(self.waiting, alloc, &mut sitting.seat, told)
         {
             Ok(receipt) => {
+                self.keeper.lay(self.waiting, &sitting.seat, &receipt, text);
                 let accepted = SessionReply::Accepted(receipt.place() + 1);
-                self.say(sitting, &receipt, text, &accepted, writer)
+                self.say(sitting, &receipt, &accepted, writer)
             }
             Err(fault) => print(
                 self.track,
@@ -224,7 +254,11 @@ impl<'a, L: DeskName, K: Keeper<L>, G: Gate, R: Wait> SessionContext<'a, L, K, G
         let answer = self.desk.ask_by(rt, self.waiting, alloc, &mut sitting.seat, train, self.gate);
         let reply = reply_to(self.track, train, &answer);
         match &answer {
-            Ok(granted) => self.say(sitting, &granted.receipt, text, &reply, writer),
+            Ok(granted) => {
+                self.keeper
+                    .lay(self.waiting, &sitting.seat, &granted.receipt, text);
+                self.say(sitting, &granted.receipt, &reply, writer)
+            }
             Err(_) => print(self.track, &reply, writer),
         }
     }
@@ -266,115 +300,174 @@ impl<'a, L: DeskName, K: Keeper<L>, G: Gate, R: Wait> SessionContext<'a, L, K, G
         }
     }
 
-    /// Treats what a line says.
+    /// Treats a line, of which this was read.
     ///
     /// # Errors
     ///
     /// The reply is not printed whole: the writer failed, or what led to the entry could not be kept.
-    fn treat<T: Threads + Sync, W: Sink>(
+    pub(crate) fn treat<T: Threads + Sync, W: Sink>(
         &self,
         rt: &T,
         alloc: Global,
         sitting: &mut Sitting<L, K::Committer>,
-        request: &Request,
+        read: &Result<Said, SessionRefusal>,
         writer: &mut W,
     ) -> Result<(), WriteFailed>
         requires going { W.failed writer.old ≡ false }
         requires whole { sitting.old.has_failed ≡ false }
-        requires sayable { IsSayable (request_view request.now) }
+        requires read { IsReadOn L.opened.track read.now }
         ensures why { sitting.new.has_failed ≡ true → K.failed sitting.new.committer }
-        ensures treated { IsTreated K.kept (resolve sitting.old.seat.told.track (request_view request.now)) sitting.old sitting.new
+        ensures treated { IsTreated K.kept (asked_by read.now) sitting.old sitting.new
             (W.written writer.old) (W.written writer.new) (W.failed writer.new) result }
     {
         // What the seat was told is on the desk's track.
         sitting.seat.known();
-        match resolve(self.track, *request) {
-            Ok(Command::Nothing) => print(self.track, &SessionReply::Nothing, writer),
-            Ok(Command::Event(told)) => self.tell(alloc, sitting, request, told, writer),
-            Ok(Command::Authority(number)) => {
-                let train = TrainId::new(number);
-                self.ask(rt, alloc, sitting, request, train, writer)
-            }
-            Ok(Command::Show(inquiry)) => self.show(alloc, sitting, inquiry, writer),
-            Err(refusal) => print(self.track, &SessionReply::Refused(refusal), writer),
+        match read {
+            Ok(said) => match said.command {
+                Command::Nothing => print(self.track, &SessionReply::Nothing, writer),
+                Command::Event(told) => self.tell(alloc, sitting, &said.request, told, writer),
+                Command::Authority(number) => {
+                    let train = TrainId::new(number);
+                    self.ask(rt, alloc, sitting, &said.request, train, writer)
+                }
+                Command::Show(inquiry) => self.show(alloc, sitting, inquiry, writer),
+            },
+            Err(refusal) => print(self.track, &SessionReply::Refused(*refusal), writer),
         }
     }
 
-    /// Treats a line.
-    ///
-    /// # Errors
-    ///
-    /// The reply is not printed whole: the writer failed, or what led to the entry could not be kept.
-    pub(crate) fn treat_line<T: Threads + Sync, W: Sink>(
+    /// Enters what rests, in order, and gives the replies that are due. The line of each entry is laid as it is entered. There is room for the
+    /// replies. What was told last is published with its hold, unless more comes.
+    pub(crate) fn enter_all<T: Threads + Sync>(
         &self,
         rt: &T,
         alloc: Global,
-        sitting: &mut Sitting<L, K::Committer>,
-        line: &[u8],
-        writer: &mut W,
-    ) -> Result<(), WriteFailed>
-        requires going { W.failed writer.old ≡ false }
-        requires whole { sitting.old.has_failed ≡ false }
-        ensures why { sitting.new.has_failed ≡ true → K.failed sitting.new.committer }
-        ensures treated { IsTreated K.kept (command_in sitting.old.seat.told.track line.now) sitting.old sitting.new
-            (W.written writer.old) (W.written writer.new) (W.failed writer.new) result }
+        seat: &mut Seat<L>,
+        resting: &mut VecDeque<Resting<K::Text>>,
+        more: bool,
+        dues: &mut Vec<DueReply>,
+    )
+        requires each { All (IsPrepared L.opened.track K.says) resting.old.items }
+        requires none { vec_len dues.old ≡ 0 }
+        requires room { deque_len resting.old ≤ vec_capacity dues.old }
+        ensures none_rests { resting.new.items ≡ [] }
+        ensures owes { OwesAll self.now.track.now seat.old (commands_resting resting.old.items) dues.new.items seat.new }
     {
-        // What the seat was told is on the desk's track.
-        sitting.seat.known();
-        match parse(line) {
-            Ok(request) => self.treat(rt, alloc, sitting, &request, writer),
-            Err(fault) => {
-                let refused = SessionReply::Refused(SessionRefusal::BadLine(fault));
-                print(self.track, &refused, writer)
+        while let Some(one) = resting.pop_front() {
+            self.enter_one(rt, alloc, seat, one, resting, more, dues);
+        }
+    }
+
+    /// Enters what rested, and where it was told, all that was told behind it too.
+    fn enter_one<T: Threads + Sync>(
+        &self,
+        rt: &T,
+        alloc: Global,
+        seat: &mut Seat<L>,
+        one: Resting<K::Text>,
+        resting: &mut VecDeque<Resting<K::Text>>,
+        more: bool,
+        dues: &mut Vec<DueReply>,
+    )
+        requires one { IsPrepared L.opened.track K.says one }
+        requires each { All (IsPrepared L.opened.track K.says) resting.old.items }
+        requires room { vec_len dues.old + deque_len resting.old + 1 ≤ vec_capacity dues.old }
+        ensures each { All (IsPrepared L.opened.track K.says) resting.new.items }
+        ensures room { vec_len dues.new + deque_len resting.new ≤ vec_capacity dues.new }
+        ensures shorter { deque_len resting.new ≤ deque_len resting.old }
+        ensures owes { IsOwedSoFar self.now.track.now seat.old (command_of one.rested ∷ commands_resting resting.old.items)
+            dues.old.items seat.new (commands_resting resting.new.items) dues.new.items }
+    {
+        let Resting { rested, text } = one;
+        match rested {
+            Rested::Told(told) => self.hear_run(alloc, seat, (told, text), resting, more, dues),
+            Rested::Asked(train) => {
+                dues.push_reserved(self.ask_at_rest(rt, alloc, seat, train, text));
             }
         }
     }
 
-    /// Treats what is told, all of it in one hold of the desk's lock, and publishes it unless more comes.
-    /// There is room for the replies.
-    pub(crate) fn hear_all(
+    /// Enters what is told, and all that was told behind it up to a train that asks, in one hold of the desk's lock. Where nothing rests then, it is
+    /// published, unless more comes.
+    fn hear_run(
         &self,
         alloc: Global,
         seat: &mut Seat<L>,
-        told: &[Told],
+        first: (Told, K::Text),
+        resting: &mut VecDeque<Resting<K::Text>>,
         more: bool,
-        replies: &mut Vec<SessionReply<'static>>,
+        dues: &mut Vec<DueReply>,
     )
-        requires of_track { All (IsToldOfTrack L.opened.track) told.now }
-        requires none { vec_len replies.old ≡ 0 }
-        requires room { length told.now ≤ vec_capacity replies.old }
-        ensures hears { SeatHears seat.old told.now (flat_map (reply_text self.now.track.now) replies.new.items) seat.new }
-        ensures whole { All (ReplyIsWhole self.now.track.now) replies.new.items }
+        requires first { IsPrepared L.opened.track K.says (record { rested = RestedTold first.0; text = first.1 }) }
+        requires each { All (IsPrepared L.opened.track K.says) resting.old.items }
+        requires room { vec_len dues.old + deque_len resting.old + 1 ≤ vec_capacity dues.old }
+        ensures each { All (IsPrepared L.opened.track K.says) resting.new.items }
+        ensures room { vec_len dues.new + deque_len resting.new ≤ vec_capacity dues.new }
+        ensures shorter { deque_len resting.new ≤ deque_len resting.old }
+        ensures owes { IsOwedSoFar self.now.track.now seat.old (Event first.0 ∷ commands_resting resting.old.items)
+            dues.old.items seat.new (commands_resting resting.new.items) dues.new.items }
     {
         let mut hold = self.desk.hold(self.waiting);
-        for one in told {
-            replies.push_reserved(self.hear(alloc, &mut hold, seat, one));
+        let (told, text) = first;
+        dues.push_reserved(DueReply::Told(self.hear(alloc, &mut hold, seat, told, text)));
+        while let Some((told, text)) = pop_told(resting) {
+            dues.push_reserved(DueReply::Told(self.hear(alloc, &mut hold, seat, told, text)));
         }
-        if !more {
+        if !more && resting.is_empty() {
             hold.publish(self.waiting, alloc, seat);
         }
         hold.leave();
     }
 
-    /// Treats what is told in a hold of the desk's lock, and gives the reply to it.
+    /// Enters what was told in a hold of the desk's lock, lays the line of its entry, and gives the reply to it.
     fn hear(
         &self,
         alloc: Global,
         hold: &mut Hold<'_, L>,
         seat: &mut Seat<L>,
-        told: &Told,
+        told: Told,
+        text: K::Text,
     ) -> SessionReply<'static>
-        requires { IsToldOfTrack L.opened.track told.now }
-        ensures comes { SeatComes (Ok (Event told.now)) seat.old (reply_text self.now.track.now result) seat.new }
+        requires { IsPrepared L.opened.track K.says (record { rested = RestedTold told; text = text }) }
+        ensures comes { SeatComes (Ok (Event told)) seat.old (reply_text self.now.track.now result) seat.new }
         ensures whole { ReplyIsWhole self.now.track.now result }
     {
         // What a refusal names is of the track, since the track is sound. What the seat was told is on it.
         self.track.known();
         seat.known();
-        match hold.event(self.waiting, alloc, seat, told) {
-            Ok(receipt) => SessionReply::Accepted(receipt.place() + 1),
+        match hold.event(self.waiting, alloc, seat, &told) {
+            Ok(receipt) => {
+                self.keeper.lay(self.waiting, seat, &receipt, text);
+                SessionReply::Accepted(receipt.place() + 1)
+            }
             Err(fault) => SessionReply::Refused(refusal_of(fault)),
         }
+    }
+
+    /// Answers a train that asked, lays the line of what it is granted, and gives the reply that is due.
+    fn ask_at_rest<T: Threads + Sync>(
+        &self,
+        rt: &T,
+        alloc: Global,
+        seat: &mut Seat<L>,
+        train: TrainId,
+        text: K::Text,
+    ) -> DueReply
+        requires prepared { IsPrepared L.opened.track K.says (record { rested = RestedAsked train; text = text }) }
+        ensures { Owes self.now.track.now seat.old (Authority train) result seat.new }
+    {
+        // What a reply names is of the track, since the track is sound. What the seat was told is on it.
+        self.track.known();
+        seat.known();
+        let answer = self
+            .desk
+            .ask_by(rt, self.waiting, alloc, seat, train, self.gate);
+        // The answer has a right reply. It is made once more where it is printed.
+        let _ = reply_to(self.track, train, &answer);
+        if let Ok(granted) = &answer {
+            self.keeper.lay(self.waiting, seat, &granted.receipt, text);
+        }
+        DueReply::Asked(train, answer)
     }
 
     /// Publishes what the seat was told, and is not published yet.
@@ -393,7 +486,7 @@ pub(crate) fn reply_to<'a>(
 ) -> SessionReply<'a>
     requires { IfOk answer.now (λ granted. granted.receipt.place < MOST_ENTRIES) }
     ensures comes { (scene : Scene) (most : ℕ) (entries : List Entry) → IsAnswered (history_on (begin_on track.now scene most) entries) train answer.now
-        → AnswersAsked (begin_on track.now scene most) entries (reply_text track.now result) (entry_granted_in answer.now) train }
+        → AnswersAuthority (begin_on track.now scene most) entries (reply_text track.now result) (entry_granted_in answer.now) train }
     ensures whole { (scene : Scene) (most : ℕ) (entries : List Entry)
         → IsRight (history_on (begin_on track.now scene most) entries)
         → IsAnswered (history_on (begin_on track.now scene most) entries) train answer.now

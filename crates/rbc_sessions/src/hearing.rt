@@ -1,35 +1,37 @@
-//! A sitting in a session answers lines. What is told rests, so that it is entered in one hold of the desk's lock.
+//! A sitting in a session answers lines. What is told or asked rests, so that all of it is kept at once, and what is told is entered in one hold of the
+//! desk's lock.
 
-ghost use Rattle.std.specs.Prelude.{◌≡◌, ◌||◌, [], ℕ, List, true, false, MatchBool};
+ghost use Rattle.std.specs.Prelude.{◌≡◌, ◌≤◌, ◌||◌, ◌⊎◌, [], ℕ, List, All, true, false, length, MatchBool};
 ghost use Rattle.rbc_model.specs.Sessions.{Prints};
-ghost use Rattle.rbc_sessions.specs.Hearings.{CatchesUp, CatchesUpAndTreats, IsGoing, Rests};
+ghost use Rattle.rbc_session_laws.specs.Commands.{command_in};
+ghost use Rattle.rbc_sessions.specs.Hearings.{BreaksOff, CatchesUp, CatchesUpAndTreats, IsGoing, Rests};
+ghost use Rattle.rbc_sessions.specs.Resting.{IsPrepared};
+ghost use Rattle.rbc_sessions.specs.SaidLines.{asked_by, IsReadOn};
+ghost use Rattle.rbc_sessions.specs.declared.batch.TheConstants.{MOST_RESTING};
 
-use crate::batch::Batch;
+use crate::batch::{Batch, MOST_RESTING, Resting, rested_of};
+use crate::command::{Said, said_in};
 use crate::null_sink::NullSink;
-use crate::{Keeper, SessionContext, Sitting, command_in};
+use crate::{Keeper, SessionContext, Sitting};
 use rbc_model::LineFault;
 use rbc_model::limits::LONGEST_LINE;
 use rbc_replies::{SessionRefusal, SessionReply, print};
-use rbc_session_laws::Command;
 use rbc_streams::{LineHandler, Sink, WriteFailed};
 use rbc_sweep::{DeskName, Gate};
 use std::alloc::Global;
 use std::sync::Wait;
 use std::thread::Threads;
 
-/// How many lines may rest: all others wait for the desk while these are entered.
-const MOST_RESTING: usize = 64;
-
-/// A sitting in a session, and what was told at it and rests.
+/// A sitting in a session, and what was told or asked at it and rests.
 #[derive(Drop)]
-pub(crate) struct Hearing<L: DeskName, P> {
+pub(crate) struct Hearing<L: DeskName, P, T> {
     pub(crate) sitting: Sitting<L, P>,
-    batch: Batch,
+    batch: Batch<T>,
 }
 
-impl<L: DeskName, P: Drop> Hearing<L, P> {
+impl<L: DeskName, P: Drop, T: Drop> Hearing<L, P, T> {
     /// The sitting, at which nothing was told yet.
-    pub(crate) fn new(alloc: Global, sitting: Sitting<L, P>) -> Hearing<L, P>
+    pub(crate) fn new(alloc: Global, sitting: Sitting<L, P>) -> Hearing<L, P, T>
         ensures sitting { result.sitting ≡ sitting }
         ensures none_rests { result.batch ≡ [] }
     {
@@ -39,52 +41,70 @@ impl<L: DeskName, P: Drop> Hearing<L, P> {
         }
     }
 
-    /// Lets a line rest, if it is told and nothing has to be kept of it, and tells whether it does.
-    fn rest<'a, K: Keeper<L, Committer = P>, G: Gate, R: Wait>(
+    /// Lets a line rest, of which this was read, if it is told or asks for an authority, and there is memory for it. It tells whether it does.
+    fn rest<'a, K: Keeper<L, Committer = P, Text = T>, G: Gate, R: Wait>(
         &mut self,
+        alloc: Global,
         context: &SessionContext<'a, L, K, G, R>,
-        line: &[u8],
+        read: &Result<Said, SessionRefusal>,
     ) -> bool
-        requires { IsGoing L.opened.track K.kept self.old }
-        ensures { MatchBool result (Rests L.opened.track K.kept self.old line.now self.new) (self.new ≡ self.old) }
+        requires going { IsGoing L.opened.track K.says self.old }
+        requires read { IsReadOn L.opened.track read.now }
+        ensures { MatchBool result ((line : List ℕ) → command_in L.opened.track line ≡ asked_by read.now
+            → Rests L.opened.track K.says self.old line self.new) (self.new ≡ self.old) }
     {
         // What the seat was told is on the desk's track.
         self.sitting.seat.known();
-        if !context.keeper.keeps_nothing() {
+        let Ok(said) = read else {
             return false;
-        }
-        match command_in(context.track, line) {
-            Ok(Command::Event(told)) => self.batch.push(told),
-            _ => false,
+        };
+        let Some(rested) = rested_of(said.command) else {
+            return false;
+        };
+        match context.keeper.prepare(alloc, &said.request) {
+            Ok(text) => self.batch.push(Resting { rested, text }),
+            Err(_) => false,
         }
     }
 
-    /// Enters what rests, in one hold of the desk's lock, publishes it unless more comes, and prints the replies to it.
+    /// Enters what rests, publishes it unless more comes, and prints the replies to it once it is kept.
     ///
     /// # Errors
     ///
-    /// The writer failed. All is entered.
-    fn catch_up<'a, K: Keeper<L, Committer = P>, G: Gate, R: Wait, W: Sink>(
+    /// What was entered could not be kept; or the writer failed. All is entered.
+    fn catch_up<
+        'a,
+        K: Keeper<L, Committer = P, Text = T>,
+        G: Gate,
+        R: Wait,
+        H: Threads + Sync,
+        W: Sink,
+    >(
         &mut self,
+        rt: &H,
         alloc: Global,
         context: &SessionContext<'a, L, K, G, R>,
         more: bool,
         writer: &mut W,
     ) -> Result<(), WriteFailed>
         requires going { W.failed writer.old ≡ false }
-        requires ready { IsGoing L.opened.track K.kept self.old }
-        ensures { (text : List ℕ) × CatchesUp K.kept self.old text self.new
-            × Prints (W.written writer.old) (W.written writer.new) (W.failed writer.new) text result }
+        requires whole { self.old.sitting.has_failed ≡ false }
+        requires each { All (IsPrepared L.opened.track K.says) self.old.batch }
+        requires few { length self.old.batch ≤ MOST_RESTING }
+        ensures none_rests { self.new.batch ≡ [] }
+        ensures why { self.new.sitting.has_failed ≡ true → K.failed self.new.sitting.committer }
+        ensures caught_up { (text : List ℕ) × CatchesUp K.kept self.old text self.new
+            × Prints (W.written writer.old) (W.written writer.new) (self.new.sitting.has_failed || W.failed writer.new) text result }
     {
         if self.batch.len() == 0 {
             return Ok(());
         }
         let Hearing { sitting, batch } = self;
-        batch.enter(alloc, context, &mut sitting.seat, more, writer)
+        batch.enter(rt, alloc, context, sitting, more, writer)
     }
 
     /// Publishes what was told or granted before the connection is read again, or ends.
-    fn publish<'a, K: Keeper<L, Committer = P>, G: Gate, R: Wait>(
+    fn publish<'a, K: Keeper<L, Committer = P, Text = T>, G: Gate, R: Wait>(
         &mut self,
         alloc: Global,
         context: &SessionContext<'a, L, K, G, R>,
@@ -98,40 +118,62 @@ impl<L: DeskName, P: Drop> Hearing<L, P> {
         }
     }
 
-    /// Enters what rests, and then treats a line. Where the replies to what rested could not be printed, the reply to the line
-    /// is not either.
+    /// Enters what rests, and then treats a line, of which this was read. Where the replies to what rested could not be printed, the reply to the line
+    /// is not either. Where what rested could not be kept, the line is not treated.
     ///
     /// # Errors
     ///
-    /// The writer failed, or what led to the entry could not be kept.
-    fn treat<'a, K: Keeper<L, Committer = P>, G: Gate, R: Wait, T: Threads + Sync, W: Sink>(
+    /// The writer failed, or what led to an entry could not be kept.
+    fn treat<
+        'a,
+        K: Keeper<L, Committer = P, Text = T>,
+        G: Gate,
+        R: Wait,
+        H: Threads + Sync,
+        W: Sink,
+    >(
         &mut self,
-        rt: &T,
+        rt: &H,
         alloc: Global,
         context: &SessionContext<'a, L, K, G, R>,
-        line: &[u8],
+        read: &Result<Said, SessionRefusal>,
         writer: &mut W,
     ) -> Result<(), WriteFailed>
         requires going { W.failed writer.old ≡ false }
-        requires ready { IsGoing L.opened.track K.kept self.old }
+        requires ready { IsGoing L.opened.track K.says self.old }
+        requires read { IsReadOn L.opened.track read.now }
+        ensures none_rests { self.new.batch ≡ [] }
         ensures why { self.new.sitting.has_failed ≡ true → K.failed self.new.sitting.committer }
-        ensures treated { (reply : List ℕ) × CatchesUpAndTreats K.kept self.old line.now reply self.new
+        ensures treated { (reply : List ℕ) × ((line : List ℕ) → command_in L.opened.track line ≡ asked_by read.now
+            → CatchesUpAndTreats K.kept self.old line reply self.new ⊎ BreaksOff K.kept self.old reply self.new)
             × Prints (W.written writer.old) (W.written writer.new) (self.new.sitting.has_failed || W.failed writer.new) reply result }
     {
-        match self.catch_up(alloc, context, true, writer) {
-            Ok(()) => context.treat_line(rt, alloc, &mut self.sitting, line, writer),
+        let caught_up = self.catch_up(rt, alloc, context, true, writer);
+        if self.sitting.has_failed {
+            return caught_up;
+        }
+        // What the seat was told is on the desk's track.
+        self.sitting.seat.known();
+        match caught_up {
+            Ok(()) => context.treat(rt, alloc, &mut self.sitting, read, writer),
             Err(failed) => {
-                let _ = context.treat_line(rt, alloc, &mut self.sitting, line, &mut NullSink);
+                let _ = context.treat(rt, alloc, &mut self.sitting, read, &mut NullSink);
                 Err(failed)
             }
         }
     }
 }
 
-impl<'a, L: DeskName, P: Drop, K: Keeper<L, Committer = P>, G: Gate, R: Wait> LineHandler<
-    SessionContext<'a, L, K, G, R>,
-> for Hearing<L, P> {
-    type State = Hearing<L, P>;
+impl<
+    'a,
+    L: DeskName,
+    P: Drop,
+    T: Drop,
+    K: Keeper<L, Committer = P, Text = T>,
+    G: Gate,
+    R: Wait,
+> LineHandler<SessionContext<'a, L, K, G, R>> for Hearing<L, P, T> {
+    type State = Hearing<L, P, T>;
 
     ghost use Rattle.std.specs.Prelude.{◌≡◌, ◌≤◌, false, length};
     ghost use Rattle.rbc_model.specs.declared.limits.TheConstants.{LONGEST_CHECK_LINE, LONGEST_LINE};
@@ -141,11 +183,11 @@ impl<'a, L: DeskName, P: Drop, K: Keeper<L, Committer = P>, G: Gate, R: Wait> Li
 
     ghost state = { λ hearing. hearing };
 
-    ghost answers = { Advances L.opened.track K.kept K.failed };
+    ghost answers = { Advances L.opened.track K.says K.kept K.failed };
 
     ghost rests = { λ hearing. length hearing.batch };
 
-    ghost ready = { IsGoing L.opened.track K.kept };
+    ghost ready = { IsGoing L.opened.track K.says };
 
     ghost broken = { λ hearing. hearing.sitting.has_failed };
 
@@ -160,24 +202,25 @@ impl<'a, L: DeskName, P: Drop, K: Keeper<L, Committer = P>, G: Gate, R: Wait> Li
         LONGEST_LINE
     }
 
-    fn answer<T: Threads + Sync, W: Sink>(
+    fn answer<H: Threads + Sync, W: Sink>(
         &mut self,
-        rt: &T,
+        rt: &H,
         alloc: Global,
         context: &SessionContext<'a, L, K, G, R>,
         line: &[u8],
         more: bool,
         writer: &mut W,
     ) -> Result<(), WriteFailed> {
-        if self.rest(context, line) {
+        let read = said_in(context.track, line);
+        if self.rest(alloc, context, &read) {
             if more && self.batch.len() < MOST_RESTING {
                 return Ok(());
             }
-            let said = self.catch_up(alloc, context, more, writer);
+            let said = self.catch_up(rt, alloc, context, more, writer);
             self.publish(alloc, context, more, &said);
             return said;
         }
-        let said = self.treat(rt, alloc, context, line, writer);
+        let said = self.treat(rt, alloc, context, &read, writer);
         self.publish(alloc, context, more, &said);
         said
     }

@@ -1,6 +1,6 @@
 //! What keeps the requests that led to entries, before these are answered.
 
-ghost use Rattle.std.specs.Prelude.{◌≡◌, ℕ, true, Ok, IfOk, OnOk, OnErr, IsTrue};
+ghost use Rattle.std.specs.Prelude.{◌≡◌, ℕ, Ok, IfOk, OnOk, OnErr};
 ghost use Rattle.rbc_model.specs.SessionText.{SessionLine, IsSayable};
 ghost use Rattle.rbc_sessions.specs.Keeping.{AddsEntry};
 ghost use Rattle.rbc_replies.specs.SessionLines.{request_view};
@@ -45,10 +45,6 @@ pub trait Keeper<L: DeskName> {
     /// The text says this.
     ghost says: { Self.Text → SessionLine → Type 0 };
 
-    /// Whether it keeps nothing, since nothing has to be kept. Then any entry counts as kept at once.
-    fn keeps_nothing(&self) -> bool
-        ensures { IsTrue result → (committer : Self.Committer) (place : ℕ) → kept committer place };
-
     /// Takes memory for a request, before anything is made of it.
     ///
     /// # Errors
@@ -58,21 +54,23 @@ pub trait Keeper<L: DeskName> {
         requires sayable { IsSayable (request_view request.now) }
         ensures says { IfOk result (λ text. says text (request_view request.now)) };
 
-    /// Keeps the request that led to the entry of a receipt, by what the seat was told. It may wait until those of all
-    /// entries before it are laid, too.
+    /// Lays the line of the request that led to the entry of a receipt, by what the seat was told. It is kept with those of the entries
+    /// before it, once these are laid.
+    fn lay<R: Wait>(&self, rt: &R, seat: &Seat<L>, receipt: &Receipt, text: Self::Text)
+        requires told { (request : SessionLine) × says text request × AddsEntry seat.now.told receipt.now.place request };
+
+    /// Returns once the request that led to the entry of a receipt is kept, whose line was laid. It may wait until those of all
+    /// entries before it are laid, too. A request that the committer knows to be kept is not waited for.
     ///
     /// # Errors
     ///
-    /// It has failed. What it kept before is still kept.
+    /// Keeping has failed. What was kept before is still kept.
     fn keep<R: Wait>(
         &self,
         rt: &R,
         committer: &mut Self::Committer,
-        seat: &Seat<L>,
         receipt: &Receipt,
-        text: Self::Text,
     ) -> Result<(), NotKept>
-        requires told { (request : SessionLine) × says text request × AddsEntry seat.now.told receipt.now.place request }
         ensures kept { OnOk result (kept committer.new receipt.now.place) }
         ensures failed { OnErr result (failed committer.new) }
         ensures stays { (place : ℕ) → kept committer.old place → kept committer.new place };
@@ -93,12 +91,6 @@ impl<L: DeskName> Keeper<L> for NoJournal {
 
     ghost says = { λ _ _. Unit {0} };
 
-    fn keeps_nothing(&self) -> bool
-        ensures { result ≡ true }
-    {
-        true
-    }
-
     /// It takes no memory, so it never fails.
     fn prepare(&self, _alloc: Global, _request: &Request) -> Result<(), Memory>
         ensures { result ≡ Ok tt }
@@ -106,15 +98,11 @@ impl<L: DeskName> Keeper<L> for NoJournal {
         Ok(())
     }
 
+    /// It does nothing.
+    fn lay<R: Wait>(&self, _rt: &R, _seat: &Seat<L>, _receipt: &Receipt, _text: ()) {}
+
     /// It never fails.
-    fn keep<R: Wait>(
-        &self,
-        _rt: &R,
-        _committer: &mut (),
-        _seat: &Seat<L>,
-        _receipt: &Receipt,
-        _text: (),
-    ) -> Result<(), NotKept>
+    fn keep<R: Wait>(&self, _rt: &R, _committer: &mut (), _receipt: &Receipt) -> Result<(), NotKept>
         ensures { result ≡ Ok tt }
     {
         Ok(())

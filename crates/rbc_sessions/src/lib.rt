@@ -18,6 +18,7 @@ mod sitting;
 mod telling;
 
 pub use asking::{commit, stopped, told_of};
+pub use batch::MOST_RESTING;
 pub use centre::Centre;
 pub use command::{command_in, resolve};
 pub use context::SessionContext;

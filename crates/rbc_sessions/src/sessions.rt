@@ -97,9 +97,10 @@ pub struct SessionEnd<L: DeskName, P> {
 /// # Errors
 ///
 /// For each line in order: `Read` where the reader fails; `Write` where the writer does, or where a request could not be kept:
-/// then the sitting has failed, and the last line has no reply; `Overlong` behind the reply to a line that is too long; `Lines`
-/// where a further byte comes after the last line that a session treats. The seat keeps the receipts for all lines that were
-/// treated.
+/// then the sitting has failed, and the last lines that were treated have no reply: 64 of them at most
+/// ([`MOST_RESTING`](crate::MOST_RESTING)), and no line is treated behind them; `Overlong` behind the reply to a line that is too
+/// long; `Lines` where a further byte comes after the last line that a session treats. The seat keeps the receipts for all lines
+/// that were treated.
 pub fn session<
     'a,
     I: Source,
@@ -149,7 +150,7 @@ pub fn session<
     ensures stays { StaysKept K.kept sitting.committer result.sitting.committer }
 
     // Each reply is the one that is computed for its line, after the history that the seat was told with it, but where
-    // memory was refused, or the history was full by the time of a grant.
+    // memory was refused.
     ensures answers { (input : List ℕ)
         (session : IsSeatSession sitting.seat result.sitting.seat input (W.written writer.old) (W.written writer.new) result.ended)
         → AreLineAnswers sitting.seat.told session.turns }
@@ -161,7 +162,7 @@ pub fn session<
     // The desk's track is in form, and what the seat was told is on it.
     context.track.known();
     sitting.seat.known();
-    let mut hearing = Hearing::new(alloc, sitting);
+    let mut hearing: Hearing<L, K::Committer, K::Text> = Hearing::new(alloc, sitting);
     let ended = serve_lines_with(rt, alloc, lines, reader, writer, &mut hearing, context);
     let Hearing { sitting, .. } = hearing;
     SessionEnd { sitting, ended }

@@ -11,7 +11,7 @@ pub struct Sitting<L: DeskName, P> {
     pub seat: Seat<L>,
     /// Its committer.
     pub committer: P,
-    /// Whether a request could not be kept. Then the last line was not answered.
+    /// Whether a request could not be kept. Then the last lines were not answered.
     pub has_failed: bool,
 }
 

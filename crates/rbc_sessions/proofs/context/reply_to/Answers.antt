@@ -4,7 +4,7 @@ use Rattle.rbc_sweep.specs.Records.{begin_on, history_on}
 use Rattle.rbc_sweep.specs.AskFault.TheVariants.{Blocked}
 use Rattle.rbc_sweep.specs.Asking.{IsAnswered}
 use Rattle.rbc_replies.specs.Replies.{grant_text}
-use Rattle.rbc_sessions.specs.SeatTurns.{AnswersAsked}
+use Rattle.rbc_session_laws.specs.Turns.{AnswersAuthority}
 use Rattle.rbc_sessions.specs.Shown.{entry_granted_in}
 use Rattle.rbc_sessions.proofs.SeatLemmas.{asked_granted, asked_granted_whole, asked_blocked_named}
 use Rattle.rbc_sessions.proofs.context.reply_to.Goals as goal
@@ -16,7 +16,7 @@ returns-in-Ok-clause-comes c =
     λ scene most entries answered.
     let begin = begin_on track scene most in
     let is = subst (λ a. IsAnswered (history_on begin entries) train a) c.in-Ok.is answered in
-    subst (λ a. AnswersAsked begin entries (grant_text track c.told_of.result) (entry_granted_in a) train) (sym c.in-Ok.is)
+    subst (λ a. AnswersAuthority begin entries (grant_text track c.told_of.result) (entry_granted_in a) train) (sym c.in-Ok.is)
     (asked_granted begin entries train c.in-Ok.granted is c.place-version.result c.told_of.result c.told_of.ensures.told c.told_of.ensures.best c.told_of.ensures.chosen
     c.place-version.ensures c.known.ensures.form)
 

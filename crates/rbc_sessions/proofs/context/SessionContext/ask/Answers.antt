@@ -22,16 +22,19 @@ returns-in_default-clause-treated g c =
 pub reply_to-reply-requires : goal.reply_to-reply-requires
 reply_to-reply-requires g c = asked_below c.args.sitting.now.seat.told c.ask_by-answer.new.seat.told c.args.train c.ask_by-answer.result c.ask_by-answer.ensures.since
 
-pub say-requires-clause-told : goal.say-requires-clause-told
-say-requires-clause-told g c =
+pub lay-requires : goal.lay-requires
+lay-requires g c =
     let later = c.known-2.ensures in
-    let track = c.args.self.now.track.now in (
-      request_view c.args.request.now,
-      c.in-Ok.ensures.says,
-      granted_adds c.args.train (reply_text track c.reply_to-reply.result) c.in-Ok-answer.granted c.ask_by-answer.result c.args.sitting.now.seat c.ask_by-answer.new.seat (request_view c.args.request.now)
-          track g.L.DeskName.opened.track c.in-Ok-answer.is c.ask_by-answer.ensures.since c.reply_to-reply.ensures.comes later.track c.args.self.now.of_desk c.known.ensures.form
-          c.requires.sayable c.requires.command,
-    )
+    let track = c.args.self.now.track.now in
+    record {
+      told = (
+        request_view c.args.request.now,
+        c.in-Ok.ensures.says,
+        granted_adds c.args.train (reply_text track c.reply_to-reply.result) c.in-Ok-answer.granted c.ask_by-answer.result c.args.sitting.now.seat c.ask_by-answer.new.seat
+            (request_view c.args.request.now) track g.L.DeskName.opened.track c.in-Ok-answer.is c.ask_by-answer.ensures.since c.reply_to-reply.ensures.comes later.track c.args.self.now.of_desk
+            c.known.ensures.form c.requires.sayable c.requires.command,
+      );
+    }
 
 pub say-requires-clause-reply : goal.say-requires-clause-reply
 say-requires-clause-reply g c =

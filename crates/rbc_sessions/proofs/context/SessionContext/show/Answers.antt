@@ -1,8 +1,7 @@
-use Rattle.std.proofs.Common.{◌≡◌, ◌∙◌, None, refl, subst, sym}
+use Rattle.std.proofs.Common.{◌∙◌, None, refl, subst, sym}
 use Rattle.rbc_sweep.specs.Records.{begin_of}
 use Rattle.rbc_model.specs.SessionReply.{Memory, refused_reply}
 use Rattle.rbc_session_laws.specs.Turns.{AnswersInquiry}
-use Rattle.rbc_sweep.specs.Later.{scene_of}
 use Rattle.rbc_sessions.proofs.ShowingLemmas.{scene_refused, scene_shown, shown_treated, state_line, state_shown}
 use Rattle.rbc_sessions.proofs.context.SessionContext.show.Goals as goal
 

@@ -19,14 +19,17 @@ returns-in_default-clause-treated g c =
     not_told_treated g.K.Keeper.kept _ _ _ _ _ _ c.args.told c.event_in_vain-fault.result c.refusal_of.result c.args.self.now.track.now c.refusal_of.ensures c.requires.whole refl refl
     (later.track ∙ sym c.args.self.now.of_desk) c.event_in_vain-fault.ensures.since c.event_in_vain-fault.ensures.refused c.print.ensures
 
-pub say-requires-clause-told : goal.say-requires-clause-told
-say-requires-clause-told g c =
-    let later = c.known-2.ensures in (
-      request_view c.args.request.now,
-      c.in-Ok.ensures.says,
-      told_adds c.args.told c.in-Ok-event_ahead.receipt c.place.result c.args.sitting.now.seat c.event_ahead.new.seat (request_view c.args.request.now) c.args.self.now.track.now g.L.DeskName.opened.track
-          c.in-Ok-event_ahead.ensures.since c.place.ensures later.track c.args.self.now.of_desk c.known.ensures.form c.requires.sayable c.requires.command,
-    )
+pub lay-requires : goal.lay-requires
+lay-requires g c =
+    let later = c.known-2.ensures in
+    record {
+      told = (
+        request_view c.args.request.now,
+        c.in-Ok.ensures.says,
+        told_adds c.args.told c.in-Ok-event_ahead.receipt c.in-Ok-event_ahead.receipt.place c.args.sitting.now.seat c.event_ahead.new.seat (request_view c.args.request.now) c.args.self.now.track.now
+            g.L.DeskName.opened.track c.in-Ok-event_ahead.ensures.since refl later.track c.args.self.now.of_desk c.known.ensures.form c.requires.sayable c.requires.command,
+      );
+    }
 
 pub returns-in-Ok-event_ahead-clause-treated : goal.returns-in-Ok-event_ahead-clause-treated
 returns-in-Ok-event_ahead-clause-treated g c =
