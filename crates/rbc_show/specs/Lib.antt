@@ -1,8 +1,8 @@
 pub mod Showing
 pub mod ShownPages
-pub use Rattle.rbc_kept.specs.Kept
-pub use Rattle.rbc_kept.specs.Adds
-pub use Rattle.rbc_kept.specs.Tells
-pub use Rattle.rbc_kept.specs.Records
-pub use Rattle.rbc_kept.specs.Retelling
-pub use Rattle.rbc_kept.specs.ServeFault
+pub use Rattle.rbc_journaled.specs.Journaled
+pub use Rattle.rbc_journaled.specs.Adds
+pub use Rattle.rbc_journaled.specs.Tells
+pub use Rattle.rbc_journaled.specs.Records
+pub use Rattle.rbc_journaled.specs.Retelling
+pub use Rattle.rbc_journaled.specs.ServeFault

@@ -1,7 +1,7 @@
 -- The program `rbc show`: what it writes, as one function of the track and of the text read.
 use Rattle.std.specs.Prelude.{◌≡◌, ◌≤◌, ◌⊎◌, ℕ, ◌+◌, Bool, true, false, if◌then◌else◌, min, List, [], ◌∷◌, ◌++◌, length, Option, Some, None, Result, Ok, codes, decimal}
 use Rattle.std.specs.Io.KnownBytes.{Appends}
-use Rattle.rbc_kept.specs.Records.{begin_of}
+use Rattle.rbc_journaled.specs.Records.{begin_of}
 use Rattle.rbc_model.specs.declared.limits.TheConstants.{LONGEST_LINE}
 use Rattle.rbc_model.specs.Histories.{Beginning, Entry, replay}
 use Rattle.rbc_model.specs.SceneLines.{scene_lines}
@@ -16,7 +16,7 @@ use Rattle.rbc_session_laws.specs.Commands.{command_in}
 use Rattle.rbc_session_laws.specs.Laws.{SaysNoMemory}
 use Rattle.rbc_session_laws.specs.SessionRuns.{entries_of}
 use Rattle.rbc_session_laws.specs.Turns.{AnswersLine}
-use Rattle.rbc_kept.specs.Adds.{Follows}
+use Rattle.rbc_journaled.specs.Adds.{Follows}
 use Rattle.rbc_show.specs.declared.each.Telling.{Telling}
 use Rattle.rbc_show.specs.declared.last.Following.{Following}
 

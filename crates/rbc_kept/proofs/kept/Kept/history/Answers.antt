@@ -1,8 +1,0 @@
-use Rattle.rbc_server.specs.Records.{begin_of}
-use Rattle.rbc_kept.proofs.AddingLemmas.{are_retold}
-use Rattle.rbc_kept.proofs.kept.Kept.history.Goals as goal
-
-pub returns-clause-retold : goal.returns-clause-retold
-returns-clause-retold g c =
-    let ready = c.requires c.if-self.false in
-    are_retold (begin_of c.args.self.now.history) (g.D.Device.seen c.args.self.now.journal.device) c.args.self.now.history.entries ready.is_kept.told

@@ -1,5 +1,0 @@
-use Rattle.rbc_kept.proofs.LaterLemmas.{tells_first}
-use Rattle.rbc_kept.proofs.laws.lines_tell_first_entries.Goals as goal
-
-pub returns : goal.returns
-returns c = tells_first
