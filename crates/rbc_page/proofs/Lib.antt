@@ -1,3 +1,4 @@
 pub mod HearingLemmas
+pub mod HistoryLemmas
 pub mod LookoutLemmas
 pub mod NumberLemmas

@@ -1,8 +1,8 @@
 -- What is answered to a request.
-use Rattle.std.specs.Prelude.{ℕ, ◌==◌, nat_lt, if◌then◌else◌, Bool, true, false, not, ◌&&◌, List, [], ◌++◌, length, Option, Some, None, codes}
+use Rattle.std.specs.Prelude.{ℕ, ◌==◌, nat_lt, Bool, true, false, not, ◌&&◌, List, [], ◌++◌, length, Option, Some, None, codes}
 use Rattle.rbc_page.specs.declared.asked.Asked.{Asked}
 use Rattle.rbc_page.specs.declared.asked.Resource.{Resource}
-use Rattle.rbc_page.specs.declared.asked.Resource.TheVariants.{Viewer, Track, Scene, Metrics, Health}
+use Rattle.rbc_page.specs.declared.asked.Resource.TheVariants.{Viewer, Track, Scene, History, Metrics, Health}
 use Rattle.rbc_page.specs.declared.head.Head.{Head}
 use Rattle.rbc_page.specs.declared.head.Kind.{Kind}
 use Rattle.rbc_page.specs.declared.head.Kind.TheVariants.{Html, Plain, Numbers}
@@ -10,11 +10,12 @@ use Rattle.rbc_page.specs.declared.head.Status.{Status}
 use Rattle.rbc_page.specs.declared.head.Status.TheVariants.{Content, NoContent, NotModified, BadRequest, NotFound, MethodNotAllowed, TooLong, Unavailable}
 use Rattle.rbc_page.specs.Heads.{with_head}
 
--- what there is to be shown: the viewer, the lines of the track and of a scene, and what was counted
+-- what there is to be shown: the viewer, the lines of the track, of a scene and of its history, and what was counted
 pub record Shown : Type 0 where
   pub viewer : List ℕ
   pub track : List ℕ
   pub scene : List ℕ
+  pub history : List ℕ
   pub metrics : List ℕ
 
 -- ---- how it is answered
@@ -42,14 +43,25 @@ abbrev pub status_of : Resource → Option ℕ → Option ℕ → ℕ → Status
 status_of Viewer after known version = unless_known (is_known known 0)
 status_of Track after known version = unless_known (is_known known 0)
 status_of Scene after known version = scene_status (is_early after version) (is_known known version)
+status_of History after known version = unless_known (is_known known version)
 status_of Metrics after known version = Content
 status_of Health after known version = Content
+
+-- whether lines of a history of so many entries are told: they are asked for, and the client has another version
+abbrev pub is_told_lines : Resource → Option ℕ → ℕ → Bool
+is_told_lines Viewer known version = false
+is_told_lines Track known version = false
+is_told_lines Scene known version = false
+is_told_lines History known version = not (is_known known version)
+is_told_lines Metrics known version = false
+is_told_lines Health known version = false
 
 -- the version of what is shown: viewer and track stay what they are
 abbrev pub tag_of : Resource → ℕ → Option ℕ
 tag_of Viewer version = Some 0
 tag_of Track version = Some 0
 tag_of Scene version = Some version
+tag_of History version = Some version
 tag_of Metrics version = None
 tag_of Health version = None
 
@@ -57,6 +69,7 @@ abbrev pub kind_of : Resource → Kind
 kind_of Viewer = Html
 kind_of Track = Plain
 kind_of Scene = Plain
+kind_of History = Plain
 kind_of Metrics = Numbers
 kind_of Health = Plain
 
@@ -66,6 +79,7 @@ abbrev pub body_of : Resource → Shown → List ℕ
 body_of Viewer shown = shown.viewer
 body_of Track shown = shown.track
 body_of Scene shown = shown.scene
+body_of History shown = shown.history
 body_of Metrics shown = shown.metrics
 body_of Health shown = codes "ok\n"
 

@@ -1,8 +1,7 @@
 -- Requests and their answers over one connection, one after the other.
-use Rattle.std.specs.Prelude.{◌≡◌, ◌⊎◌, ℕ, ◌+◌, ◌<◌, Bool, true, false, not, ◌&&◌, List, [], ◌++◌, length, take, drop, Option}
+use Rattle.std.specs.Prelude.{◌≡◌, ◌⊎◌, ℕ, ◌<◌, Bool, true, false, List, [], ◌++◌, length, take, drop, Option}
 use Rattle.std.specs.Io.KnownBytes.{Appends}
 use Rattle.httparse.specs.Grammar.{HasNoRequest}
-use Rattle.rbc_page.specs.declared.asked.Asked.{Asked}
 use Rattle.rbc_page.specs.declared.exchange.Stage.{Stage}
 use Rattle.rbc_page.specs.declared.exchange.Stage.TheVariants.{Hears, Waits, Tells, Over}
 use Rattle.rbc_page.specs.declared.head.Status.{Status}

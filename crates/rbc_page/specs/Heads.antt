@@ -1,5 +1,5 @@
 -- The head of an answer, line by line behind what stands.
-use Rattle.std.specs.Prelude.{ℕ, Bool, true, false, List, [], ◌∷◌, ◌++◌, Option, Some, None, codes, decimal}
+use Rattle.std.specs.Prelude.{ℕ, Bool, true, false, List, ◌++◌, Option, Some, None, codes, decimal}
 use Rattle.rbc_page.specs.declared.head.Status.{Status}
 use Rattle.rbc_page.specs.declared.head.Status.TheVariants.{Content, NoContent, NotModified, BadRequest, NotFound, MethodNotAllowed, TooLong, Unavailable}
 use Rattle.rbc_page.specs.declared.head.Kind.{Kind}

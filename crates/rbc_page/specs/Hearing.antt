@@ -1,5 +1,5 @@
 -- What the head of a request asks for.
-use Rattle.std.specs.Prelude.{◌≡◌, ◌≤◌, ◌<◌, ℕ, ◌-◌, ◌==◌, if◌then◌else◌, Bool, true, false, not, ◌&&◌, List, [], ◌∷◌, length, map, take, drop, Option, Some, None, option_and_then, codes, bytes_eq, is_some, Result, Ok, Err}
+use Rattle.std.specs.Prelude.{◌≡◌, ◌≤◌, ◌<◌, ℕ, ◌-◌, ◌==◌, if◌then◌else◌, Bool, true, false, not, ◌&&◌, List, [], ◌∷◌, length, map, take, drop, Option, Some, None, option_map, option_and_then, codes, bytes_eq, is_some, Result, Ok, Err}
 use Rattle.std.specs.List.{before_first, after_first}
 use Rattle.std.specs.Char.{to_ascii_lowercase}
 use Rattle.httparse.specs.Grammar.{RequestHead, ReadsRequest, HasNoRequest, print_request}
@@ -7,7 +7,7 @@ use Rattle.httparse.specs.Spans.{name_and_value}
 use Rattle.rbc_model.specs.Words.{number_in}
 use Rattle.rbc_page.specs.declared.asked.Asked.{Asked}
 use Rattle.rbc_page.specs.declared.asked.Resource.{Resource}
-use Rattle.rbc_page.specs.declared.asked.Resource.TheVariants.{Viewer, Track, Scene, Metrics, Health}
+use Rattle.rbc_page.specs.declared.asked.Resource.TheVariants.{Viewer, Track, Scene, History, Metrics, Health}
 use Rattle.rbc_page.specs.declared.hearing.Heard.{Heard}
 use Rattle.rbc_page.specs.declared.hearing.Heard.TheVariants.{Request, Refused, More}
 use Rattle.rbc_page.specs.declared.head.Status.{Status}
@@ -68,6 +68,7 @@ page_of path =
     if bytes_eq path (codes "/") then Some Viewer
     else if bytes_eq path (codes "/track") then Some Track
     else if bytes_eq path (codes "/scene") then Some Scene
+    else if bytes_eq path (codes "/history") then Some History
     else if bytes_eq path (codes "/metrics") then Some Metrics
     else if bytes_eq path (codes "/health") then Some Health
     else None
@@ -77,29 +78,34 @@ abbrev pub waited : Option ℕ → Option (Option ℕ)
 waited None = None
 waited (Some version) = Some (Some version)
 
-abbrev pub number_after : List ℕ → Option ℕ
-number_after query = option_and_then number_in (behind (codes "after=") query)
+abbrev pub number_behind : List ℕ → List ℕ → Option ℕ
+number_behind word query = option_and_then number_in (behind word query)
 
 abbrev pub after_in : List ℕ → Option (Option ℕ)
-after_in query = if length query == 0 then Some None else waited (number_after query)
+after_in query = if length query == 0 then Some None else waited (number_behind (codes "after=") query)
 
--- only a scene is waited for: the other pages pass over their query
-abbrev pub after_of : Resource → List ℕ → Option (Option ℕ)
-after_of Scene query = after_in query
-after_of Viewer query = Some None
-after_of Track query = Some None
-after_of Metrics query = Some None
-after_of Health query = Some None
+-- the place from which on entries are asked for; None where the query is another one
+abbrev pub from_in : List ℕ → Option ℕ
+from_in query = if length query == 0 then Some 0 else number_behind (codes "from=") query
+
+-- the version that is waited for, and that place: only a scene is waited for, and only a history has a place; the other pages pass over their query
+unfoldable pub query_of : Resource → List ℕ → Option (Option ℕ × ℕ)
+query_of Scene query = option_map (λ after. (after, 0)) (after_in query)
+query_of History query = option_map (λ from. (None, from)) (from_in query)
+query_of Viewer query = Some (None, 0)
+query_of Track query = Some (None, 0)
+query_of Metrics query = Some (None, 0)
+query_of Health query = Some (None, 0)
 
 -- ---- all of it: the request, or how it is refused
 
-abbrev pub by_query : Resource → Option ℕ → Bool → Bool → Option (Option ℕ) → Result Asked Status
+abbrev pub by_query : Resource → Option ℕ → Bool → Bool → Option (Option ℕ × ℕ) → Result Asked Status
 by_query page known is_head stays None = Err BadRequest
-by_query page known is_head stays (Some after) = Ok (record { page = page; after = after; known = known; is_head = is_head; stays = stays })
+by_query page known is_head stays (Some said) = Ok (record { page = page; after = said.0; from = said.1; known = known; is_head = is_head; stays = stays })
 
 abbrev pub by_page : List ℕ → Option ℕ → Bool → Bool → Option Resource → Result Asked Status
 by_page query known is_head stays None = Err NotFound
-by_page query known is_head stays (Some page) = by_query page known is_head stays (after_of page query)
+by_page query known is_head stays (Some page) = by_query page known is_head stays (query_of page query)
 
 abbrev pub by_method : List ℕ → Option ℕ → Bool → Option Bool → Result Asked Status
 by_method target known stays None = Err MethodNotAllowed

@@ -2,8 +2,10 @@ pub mod Answers
 pub mod Exchanges
 pub mod Heads
 pub mod Hearing
+pub mod Histories
 pub mod Metrics
 pub mod Moments
+pub use Rattle.rbc_desk.specs.Events
 pub use Rattle.rbc_desk.specs.Later
 pub use Rattle.rbc_desk.specs.Records
 pub use Rattle.rbc_desk.specs.States

@@ -1,7 +1,7 @@
 //! What is answered to a request.
 
 ghost use Rattle.std.specs.Prelude.{◌≡◌, ◌&&◌, not, [], length, IfOk};
-ghost use Rattle.rbc_page.specs.Answers.{answer_with, body_of, has_body, head_of, is_early, is_known, kind_of, refusal_head, refusal_text, scene_status, size_of, status_of, tag_of, unless_known, with_body};
+ghost use Rattle.rbc_page.specs.Answers.{answer_with, body_of, has_body, head_of, is_early, is_known, is_told_lines, kind_of, refusal_head, refusal_text, scene_status, size_of, status_of, tag_of, unless_known, with_body};
 
 use crate::fields::put;
 use crate::{Asked, Head, Kind, Resource, Status};
@@ -16,6 +16,8 @@ pub struct Bodies<'a> {
     pub track: &'a [u8],
     /// The lines of the scene.
     pub scene: &'a [u8],
+    /// The lines of the history that are asked for.
+    pub history: &'a [u8],
     /// What was counted.
     pub metrics: &'a [u8],
 }
@@ -69,7 +71,7 @@ impl Resource {
     {
         match self {
             Resource::Viewer => Kind::Html,
-            Resource::Track | Resource::Scene | Resource::Health => Kind::Plain,
+            Resource::Track | Resource::Scene | Resource::History | Resource::Health => Kind::Plain,
             Resource::Metrics => Kind::Numbers,
         }
     }
@@ -80,7 +82,7 @@ impl Resource {
     {
         match self {
             Resource::Viewer | Resource::Track => Some(0),
-            Resource::Scene => Some(version),
+            Resource::Scene | Resource::History => Some(version),
             Resource::Metrics | Resource::Health => None,
         }
     }
@@ -113,6 +115,7 @@ impl Asked {
                 is_early(self.after, version),
                 is_known(self.known, version),
             ),
+            Resource::History => unless_known(is_known(self.known, version)),
             Resource::Metrics | Resource::Health => Status::Content,
         }
     }
@@ -122,6 +125,20 @@ impl Asked {
         ensures { result ≡ is_early self.now.after version }
     {
         is_early(self.after, version)
+    }
+
+    /// Whether lines of a history of so many entries are told: they are asked for, and the client has another version.
+    pub fn is_told_lines(&self, version: u64) -> bool
+        ensures { result ≡ is_told_lines self.now.page self.now.known version }
+    {
+        match self.page {
+            Resource::History => !is_known(self.known, version),
+            Resource::Viewer
+            | Resource::Track
+            | Resource::Scene
+            | Resource::Metrics
+            | Resource::Health => false,
+        }
     }
 
     /// The head of its answer.
@@ -142,12 +159,13 @@ impl Asked {
 impl<'a> Bodies<'a> {
     /// What the page shows.
     fn of(&self, page: Resource) -> &'a [u8]
-        ensures { result.now ≡ body_of page (record { viewer = self.now.viewer.now; track = self.now.track.now; scene = self.now.scene.now; metrics = self.now.metrics.now }) }
+        ensures { result.now ≡ body_of page (record { viewer = self.now.viewer.now; track = self.now.track.now; scene = self.now.scene.now; history = self.now.history.now; metrics = self.now.metrics.now }) }
     {
         match page {
             Resource::Viewer => self.viewer,
             Resource::Track => self.track,
             Resource::Scene => self.scene,
+            Resource::History => self.history,
             Resource::Metrics => self.metrics,
             Resource::Health => b"ok\n",
         }
@@ -180,6 +198,7 @@ pub fn write_answer(
       viewer = bodies.now.viewer.now;
       track = bodies.now.track.now;
       scene = bodies.now.scene.now;
+      history = bodies.now.history.now;
       metrics = bodies.now.metrics.now;
     }) version) }
 {

@@ -2,7 +2,7 @@
 
 ghost use Rattle.std.specs.Prelude.{◌≡◌, ◌+◌, ◌<◌, ◌≤◌, ◌++◌, ◌⊎◌, false, true, length, drop};
 ghost use Rattle.rbc_page.specs.Answers.{refusal_text};
-ghost use Rattle.rbc_page.specs.Exchanges.{IsHeardIn, at_first, ended, next_stage, telling};
+ghost use Rattle.rbc_page.specs.Exchanges.{IsHeardIn, IsTurnedAway, at_first, ended, next_stage, telling};
 ghost use Rattle.rbc_page.specs.Moments.{answer_to};
 ghost use Rattle.rbc_page.specs.declared.exchange.Stage.TheVariants.{Hears, Tells};
 
@@ -116,25 +116,26 @@ impl Exchange {
     }
 
     /// Tells the answer to a request, at the moment of the history that the lookout has, and nothing more. Where there is no room
-    /// for it, it is over.
+    /// for it, that is told; where there is none even for that, it is over.
     pub fn answer<L: DeskName>(
         &mut self,
+        alloc: Global,
         start: &[u8],
         asked: &Asked,
         standing: &Fixed<'_>,
         lookout: &Lookout<L>,
     )
         requires kept { lookout.now.is_kept ≡ true }
-        ensures { (self.new ≡ ended) ⊎ (self.new ≡ telling asked.now.stays (answer_to start.now (record {
+        ensures { IsTurnedAway start.now self.old self.new ⊎ (self.new ≡ telling asked.now.stays (answer_to start.now (record {
           viewer = standing.now.viewer.now;
           track = standing.now.track.now;
           metrics = standing.now.metrics.now;
         }) asked.now lookout.now.seat.told)) }
     {
         self.end();
-        match lookout.answer(&mut self.text, start, asked, standing) {
+        match lookout.answer(alloc, &mut self.text, start, asked, standing) {
             Ok(()) => self.stage = Stage::Tells(asked.stays),
-            Err(Memory) => self.text.clear(),
+            Err(Memory) => self.refuse(start, Status::Unavailable),
         }
     }
 

@@ -76,6 +76,7 @@ impl<S> Guest<S> {
     /// Answers its request at the moment of the history that the lookout has, unless it waits on.
     pub(crate) fn answer<L: DeskName>(
         &mut self,
+        alloc: Global,
         start: &[u8],
         standing: &Fixed<'_>,
         lookout: &Lookout<L>,
@@ -95,7 +96,8 @@ impl<S> Guest<S> {
         if asked.is_early(lookout.version()) && !self.is_late(now) {
             return;
         }
-        self.exchange.answer(start, &asked, standing, lookout);
+        self.exchange
+            .answer(alloc, start, &asked, standing, lookout);
         self.since = now;
     }
 

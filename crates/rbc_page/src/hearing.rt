@@ -3,7 +3,7 @@
 ghost use Rattle.std.specs.Prelude.{◌≡◌, ◌==◌, All, length, map, option_copied, take};
 ghost use Rattle.std.specs.List.{before_first, after_first};
 ghost use Rattle.httparse.specs.Spans.{IsHeaderWithin, IsRequestWithin, IsWithin, header_bytes, span_bytes};
-ghost use Rattle.rbc_page.specs.Hearing.{HearsHeads, IsSaid, RefusesLong, after_in, after_of, before, behind, by_page, by_query, has_value, head_only, heard_of, is_alike, is_closing, known_by, known_in, may_stay, number_after, page_of, said_by, value_in, waited};
+ghost use Rattle.rbc_page.specs.Hearing.{HearsHeads, IsSaid, RefusesLong, after_in, before, behind, by_page, by_query, from_in, has_value, head_only, heard_of, is_alike, is_closing, known_by, known_in, may_stay, number_behind, page_of, query_of, said_by, value_in, waited};
 
 use crate::{Asked, Resource, Status};
 use httparse::Error;
@@ -128,6 +128,8 @@ fn page_of(path: &[u8]) -> Option<Resource>
         Some(Resource::Track)
     } else if path == b"/scene".as_slice() {
         Some(Resource::Scene)
+    } else if path == b"/history".as_slice() {
+        Some(Resource::History)
     } else if path == b"/metrics".as_slice() {
         Some(Resource::Metrics)
     } else if path == b"/health".as_slice() {
@@ -147,11 +149,11 @@ fn waited(version: Option<u64>) -> Option<Option<u64>>
     }
 }
 
-/// The number behind `after=`.
-fn number_after(query: &[u8]) -> Option<u64>
-    ensures { result ≡ number_after query.now }
+/// The number behind a word in a query.
+fn number_behind(word: &[u8], query: &[u8]) -> Option<u64>
+    ensures { result ≡ number_behind word.now query.now }
 {
-    number(behind(b"after=", query)?)
+    number(behind(word, query)?)
 }
 
 /// The version that a query waits for, if any; None, where it is another query.
@@ -161,17 +163,32 @@ fn after_in(query: &[u8]) -> Option<Option<u64>>
     if query.is_empty() {
         Some(None)
     } else {
-        waited(number_after(query))
+        waited(number_behind(b"after=", query))
     }
 }
 
-/// The version that a query of this page waits for: only a scene is waited for.
-fn after_of(page: Resource, query: &[u8]) -> Option<Option<u64>>
-    ensures { result ≡ after_of page query.now }
+/// The place from which on a query asks for entries; None, where it is another query.
+fn from_in(query: &[u8]) -> Option<u64>
+    ensures { result ≡ from_in query.now }
+{
+    if query.is_empty() {
+        Some(0)
+    } else {
+        number_behind(b"from=", query)
+    }
+}
+
+/// What a query of this page says: a scene may be waited for, and a history be asked for from a place on.
+#[tactic(auto, unfolding(crate::specs::Hearing::query_of))]
+fn query_of(page: Resource, query: &[u8]) -> Option<(Option<u64>, u64)>
+    ensures { result ≡ query_of page query.now }
 {
     match page {
-        Resource::Scene => after_in(query),
-        Resource::Viewer | Resource::Track | Resource::Metrics | Resource::Health => Some(None),
+        Resource::Scene => Some((after_in(query)?, 0)),
+        Resource::History => Some((None, from_in(query)?)),
+        Resource::Viewer | Resource::Track | Resource::Metrics | Resource::Health => {
+            Some((None, 0))
+        }
     }
 }
 
@@ -183,12 +200,13 @@ fn by_query(
     stays: bool,
     query: &[u8],
 ) -> Result<Asked, Status>
-    ensures { result ≡ by_query page known is_head stays (after_of page query.now) }
+    ensures { result ≡ by_query page known is_head stays (query_of page query.now) }
 {
-    match after_of(page, query) {
-        Some(after) => Ok(Asked {
+    match query_of(page, query) {
+        Some((after, from)) => Ok(Asked {
             page,
             after,
+            from,
             known,
             is_head,
             stays,
@@ -213,7 +231,8 @@ fn by_target(target: &[u8], known: Option<u64>, is_head: bool, stays: bool) -> R
 ///
 /// # Errors
 ///
-/// The first of these: `MethodNotAllowed`, `NotFound`, and `BadRequest` where a scene is asked for by a query that names no version.
+/// The first of these: `MethodNotAllowed`, `NotFound`, and `BadRequest` where a scene is asked for by a query that names no version,
+/// or a history by one that names no place.
 #[tactic(auto, unfolding(crate::specs::Hearing::said_by))]
 fn said_by(
     start: &[u8],

@@ -9,6 +9,7 @@ mod fields;
 mod guest;
 mod head;
 mod hearing;
+mod history;
 mod lookout;
 mod numbers;
 mod reception;

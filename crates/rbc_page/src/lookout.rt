@@ -1,17 +1,20 @@
 //! A seat from which a centre is looked at.
 
-ghost use Rattle.std.specs.Prelude.{◌≡◌, [], true, IfOk, OnOk};
+ghost use Rattle.std.specs.Prelude.{◌≡◌, [], true, Some, option_map, IfOk, OnOk};
+ghost use Rattle.std.specs.Arc.{arc_value};
 ghost use Rattle.rbc_desk.specs.Looking.{HasLooked};
 ghost use Rattle.rbc_page.specs.Later.{IsLater};
-ghost use Rattle.rbc_page.specs.Moments.{answer_to, scene_text, version_of};
+ghost use Rattle.rbc_page.specs.Moments.{answer_to, scene_text, told_lines, version_of};
 ghost use Rattle.rbc_page.specs.States.{state_of};
 
+use crate::history::history_lines;
 use crate::text::lines_of;
 use crate::{Asked, Bodies, write_answer};
 use rbc_desk::{DeskName, Seat, State};
 use rbc_model::Memory;
+use rbc_track::Track;
 use std::alloc::Global;
-use std::sync::Wait;
+use std::sync::{Arc, Wait};
 
 /// A seat from which nothing is entered, with the lines of the scene that it was told last, where these are kept. It looks at
 /// what is published, and never takes the desk's lock.
@@ -19,9 +22,11 @@ use std::sync::Wait;
 pub struct Lookout<L: DeskName> {
     seat: Seat<L>,
     lines: Vec<u8>,
+    track: Option<Arc<Track>>,
     state: State,
     is_kept: bool,
     ghost shown: { is_kept ≡ true → lines.items ≡ scene_text seat.told },
+    ghost on_track: { is_kept ≡ true → option_map arc_value track ≡ Some seat.told.track },
     ghost counted: { is_kept ≡ true → state ≡ state_of seat.told },
 }
 
@@ -33,6 +38,7 @@ impl<L: DeskName> Lookout<L> {
         Lookout {
             seat,
             lines: Vec::new(alloc),
+            track: None,
             state: State {
                 version: 0,
                 trains: 0,
@@ -63,6 +69,7 @@ impl<L: DeskName> Lookout<L> {
             return Ok(());
         }
         self.lines = lines_of(alloc, version, &scene)?;
+        self.track = Some(Arc::try_clone(scene.track())?);
         self.state = State::of(version, &scene);
         self.is_kept = true;
         Ok(())
@@ -108,14 +115,33 @@ impl<L: DeskName> Lookout<L> {
         seat
     }
 
+    /// The lines of the history that a request asks for, where such are told.
+    ///
+    /// # Errors
+    ///
+    /// [`Memory`]: there is none for them, or not all entries are where they are read.
+    fn told_lines(&self, alloc: Global, asked: &Asked) -> Result<Vec<u8>, Memory>
+        requires kept { self.now.is_kept ≡ true }
+        ensures { IfOk result (λ text. text.items ≡ told_lines asked.now self.now.seat.told) }
+    {
+        if !asked.is_told_lines(self.state.version) {
+            return Ok(Vec::new(alloc));
+        }
+        match &self.track {
+            Some(track) => history_lines(alloc, track, &self.seat, asked.from),
+            None => Err(Memory),
+        }
+    }
+
     /// Writes the answer to a request, of a centre that has begun so, into an empty text: at the moment of the history that the
     /// seat was told last.
     ///
     /// # Errors
     ///
-    /// [`Memory`]: there is no room for it.
+    /// [`Memory`]: there is no room for it, or not all entries of a history that is asked for are where they are read.
     pub fn answer(
         &self,
+        alloc: Global,
         text: &mut Vec<u8>,
         start: &[u8],
         asked: &Asked,
@@ -129,10 +155,12 @@ impl<L: DeskName> Lookout<L> {
           metrics = standing.now.metrics.now;
         }) asked.now self.now.seat.told) }
     {
+        let history = self.told_lines(alloc, asked)?;
         let bodies = Bodies {
             viewer: standing.viewer,
             track: standing.track,
             scene: self.lines.as_slice(),
+            history: history.as_slice(),
             metrics: standing.metrics,
         };
         write_answer(text, start, asked, &bodies, self.state.version)

@@ -51,6 +51,8 @@ pub struct Opening {
 pub struct Reception<L: DeskName, N, S> {
     listener: N,
     guests: Vec<Guest<S>>,
+    /// The place of the client that is answered first: there was no room for its answer.
+    turn: usize,
     lookout: Lookout<L>,
     opening: Opening,
     begin: Instant,
@@ -84,6 +86,7 @@ impl<L: DeskName, S: Drop, N: OpenListener<Stream = S> + Drop> Reception<L, N, S
         Ok(Reception {
             listener,
             guests,
+            turn: 0,
             lookout: Lookout::new(alloc, seat),
             opening,
             begin,
@@ -149,29 +152,30 @@ impl<L: DeskName, S: Read + Write + OpenStream + Drop, N: OpenListener<Stream = 
         }
     }
 
-    /// Answers the requests that are due, as far as there is room for their answers, or turns them away where no lines are kept.
+    /// Answers the requests that are due, as far as there is room for their answers, or turns them away where no lines are kept. It begins
+    /// with the one for which there was no room, so that none is passed over for ever.
     fn answer(&mut self, alloc: Global, now: Duration)
         ensures { self.new.lookout ≡ self.old.lookout }
     {
         let Reception {
             guests,
+            turn,
             lookout,
             opening,
             ..
         } = self;
-        let mut told = count_told(guests.as_slice());
-        for guest in guests.iter_mut() {
-            let Some(asked) = guest.asked() else {
-                continue;
-            };
-            if told >= MOST_TOLD {
-                return;
-            }
-            answer_guest(alloc, guest, &asked, lookout, opening, now);
-            if guest.is_told() {
-                told = told.saturating_add(1);
-            }
-        }
+        let told = count_told(guests.as_slice());
+        let first = if *turn < guests.len() { *turn } else { 0 };
+        let (before, behind) = guests.split_at_mut(first);
+        *turn = match answer_guests(alloc, behind, told, lookout, opening, now) {
+            Round::Stopped(place) => first.saturating_add(place),
+            Round::Through(told) => match answer_guests(
+                alloc, before, told, lookout, opening, now,
+            ) {
+                Round::Stopped(place) => place,
+                Round::Through(_) => 0,
+            },
+        };
     }
 
     /// How long it is since the page was opened.
@@ -240,6 +244,38 @@ fn longest_kept<S>(guests: &[Guest<S>]) -> usize {
     place
 }
 
+/// How it ended that clients were answered in turn.
+enum Round {
+    /// None waits for room, and so many answers are told.
+    Through(usize),
+    /// There was no room for an answer to the client at this place.
+    Stopped(usize),
+}
+
+/// Answers the requests of these clients that are due, as far as there is room beside so many answers that are told.
+fn answer_guests<L: DeskName, S>(
+    alloc: Global,
+    guests: &mut [Guest<S>],
+    mut told: usize,
+    lookout: &Lookout<L>,
+    opening: &Opening,
+    now: Duration,
+) -> Round {
+    for (place, guest) in guests.iter_mut().enumerate() {
+        let Some(asked) = guest.asked() else {
+            continue;
+        };
+        if told >= MOST_TOLD {
+            return Round::Stopped(place);
+        }
+        answer_guest(alloc, guest, &asked, lookout, opening, now);
+        if guest.is_told() {
+            told = told.saturating_add(1);
+        }
+    }
+    Round::Through(told)
+}
+
 /// Answers a request, or turns it away where no lines are kept.
 fn answer_guest<L: DeskName, S>(
     alloc: Global,
@@ -268,7 +304,7 @@ fn answer_guest<L: DeskName, S>(
         track: opening.track.as_slice(),
         metrics: metrics.as_slice(),
     };
-    guest.answer(start, &standing, lookout, now);
+    guest.answer(alloc, start, &standing, lookout, now);
 }
 
 /// What was counted, as a text, where that is asked for; else none.

@@ -1,4 +1,4 @@
-use Rattle.std.proofs.Common.{Ok, arith, length, subst}
+use Rattle.std.proofs.Common.{Ok, arith, subst}
 use Rattle.httparse.specs.Outcome.{IfComplete}
 use Rattle.httparse.specs.Spans.{IsRequestOf, IsRequestWithin}
 use Rattle.httparse.specs.declared.Error.{Error}
