@@ -1,0 +1,15 @@
+use Rattle.rbc_commands.proofs.serve_journaled.serve_journaled.Given as goal
+
+-- the desk is named by its blank, and opened with the record that the journal tells
+abbrev pub ghosts-open-L-DeskName : goal.ghosts-open-L-DeskName
+ghosts-open-L-DeskName g a = record { opened = a.opening.history.history }
+
+abbrev pub ghosts-open-L-HistoryName : goal.ghosts-open-L-HistoryName
+ghosts-open-L-HistoryName g a = record { book = a.opening.blank.book }
+
+abbrev pub ghosts-open-L-Ledger : goal.ghosts-open-L-Ledger
+ghosts-open-L-Ledger g a = record { name = a.opening.blank.ledger.name; parts = a.opening.blank.ledger.parts }
+
+-- the group commit by its stamps
+abbrev pub ghosts-open-N-CommitName : goal.ghosts-open-N-CommitName
+ghosts-open-N-CommitName g a = record { book = a.stamps }
