@@ -1,6 +1,7 @@
 //! Replies, found in the bytes that are written to a client.
 
 use crate::{RefusalKind, Tally};
+use memchr::memchr_iter;
 use std::str;
 
 /// How much of a line is looked at, in bytes: enough for `granted`, a train and a version.
@@ -62,24 +63,23 @@ impl Replies {
 
     /// Goes on through bytes that were written, and counts each reply whose first line ends in them.
     pub fn pass(&mut self, bytes: &[u8], tally: &Tally) {
-        let mut lines = bytes.split(|byte| *byte == b'\n');
-        if let Some(rest) = lines.next() {
-            self.take(rest);
-        }
-        for line in lines {
+        let mut begin = 0;
+        for end in memchr_iter(b'\n', bytes) {
+            self.take(bytes.get(begin..end).unwrap_or(&[]));
             self.end(tally);
-            self.take(line);
+            begin = end.saturating_add(1);
         }
+        self.take(bytes.get(begin..).unwrap_or(&[]));
     }
 
     /// Goes on with a part of the line.
     fn take(&mut self, part: &[u8]) {
-        for byte in part.iter().take(HEAD) {
-            if let Some(place) = self.head.get_mut(self.length) {
-                *place = *byte;
-                self.length = self.length.saturating_add(1);
-            }
-        }
+        let Some(free) = self.head.get_mut(self.length..) else {
+            return;
+        };
+        let count = free.len().min(part.len());
+        free[..count].copy_from_slice(&part[..count]);
+        self.length = self.length.saturating_add(count);
     }
 
     /// Ends the line.
