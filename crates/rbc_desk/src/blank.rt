@@ -24,7 +24,8 @@ impl Blank {
         }
     }
 
-    /// For a desk with this number of seats, from which the events of its history can be read: each takes 64 bytes.
+    /// For a desk with this number of seats, from which the events of its history can be read: each takes 64 bytes, and there is room for 100,000
+    /// from the beginning on.
     pub fn with_events(seats: usize) -> Blank
         ensures { result.ledger.parts ≡ seats }
     {

@@ -37,9 +37,13 @@ impl<J: HistoryName> Keeps<PlacedEvent> for OfHistory<J> {
 /// The events of a history up to some moment, to which more are added.
 pub(crate) type Events<J> = boxcar::Vec<PlacedEvent, Global, OfHistory<J>>;
 
-/// No events.
-pub(crate) fn no_events<J: HistoryName>(alloc: Global) -> Result<Arc<Events<J>>, Memory> {
+/// No events, and room for so many, so that none is made under the lock for them.
+pub(crate) fn no_events<J: HistoryName>(
+    alloc: Global,
+    room: usize,
+) -> Result<Arc<Events<J>>, Memory> {
     let events = boxcar::Vec::with_rule(alloc, Tag::empty())?;
+    events.reserve(room)?;
     Ok(Arc::new(alloc, events)?)
 }
 

@@ -71,7 +71,7 @@ impl NewHistory {
         NewHistory::of(false)
     }
 
-    /// A history with no moment, whose events eyes read: each takes 64 bytes.
+    /// A history with no moment, whose events eyes read: each takes 64 bytes, and there is room for 100,000 from the beginning on.
     pub fn with_events() -> NewHistory {
         NewHistory::of(true)
     }

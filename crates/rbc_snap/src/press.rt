@@ -16,7 +16,7 @@ use crate::{Eye, HistoryName, Issue, NewHistory, Published, Sight};
 use core::mem::replace_with;
 use left_right::writer::Writer;
 use rbc_model::Memory;
-use rbc_record::Record;
+use rbc_record::{EntryLimit, Record};
 use std::alloc::Global;
 use std::marker::{Model, PhantomData};
 use std::sync::{Arc, Wait};
@@ -118,6 +118,16 @@ fn eye<J: HistoryName>(
     Ok(Eye::over(reader(writer)?, sight.again(), events))
 }
 
+/// For how many events there is room from the beginning on: none where they are not wanted, else for all that there may be, but for
+/// no more than a history usually has.
+fn room_for(are_wanted: bool, log: &Record) -> usize {
+    if !are_wanted {
+        return 0;
+    }
+    let most = log.most().entries();
+    most.min(EntryLimit::usual().entries())
+}
+
 /// Goes on to the record. Only the press adds moments, so the first try succeeds.
 fn advance<R: Wait>(rt: &R, head: &Head, sight: &mut Sight, log: &Record)
     requires head { head.now ≡ head_of sight.old.book }
@@ -182,7 +192,7 @@ impl<J: HistoryName> Press<J> {
         let has_events = book.has_events();
         let (head, sight) = book.begin(rt, log);
         log.right();
-        let events = no_events(alloc)?;
+        let events = no_events(alloc, room_for(has_events, log))?;
         add_if(rt, has_events, &events, &sight, log)?;
         let mut eyes = Vec::with_capacity(alloc, readers)?;
         let (first, second) = copies(alloc, &sight, log)?;
