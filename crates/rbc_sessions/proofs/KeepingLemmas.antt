@@ -1,8 +1,7 @@
--- What is asked for is treated, and its reply is written once what led to the entry is kept.
-use Rattle.std.proofs.Common.{◌≡◌, ℕ, ◌<◌, ◌+◌, Bool, true, false, cond, List, [], ◌∷◌, ◌++◌, get_or, length, take, Option, Some, None, Result, Ok, Err, refl, sym, ap, ◌∙◌, subst, append-nil}
+-- What a request adds, and what is printed once what led to an entry is kept.
+use Rattle.std.proofs.Common.{◌≡◌, ℕ, ◌<◌, ◌+◌, Bool, true, false, cond, List, [], ◌∷◌, ◌++◌, get_or, length, take, Option, Some, Result, Ok, Err, refl, sym, ap, ◌∙◌, subst}
 use Rattle.std.proofs.Math.Seq.{take-append_seam}
 use Rattle.std.proofs.KnownBytes.{Appends-nil}
-use Rattle.std.proofs.lemmas.Bool.{both_ways}
 use Rattle.std.proofs.lemmas.List.Elements.{All-more, All-weaker}
 use Rattle.std.proofs.lemmas.Option.{none-some}
 use Rattle.std.specs.Prelude.{All, ◌||◌, is_err, slice_get}
@@ -18,7 +17,6 @@ use Rattle.rbc_model.specs.Sessions.{Prints}
 use Rattle.rbc_model.specs.SessionReply.{SessionRefusal, BadLine, Memory, refused_reply}
 use Rattle.rbc_model.specs.SessionText.{SessionLine, IsSayable, parse_session, said_line}
 use Rattle.rbc_sweep.specs.Records.{begin_of, HistoryOnTrack}
-use Rattle.rbc_sweep.specs.Seats.{Seated}
 use Rattle.rbc_session_laws.specs.declared.command.Command.{Command}
 use Rattle.rbc_session_laws.specs.Answers.{command_answer, line_answer}
 use Rattle.rbc_session_laws.specs.Commands.{command_in, resolve}
@@ -26,9 +24,7 @@ use Rattle.rbc_session_laws.specs.Turns.{AnswersCommand}
 use Rattle.rbc_session_laws.proofs.LineLemmas.{lines_are_answered, given_up_adds_none}
 use Rattle.rbc_sessions.specs.Changes.{with_added}
 use Rattle.rbc_sessions.specs.Keeping.{AddsEntry}
-use Rattle.rbc_sessions.specs.SeatTurns.{AnswersCommandAtDesk, IsAnsweredSince}
-use Rattle.rbc_sessions.specs.Sittings.{StaysKept, Treats}
-use Rattle.rbc_sessions.specs.declared.sitting.Sitting.{Sitting}
+use Rattle.rbc_sessions.specs.SeatTurns.{IsAnsweredSince}
 
 -- ---- what a request adds
 
@@ -89,43 +85,6 @@ pub prints_said : {E : Type 0} (old new : Option (List ℕ)) (failed writer_fail
     → (failed ≡ true → (new ≡ old) × (is_err result ≡ true)) → Prints old new (failed || writer_failed) (cond failed [] reply) result
 prints_said old new true writer_failed reply result said unsaid = let none = unsaid refl in prints_none old new result none.0 none.1
 prints_said old new false writer_failed reply result said unsaid = said refl
-
--- ---- what is treated
-
-module _ {L P : Type 0} (kept : P → ℕ → Type 0) (command : Result Command SessionRefusal) where
-  -- nothing was entered
-  pub treats_idle : (before after : Sitting L P) (reply : List ℕ) → before.has_failed ≡ false → after.committer ≡ before.committer → after.has_failed ≡ before.has_failed
-      → AnswersCommandAtDesk before.seat.told after.seat.told reply None command → after.seat.receipts ≡ before.seat.receipts → Treats kept command before reply after
-  treats_idle before after reply whole committer same answers receipts = record {
-    whole = whole;
-    reply = reply;
-    comes = (None, answers, receipts ∙ sym (append-nil before.seat.receipts));
-    stays = subst (λ p. StaysKept kept before.committer p) (sym committer) (λ place k. k);
-    said = λ _. (refl, tt);
-    unsaid = λ failed. absurd (both_ways after.has_failed (same ∙ whole) failed);
-  }
-
-  -- an entry was, and it is kept, unless keeping has failed
-  pub treats_entered : (before after : Sitting L P) (seat : Seated) (receipt : Receipt) (reply : List ℕ) → before.has_failed ≡ false → after.seat ≡ seat
-      → AnswersCommandAtDesk before.seat.told seat.told reply (Some receipt) command → seat.receipts ≡ before.seat.receipts ++ receipt ∷ []
-      → StaysKept kept before.committer after.committer → (after.has_failed ≡ false → kept after.committer receipt.place)
-      → Treats kept command before (cond after.has_failed [] reply) after
-  treats_entered before after seat receipt reply whole same answers receipts stays is_kept = record {
-    whole = whole;
-    reply = reply;
-    comes = (
-      Some receipt,
-      subst (λ (s : Seated). AnswersCommandAtDesk before.seat.told s.told reply (Some receipt) command) (sym same) answers,
-      ap (λ (s : Seated). s.receipts) same ∙ receipts,
-    );
-    stays = stays;
-    said = λ fine. (ap (λ b. cond b [] reply) fine, is_kept fine);
-    unsaid = λ failed. ap (λ b. cond b [] reply) failed;
-  }
-
-pub treats_as : {L P : Type 0} (kept : P → ℕ → Type 0) (before after : Sitting L P) (text : List ℕ) (one other : Result Command SessionRefusal) → one ≡ other → Treats kept one before text after
-    → Treats kept other before text after
-treats_as kept before after text one other is treats = subst (λ d. Treats kept d before text after) is treats
 
 -- ---- receipts, one by one
 

@@ -12,6 +12,7 @@ pub mod HearingLemmas
 pub mod SittingLemmas
 pub mod KeepingLemmas
 pub mod DueLemmas
+pub mod DuesLemmas
 pub mod GrantLemmas
 pub mod TreatingLemmas
 pub mod ShowingLemmas

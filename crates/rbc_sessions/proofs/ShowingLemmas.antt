@@ -1,11 +1,10 @@
 -- What is asked to be shown, as the replies have it.
-use Rattle.std.proofs.Common.{◌≡◌, ℕ, List, [], ◌∷◌, length, Bool, false, Option, None, Result, Ok, inl, inr, refl, ap, ◌∙◌, codes}
+use Rattle.std.proofs.Common.{◌≡◌, ℕ, List, [], ◌∷◌, length, None, Ok, inl, inr, refl, ap, ◌∙◌, codes}
 use Rattle.std.specs.Prelude.{◌⊎◌, decimal}
 use Rattle.rbc_model.specs.declared.sessions.Inquiry.{Inquiry}
 use Rattle.rbc_model.specs.declared.sessions.Inquiry.TheVariants.{State as AskedState, Scene as AskedScene}
 use Rattle.rbc_model.specs.SceneLines.{scene_lines}
 use Rattle.rbc_model.specs.SessionReply.{Memory, refused_reply}
-use Rattle.rbc_model.specs.Sessions.{Prints}
 use Rattle.rbc_model.specs.Tracks.{Track}
 use Rattle.rbc_model.specs.Words.{line_of}
 use Rattle.rbc_session_laws.specs.declared.command.Command.TheVariants.{Show}
@@ -15,10 +14,9 @@ use Rattle.rbc_sweep.specs.Records.{begin_of, HistoryOnTrack, scene_now}
 use Rattle.rbc_lines.specs.ScenesOnTracks.{SceneOnTrack}
 use Rattle.rbc_sweep.specs.State.{State}
 use Rattle.rbc_sweep.specs.States.{state_of}
-use Rattle.rbc_sessions.specs.Sittings.{IsTreated}
-use Rattle.rbc_sessions.specs.declared.sitting.Sitting.{Sitting}
+use Rattle.rbc_sweep.specs.Seats.{Seated}
+use Rattle.rbc_sessions.specs.SeatChanges.{SeatReplies}
 use Rattle.rbc_sessions.proofs.TellingLemmas.{nothing_added}
-use Rattle.rbc_sessions.proofs.TreatingLemmas.{idle_treated}
 
 -- the line of a state
 abbrev pub state_line : State → List ℕ
@@ -38,10 +36,7 @@ module _ (history : HistoryOnTrack) where
   scene_refused track is = inr (ap (λ t. refused_reply t Memory) is, refl)
 
 -- what was asked for is shown from a seat
-module _ {L P E : Type 0} (kept : P → ℕ → Type 0) (before after : Sitting L P) (old new : Option (List ℕ)) (writer_failed : Bool) (result : Result (Unit {0}) E) where
-  pub shown_treated : (inquiry : Inquiry) (reply : List ℕ) → before.has_failed ≡ false → after.committer ≡ before.committer → after.has_failed ≡ before.has_failed → IsLater before.seat.told after.seat.told
-      → AnswersInquiry (begin_of after.seat.told) after.seat.told.entries reply None inquiry → after.seat.receipts ≡ before.seat.receipts → Prints old new writer_failed reply result
-      → IsTreated kept (Ok (Show inquiry)) before after old new writer_failed result
-  shown_treated inquiry reply whole committer same later answers receipts printed =
-      idle_treated kept before after old new writer_failed result (Ok (Show inquiry)) reply whole committer same
-      (record { before = after.seat.told; later = later; answered = answers; next = tt; told = nothing_added after.seat.told }) receipts printed
+pub shown_replied : (inquiry : Inquiry) (reply : List ℕ) (before after : Seated) → IsLater before.told after.told → AnswersInquiry (begin_of after.told) after.told.entries reply None inquiry
+    → after.receipts ≡ before.receipts → SeatReplies (Ok (Show inquiry)) before reply after
+shown_replied inquiry reply before after later answers receipts =
+    (record { before = after.told; later = later; answered = answers; next = tt; told = nothing_added after.told }, receipts)

@@ -1,5 +1,5 @@
 -- A talk at a desk from one seat with its committer, turn by turn. Lines that rest have their turns when they are entered.
-use Rattle.std.proofs.Common.{◌≡◌, ℕ, suc, ◌<◌, ◌≤◌, ◌+◌, Bool, true, false, List, [], ◌∷◌, ◌++◌, length, take, Option, Some, None, Result, Ok, Err, inl, inr, refl, sym, ap, ◌∙◌, subst, append_assoc, append-nil, lit≤, arith, length-append}
+use Rattle.std.proofs.Common.{◌≡◌, ℕ, suc, ◌≤◌, Bool, true, false, List, [], ◌∷◌, ◌++◌, length, take, Option, Some, None, Result, Ok, Err, inl, inr, refl, sym, ap, ◌∙◌, subst, append_assoc, append-nil, lit≤, arith, length-append}
 use Rattle.std.proofs.Math.Seq.{take-append_seam}
 use Rattle.std.specs.Prelude.{All, IsTrue, ◌||◌, ◌⊎◌}
 use Rattle.std.specs.Io.KnownBytes.{Appends}
@@ -7,24 +7,25 @@ use Rattle.std.proofs.lemmas.Bool.{both_ways}
 use Rattle.std.proofs.lemmas.List.{append_cancel_left, length-map, map-append}
 use Rattle.std.proofs.lemmas.List.Concat.{flat_map-append}
 use Rattle.std.proofs.lemmas.List.Elements.{All-append, All-cons, All-head, All-nil, All-tail, All-weaker}
-use Rattle.rbc_model.specs.declared.limits.TheConstants.{LONGEST_LINE}
+use Rattle.rbc_model.specs.declared.limits.TheConstants.{LONGEST_LINE, MOST_LINES}
 use Rattle.rbc_model.specs.declared.sessions.SessionFault.{SessionFault}
 use Rattle.rbc_model.specs.declared.sessions.SessionFault.TheVariants.{Read, Write, Lines, Overlong, Memory}
-use Rattle.rbc_model.specs.Talks.{Answered, AreShortButLast, IsTalk, Ends}
+use Rattle.rbc_model.specs.Talks.{Answered, IsTalk, Ends}
 use Rattle.rbc_model.specs.Histories.{Receipt}
 use Rattle.rbc_model.specs.Tracks.{Track}
 use Rattle.rbc_session_laws.specs.Commands.{command_in}
 use Rattle.rbc_session_laws.specs.declared.command.Command.{Command}
+use Rattle.rbc_model.specs.SessionReply.{SessionRefusal}
 use Rattle.rbc_model.specs.SessionText.{SessionLine}
 use Rattle.rbc_model.specs.Sessions.{WritesPart}
 use Rattle.rbc_sweep.specs.Outcomes.{AreFirst}
 use Rattle.rbc_sweep.specs.Records.{HistoryOnTrack}
 use Rattle.rbc_sweep.specs.Seats.{Seated}
 use Rattle.rbc_sessions.specs.SeatSessions.{SeatTurn, AreInTurn, receipts_of, receipts_gained, lines_at_seat, replies_at_seat, IsSeatSession}
-use Rattle.rbc_sessions.specs.Hearings.{Advances, BreaksOff, CatchesUp, CatchesUpAndTreats, IsGoing, Rests}
+use Rattle.rbc_sessions.specs.Hearings.{Advances, CatchesUp, IsGoing, Rests}
 use Rattle.rbc_sessions.specs.Resting.{command_of, commands_resting}
 use Rattle.rbc_sessions.specs.SeatChanges.{SeatComes, SeatHears}
-use Rattle.rbc_sessions.specs.Sittings.{AreToldKept, Enters, IsKept, StaysKept, TreatsLine}
+use Rattle.rbc_sessions.specs.Sittings.{AreToldKept, Enters, IsKept, StaysKept}
 use Rattle.rbc_sessions.specs.declared.batch.Resting.{Resting}
 use Rattle.rbc_sessions.specs.declared.batch.TheConstants.{MOST_RESTING}
 use Rattle.rbc_sessions.specs.declared.hearing.Hearing.{Hearing}
@@ -51,83 +52,50 @@ part_of input old new treated rest text (Err Read) ends = whole_part old new tex
 part_of input old new treated rest text (Err Write) ends = ends.0
 part_of input old new treated rest text (Err Memory) ends = whole_part old new text ends.0
 
--- the last of the first lines, where no line but the last may be too long, is their last
-short_first : (lines more : List (List ℕ)) → AreShortButLast LONGEST_LINE (lines ++ more) → 0 < length lines → AreShortButLast LONGEST_LINE lines
-short_first [] more short some = absurd (omega (arith, some))
-short_first (line ∷ []) more short some = ([], line, refl, All-nil (λ (l : List ℕ). length l ≤ LONGEST_LINE))
-short_first (line ∷ other ∷ lines) more ([], last, is, short) some = absurd (let c : ⊥ = cc in c)
-short_first (line ∷ other ∷ lines) more (first ∷ before, last, is, short) some =
-    let same : line ≡ first = cc in
-    let others : other ∷ lines ++ more ≡ before ++ last ∷ [] = cc in
-    let rest = short_first (other ∷ lines) more (before, last, others, All-tail (λ (l : List ℕ). length l ≤ LONGEST_LINE) first before short) (omega arith) in (
-      line ∷ rest.0,
-      rest.1,
-      ap (λ l. line ∷ l) rest.2,
-      All-cons (λ (l : List ℕ). length l ≤ LONGEST_LINE) line rest.0
-          (subst (λ (l : List ℕ). length l ≤ LONGEST_LINE) (sym same) (All-head (λ (l : List ℕ). length l ≤ LONGEST_LINE) first before short)) rest.3,
-    )
-
--- where keeping has failed, the replies to the last lines are not written, and a line behind them is not treated
-ends_so : (failed : Bool) (input : List ℕ) (old new : Option (List ℕ)) (rest untreated : List (List ℕ)) (told untold : List SeatTurn) (text : List ℕ) (result : Result (Unit {0}) SessionFault)
-    → text ≡ replies_at_seat told → (failed ≡ false → untold ≡ []) → (failed ≡ false → untreated ≡ []) → (untreated ≡ []) ⊎ (0 < length untold) → (failed ≡ true → result ≡ Err Write)
-    → Ends LONGEST_LINE input old new (lines_at_seat (told ++ untold) ++ untreated) rest text result
-    → Ends LONGEST_LINE input old new (lines_at_seat (told ++ untold)) (untreated ++ rest) (replies_at_seat (told ++ untold)) result
-ends_so false input old new rest untreated told untold text result said none none_untreated some cut ends =
+-- where keeping has failed, the replies to the last lines are not written
+ends_so : (failed : Bool) (input : List ℕ) (old new : Option (List ℕ)) (rest : List (List ℕ)) (told untold : List SeatTurn) (text : List ℕ) (result : Result (Unit {0}) SessionFault)
+    → text ≡ replies_at_seat told → (failed ≡ false → untold ≡ []) → (failed ≡ true → result ≡ Err Write) → Ends LONGEST_LINE input old new (lines_at_seat (told ++ untold)) rest text result
+    → Ends LONGEST_LINE input old new (lines_at_seat (told ++ untold)) rest (replies_at_seat (told ++ untold)) result
+ends_so false input old new rest told untold text result said none cut ends =
     let all : text ≡ replies_at_seat (told ++ untold) =
     said ∙ ap replies_at_seat (sym (append-nil told)) ∙ ap (λ (u : List SeatTurn). replies_at_seat (told ++ u)) (sym (none refl)) in
-    let lines : lines_at_seat (told ++ untold) ++ untreated ≡ lines_at_seat (told ++ untold) =
-    ap (λ (u : List (List ℕ)). lines_at_seat (told ++ untold) ++ u) (none_untreated refl) ∙ append-nil (lines_at_seat (told ++ untold)) in
-    let behind : rest ≡ untreated ++ rest = ap (λ (u : List (List ℕ)). u ++ rest) (sym (none_untreated refl)) in
-    subst (λ x. Ends LONGEST_LINE input old new (lines_at_seat (told ++ untold)) (untreated ++ rest) x result) all
-    (subst (λ (r : List (List ℕ)). Ends LONGEST_LINE input old new (lines_at_seat (told ++ untold)) r text result) behind
-    (subst (λ (ls : List (List ℕ)). Ends LONGEST_LINE input old new ls rest text result) lines ends))
-ends_so true input old new rest untreated told untold text result said none none_untreated some cut ends =
+    subst (λ x. Ends LONGEST_LINE input old new (lines_at_seat (told ++ untold)) rest x result) all ends
+ends_so true input old new rest told untold text result said none cut ends =
     let all : text ++ replies_at_seat untold ≡ replies_at_seat (told ++ untold) =
     ap (λ x. x ++ replies_at_seat untold) said ∙ sym (flat_map-append (λ (turn : SeatTurn). turn.reply) told untold) in
-    let failed : Ends LONGEST_LINE input old new (lines_at_seat (told ++ untold) ++ untreated) rest text (Err Write) =
-    subst (λ r. Ends LONGEST_LINE input old new (lines_at_seat (told ++ untold) ++ untreated) rest text r) (cut refl) ends in
-    subst (λ r. Ends LONGEST_LINE input old new (lines_at_seat (told ++ untold)) (untreated ++ rest) (replies_at_seat (told ++ untold)) r) (sym (cut refl))
-    (subst (λ x. WritesPart old new x) all (longer_part old new text (replies_at_seat untold) failed.0), short some)
-  where
-    turn_lines : List (List ℕ)
-    turn_lines = lines_at_seat (told ++ untold)
-
-    short : (untreated ≡ []) ⊎ (0 < length untold) → AreShortButLast LONGEST_LINE turn_lines
-    short (inl none) =
-        let failed : Ends LONGEST_LINE input old new (turn_lines ++ untreated) rest text (Err Write) = subst (λ r. Ends LONGEST_LINE input old new (turn_lines ++ untreated) rest text r) (cut refl) ends in
-        subst (λ (ls : List (List ℕ)). AreShortButLast LONGEST_LINE ls) (ap (λ (u : List (List ℕ)). turn_lines ++ u) none ∙ append-nil turn_lines) failed.1
-    short (inr any) =
-        let failed : Ends LONGEST_LINE input old new (turn_lines ++ untreated) rest text (Err Write) = subst (λ r. Ends LONGEST_LINE input old new (turn_lines ++ untreated) rest text r) (cut refl) ends in
-        short_first turn_lines untreated failed.1 (omega (arith, any, length-append told untold, length-map (told ++ untold) (λ (turn : SeatTurn). turn.line)))
+    let failed : Ends LONGEST_LINE input old new (lines_at_seat (told ++ untold)) rest text (Err Write) =
+    subst (λ r. Ends LONGEST_LINE input old new (lines_at_seat (told ++ untold)) rest text r) (cut refl) ends in
+    subst (λ r. Ends LONGEST_LINE input old new (lines_at_seat (told ++ untold)) rest (replies_at_seat (told ++ untold)) r) (sym (cut refl))
+    (subst (λ x. WritesPart old new x) all (longer_part old new text (replies_at_seat untold) failed.0), failed.1)
 
 -- ---- lines that rest
 
 -- on this track these lines ask for this, one each
-abbrev AreAsked : Track → List (List ℕ) → List Command → Type 0
+abbrev AreAsked : Track → List (List ℕ) → List (Result Command SessionRefusal) → Type 0
 AreAsked track [] [] = Unit {0}
-AreAsked track [] (told ∷ more) = ⊥
+AreAsked track [] (command ∷ more) = ⊥
 AreAsked track (line ∷ lines) [] = ⊥
-AreAsked track (line ∷ lines) (told ∷ more) = (command_in track line ≡ Ok told) × AreAsked track lines more
+AreAsked track (line ∷ lines) (command ∷ more) = (command_in track line ≡ command) × AreAsked track lines more
 
-asked_more : (track : Track) (lines : List (List ℕ)) (told : List Command) (line : List ℕ) (one : Command) → AreAsked track lines told → command_in track line ≡ Ok one
-    → AreAsked track (lines ++ line ∷ []) (told ++ one ∷ [])
+asked_more : (track : Track) (lines : List (List ℕ)) (commands : List (Result Command SessionRefusal)) (line : List ℕ) (one : Result Command SessionRefusal) → AreAsked track lines commands
+    → command_in track line ≡ one → AreAsked track (lines ++ line ∷ []) (commands ++ one ∷ [])
 asked_more track [] [] line one none is = (is, tt)
-asked_more track [] (some ∷ told) line one none is = absurd none
+asked_more track [] (some ∷ commands) line one none is = absurd none
 asked_more track (first ∷ lines) [] line one none is = absurd none
-asked_more track (first ∷ lines) (some ∷ told) line one (so, more) is = (so, asked_more track lines told line one more is)
+asked_more track (first ∷ lines) (some ∷ commands) line one (so, more) is = (so, asked_more track lines commands line one more is)
 
 -- they are as many
-asked_length : (track : Track) (lines : List (List ℕ)) (told : List Command) → AreAsked track lines told → length lines ≡ length told
+asked_length : (track : Track) (lines : List (List ℕ)) (commands : List (Result Command SessionRefusal)) → AreAsked track lines commands → length lines ≡ length commands
 asked_length track [] [] none = refl
-asked_length track [] (told ∷ more) none = absurd none
+asked_length track [] (command ∷ more) none = absurd none
 asked_length track (line ∷ lines) [] none = absurd none
-asked_length track (line ∷ lines) (told ∷ more) (so, others) = ap suc (asked_length track lines more others)
+asked_length track (line ∷ lines) (command ∷ more) (so, others) = ap suc (asked_length track lines more others)
 
 none_asked : (track : Track) (lines : List (List ℕ)) → AreAsked track lines [] → lines ≡ []
 none_asked track [] none = refl
 none_asked track (line ∷ lines) none = absurd none
 
--- The turns of lines that rested, from a seat to the same seat later.
+-- The turns of lines, from a seat to the same seat later.
 record Heard (before after : Seated) (lines : List (List ℕ)) (text : List ℕ) : Type 0 where
   pub turns : List SeatTurn
   pub of_lines : lines_at_seat turns ≡ lines
@@ -135,7 +103,8 @@ record Heard (before after : Seated) (lines : List (List ℕ)) (text : List ℕ)
   pub right : AreInTurn before.told turns after.told
   pub receipts : after.receipts ≡ before.receipts ++ receipts_gained turns
 
-heard : (before after : Seated) (lines : List (List ℕ)) (told : List Command) (text : List ℕ) → AreAsked before.told.track lines told → SeatHears before told text after → Heard before after lines text
+heard : (before after : Seated) (lines : List (List ℕ)) (commands : List (Result Command SessionRefusal)) (text : List ℕ) → AreAsked before.told.track lines commands → SeatHears before commands text after
+    → Heard before after lines text
 heard before after [] [] text none (silent, same) = record {
   turns = [];
   of_lines = refl;
@@ -143,11 +112,11 @@ heard before after [] [] text none (silent, same) = record {
   right = ap (λ (s : Seated). s.told) same;
   receipts = ap (λ (s : Seated). s.receipts) same ∙ sym (append-nil before.receipts);
 }
-heard before after [] (one ∷ told) text none hears = absurd none
+heard before after [] (one ∷ commands) text none hears = absurd none
 heard before after (line ∷ lines) [] text none hears = absurd none
-heard before after (line ∷ lines) (one ∷ told) text (asks, others) (reply, rest, next, comes, is, hears) =
+heard before after (line ∷ lines) (one ∷ commands) text (asks, others) (reply, rest, next, comes, is, hears) =
     let goes : SeatComes (command_in before.told.track line) before reply next = subst (λ d. SeatComes d before reply next) (sym asks) comes in
-    let more = heard next after lines told rest (subst (λ t. AreAsked t lines told) (sym (turn_track before.told next.told reply comes.0 (Ok one) comes.1)) others) hears in
+    let more = heard next after lines commands rest (subst (λ t. AreAsked t lines commands) (sym (turn_track before.told next.told reply comes.0 one comes.1)) others) hears in
     record {
       turns = record { line = line; reply = reply; receipt = goes.0; told = next.told } ∷ more.turns;
       of_lines = ap (λ l. line ∷ l) more.of_lines;
@@ -185,13 +154,10 @@ module _ {L P : Type 0} (kept : P → ℕ → Type 0) where
   record Turned (before after : Sitting L P) (lines : List (List ℕ)) (text : List ℕ) : Type 0 where
     pub told : List SeatTurn
     pub untold : List SeatTurn
-    pub untreated : List (List ℕ)
-    pub of_lines : lines_at_seat (told ++ untold) ++ untreated ≡ lines
+    pub of_lines : lines_at_seat (told ++ untold) ≡ lines
     pub said : text ≡ replies_at_seat told
     pub none_untold : after.has_failed ≡ false → untold ≡ []
     pub few_untold : length untold ≤ MOST_RESTING
-    pub none_untreated : after.has_failed ≡ false → untreated ≡ []
-    pub some : (untreated ≡ []) ⊎ (0 < length untold)
     pub right : AreInTurn before.seat.told (told ++ untold) after.seat.told
     pub receipts : after.seat.receipts ≡ before.seat.receipts ++ receipts_gained (told ++ untold)
     pub stays : StaysKept kept before.committer after.committer
@@ -201,88 +167,22 @@ module _ {L P : Type 0} (kept : P → ℕ → Type 0) where
   no_turn before after text none same = record {
     told = [];
     untold = [];
-    untreated = [];
     of_lines = refl;
     said = none;
     none_untold = λ _. refl;
     few_untold = lit≤ tt;
-    none_untreated = λ _. refl;
-    some = inl refl;
     right = ap (λ (s : Sitting L P). s.seat.told) same;
     receipts = ap (λ (s : Sitting L P). s.seat.receipts) same ∙ sym (append-nil before.seat.receipts);
     stays = subst (λ (s : Sitting L P). StaysKept kept before.committer s.committer) (sym same) (λ place is. is);
     each = All-nil (λ (turn : SeatTurn). IsKept (kept after.committer) turn.receipt);
   }
 
-  -- a line whose reply was written
-  one_told : (before next after : Sitting L P) (line reply rest : List ℕ) (lines : List (List ℕ)) (text : List ℕ) → TreatsLine kept before line reply next → next.has_failed ≡ false
-      → text ≡ reply ++ rest → Turned next after lines rest → Turned before after (line ∷ lines) text
-  one_told before next after line reply rest lines text goes whole is more =
-      let comes = goes.comes in
-      let said = goes.said whole in
-      let turn : SeatTurn = record { line = line; reply = goes.reply; receipt = comes.0; told = next.seat.told } in
-      record {
-        told = turn ∷ more.told;
-        untold = more.untold;
-        untreated = more.untreated;
-        of_lines = ap (λ l. line ∷ l) more.of_lines;
-        said = is ∙ ap (λ r. r ++ rest) said.0 ∙ ap (λ r. goes.reply ++ r) more.said;
-        none_untold = more.none_untold;
-        few_untold = more.few_untold;
-        none_untreated = more.none_untreated;
-        some = more.some;
-        right = (comes.1, more.right);
-        receipts = more.receipts ∙ ap (λ b. b ++ receipts_gained (more.told ++ more.untold)) comes.2 ∙ append_assoc before.seat.receipts (receipts_of comes.0) (receipts_gained (more.told ++ more.untold));
-        stays = λ place k. more.stays place (goes.stays place k);
-        each = All-cons (λ (t : SeatTurn). IsKept (kept after.committer) t.receipt) turn more.told (still_kept kept next.committer after.committer comes.0 more.stays said.1) more.each;
-      }
-
-  -- a line behind which keeping has failed: the last
-  one_untold : (before next after : Sitting L P) (line reply rest : List ℕ) (text : List ℕ) → TreatsLine kept before line reply next → next.has_failed ≡ true
-      → text ≡ reply ++ rest → rest ≡ [] → after ≡ next → Turned before after (line ∷ []) text
-  one_untold before next after line reply rest text goes failed is none same =
-      let comes = goes.comes in
-      let turn : SeatTurn = record { line = line; reply = goes.reply; receipt = comes.0; told = next.seat.told } in
-      subst (λ (s : Sitting L P). Turned before s (line ∷ []) text) (sym same) (record {
-        told = [];
-        untold = turn ∷ [];
-        untreated = [];
-        of_lines = refl;
-        said = is ∙ ap (λ r. r ++ rest) (goes.unsaid failed) ∙ none;
-        none_untold = λ whole. absurd (both_ways _ whole failed);
-        few_untold = lit≤ tt;
-        none_untreated = λ _. refl;
-        some = inl refl;
-        right = (comes.1, refl);
-        receipts = comes.2 ∙ ap (λ r. before.seat.receipts ++ r) (sym (append-nil (receipts_of comes.0)));
-        stays = goes.stays;
-        each = All-nil (λ (t : SeatTurn). IsKept (kept next.committer) t.receipt);
-      })
-
-  -- turns from a sitting are turns from every other with its seat and committer
-  turned_from : (before same after : Sitting L P) (lines : List (List ℕ)) (text : List ℕ) → same.seat ≡ before.seat → same.committer ≡ before.committer → Turned same after lines text → Turned before after lines text
-  turned_from before same after lines text seat committer turns = record {
-    told = turns.told;
-    untold = turns.untold;
-    untreated = turns.untreated;
-    of_lines = turns.of_lines;
-    said = turns.said;
-    none_untold = turns.none_untold;
-    few_untold = turns.few_untold;
-    none_untreated = turns.none_untreated;
-    some = turns.some;
-    right = subst (λ (s : Seated). AreInTurn s.told (turns.told ++ turns.untold) after.seat.told) seat turns.right;
-    receipts = subst (λ (s : Seated). after.seat.receipts ≡ s.receipts ++ receipts_gained (turns.told ++ turns.untold)) seat turns.receipts;
-    stays = subst (λ p. StaysKept kept p after.committer) committer turns.stays;
-    each = turns.each;
-  }
-
-  -- lines that rested, whose replies were written once all was kept, and those behind them
-  batch_told : (before next after : Sitting L P) (pending : List (List ℕ)) (told : List Command) (text : List ℕ) (lines : List (List ℕ)) (rest : List ℕ)
-      → AreAsked before.seat.told.track pending told → Enters kept before told text next → next.has_failed ≡ false → Turned next after lines rest
-      → Turned before after (pending ++ lines) (text ++ rest)
-  batch_told before next after pending told text lines rest asked enters whole more =
-      let turns = heard before.seat next.seat pending told enters.replies asked enters.hears in
+  -- lines whose replies were written once all was kept, and those behind them
+  all_told : (before next after : Sitting L P) (first : List (List ℕ)) (commands : List (Result Command SessionRefusal)) (text : List ℕ) (lines : List (List ℕ)) (rest : List ℕ)
+      → AreAsked before.seat.told.track first commands → Enters kept before commands text next → next.has_failed ≡ false → Turned next after lines rest
+      → Turned before after (first ++ lines) (text ++ rest)
+  all_told before next after first commands text lines rest asked enters whole more =
+      let turns = heard before.seat next.seat first commands enters.replies asked enters.hears in
       let said = enters.said whole in
       let gained : enters.gained ≡ receipts_gained turns.turns = append_cancel_left before.seat.receipts enters.gained (receipts_gained turns.turns) (sym enters.receipts ∙ turns.receipts) in
       let kept_then : All (λ (t : SeatTurn). IsKept (kept next.committer) t.receipt) turns.turns =
@@ -292,17 +192,12 @@ module _ {L P : Type 0} (kept : P → ℕ → Type 0) where
       record {
         told = turns.turns ++ more.told;
         untold = more.untold;
-        untreated = more.untreated;
-        of_lines = ap (λ (ts : List SeatTurn). lines_at_seat ts ++ more.untreated) all
-            ∙ ap (λ (ls : List (List ℕ)). ls ++ more.untreated) (map-append (λ (t : SeatTurn). t.line) turns.turns behind)
-            ∙ append_assoc (lines_at_seat turns.turns) (lines_at_seat behind) more.untreated
+        of_lines = ap (λ (ts : List SeatTurn). lines_at_seat ts) all ∙ map-append (λ (t : SeatTurn). t.line) turns.turns behind
             ∙ ap (λ (ls : List (List ℕ)). lines_at_seat turns.turns ++ ls) more.of_lines ∙ ap (λ (ls : List (List ℕ)). ls ++ lines) turns.of_lines;
         said = ap (λ t. t ++ rest) (said.0 ∙ turns.said) ∙ ap (λ t. replies_at_seat turns.turns ++ t) more.said
             ∙ sym (flat_map-append (λ (t : SeatTurn). t.reply) turns.turns more.told);
         none_untold = more.none_untold;
         few_untold = more.few_untold;
-        none_untreated = more.none_untreated;
-        some = more.some;
         right = subst (λ (ts : List SeatTurn). AreInTurn before.seat.told ts after.seat.told) (sym all)
             (in_turn before.seat.told next.seat.told after.seat.told turns.turns behind turns.right more.right);
         receipts = more.receipts ∙ ap (λ (rs : List Receipt). rs ++ receipts_gained behind) turns.receipts
@@ -316,29 +211,25 @@ module _ {L P : Type 0} (kept : P → ℕ → Type 0) where
             more.each;
       }
 
-  -- lines that rested, and could not be kept: the last, but for those that are not treated
-  batch_untold : (before next after : Sitting L P) (pending : List (List ℕ)) (told : List Command) (text rest : List ℕ) (untreated : List (List ℕ))
-      → AreAsked before.seat.told.track pending told → Enters kept before told text next → next.has_failed ≡ true → length told ≤ MOST_RESTING → 0 < length told
-      → rest ≡ [] → after ≡ next → Turned before after (pending ++ untreated) (text ++ rest)
-  batch_untold before next after pending told text rest untreated asked enters failed few some none same =
-      let turns = heard before.seat next.seat pending told enters.replies asked enters.hears in
-      let count : length turns.turns ≡ length told =
-      sym (length-map turns.turns (λ (t : SeatTurn). t.line)) ∙ ap (λ (ls : List (List ℕ)). length ls) turns.of_lines ∙ asked_length before.seat.told.track pending told asked in
-      subst (λ (s : Sitting L P). Turned before s (pending ++ untreated) (text ++ rest)) (sym same) (record {
+  -- lines of which not all could be kept: the last
+  none_told : (before after : Sitting L P) (lines : List (List ℕ)) (commands : List (Result Command SessionRefusal)) (text : List ℕ)
+      → AreAsked before.seat.told.track lines commands → Enters kept before commands text after → after.has_failed ≡ true → length commands ≤ MOST_RESTING → Turned before after lines text
+  none_told before after lines commands text asked enters failed few =
+      let turns = heard before.seat after.seat lines commands enters.replies asked enters.hears in
+      let count : length turns.turns ≡ length commands =
+      sym (length-map turns.turns (λ (t : SeatTurn). t.line)) ∙ ap (λ (ls : List (List ℕ)). length ls) turns.of_lines ∙ asked_length before.seat.told.track lines commands asked in
+      record {
         told = [];
         untold = turns.turns;
-        untreated = untreated;
-        of_lines = ap (λ (ls : List (List ℕ)). ls ++ untreated) turns.of_lines;
-        said = ap (λ t. t ++ rest) (enters.unsaid failed) ∙ none;
+        of_lines = turns.of_lines;
+        said = enters.unsaid failed;
         none_untold = λ whole. absurd (both_ways _ whole failed);
         few_untold = subst (λ n. n ≤ MOST_RESTING) (sym count) few;
-        none_untreated = λ whole. absurd (both_ways _ whole failed);
-        some = inr (subst (λ n. 0 < n) (sym count) some);
         right = turns.right;
         receipts = turns.receipts;
         stays = enters.stays;
-        each = All-nil (λ (t : SeatTurn). IsKept (kept next.committer) t.receipt);
-      })
+        each = All-nil (λ (t : SeatTurn). IsKept (kept after.committer) t.receipt);
+      }
 
   module _ {T : Type 0} (track : Track) (says : T → SessionLine → Type 0) (failed : P → Type 0) where
     abbrev ArePending : List (List ℕ) → Hearing L P T → Type 0
@@ -352,38 +243,15 @@ module _ {L P : Type 0} (kept : P → ℕ → Type 0) where
     pending_more before after pending line asked rests =
         let one = rests.one in
         subst (λ (s : Sitting L P). AreAsked s.seat.told.track (pending ++ line ∷ []) (commands_resting after.batch)) (sym rests.sitting)
-        (subst (λ (items : List Command). AreAsked before.sitting.seat.told.track (pending ++ line ∷ []) items)
-        (sym (ap (λ (items : List (Resting T)). commands_resting items) rests.behind ∙ map-append (λ (r : Resting T). command_of r.rested) before.batch (one ∷ [])))
-        (asked_more before.sitting.seat.told.track pending (commands_resting before.batch) line (command_of one.rested) asked rests.asks))
+        (subst (λ (items : List (Result Command SessionRefusal)). AreAsked before.sitting.seat.told.track (pending ++ line ∷ []) items)
+        (sym (ap (λ (items : List (Resting T)). commands_resting items) rests.behind ∙ map-append (λ (r : Resting T). Ok (command_of r.rested)) before.batch (one ∷ [])))
+        (asked_more before.sitting.seat.told.track pending (commands_resting before.batch) line (Ok (command_of one.rested)) asked rests.asks))
 
-    -- no line is treated behind one where keeping failed
-    advances_whole : (before after : Hearing L P T) (line text : List ℕ) → Advances track says kept failed before line text after → before.sitting.has_failed ≡ false
-    advances_whole before after line text advances = by advances.how
-      where
-        by : (Rests track says before line after × (text ≡ []))
-            ⊎ (((behind : Hearing L P T) × Rests track says before line behind × CatchesUp kept behind text after)
-            ⊎ (CatchesUpAndTreats kept before line text after ⊎ (IsGoing track says before × BreaksOff kept before text after)))
-            → before.sitting.has_failed ≡ false
-        by (inl (rests, silent)) = let going = rests.going in going.whole
-        by (inr (inl (behind, rests, catches_up))) = let going = rests.going in going.whole
-        by (inr (inr (inl treats))) = let catches_up = treats.catches_up in let enters = catches_up.enters in enters.whole
-        by (inr (inr (inr (going, breaks)))) = going.whole
-
-    -- nothing comes behind one where keeping failed
+    -- nothing comes behind a line where keeping failed
     nothing_behind : (next after : Hearing L P T) (lines : List (List ℕ)) (rest : List ℕ) → next.sitting.has_failed ≡ true → Answered (Advances track says kept failed) next lines rest after
         → (lines ≡ []) × (rest ≡ []) × (after.sitting ≡ next.sitting)
     nothing_behind next after [] rest broken (silent, same) = (refl, silent, ap (λ (h : Hearing L P T). h.sitting) same)
-    nothing_behind next after (line ∷ lines) rest broken (said, others, behind, advances, so, still) = absurd (both_ways _ (advances_whole next behind line said advances) broken)
-
-    -- what rested was entered, and could not be kept
-    broke_off : (before next after : Hearing L P T) (pending lines untreated : List (List ℕ)) (text rest : List ℕ) → ArePending pending before → CatchesUp kept before text next
-        → next.sitting.has_failed ≡ true → Answered (Advances track says kept failed) next lines rest after → Turned before.sitting after.sitting (pending ++ (untreated ++ lines)) (text ++ rest)
-    broke_off before next after pending lines untreated text rest asked catches_up broken later =
-        let none = nothing_behind next after lines rest broken later in
-        let count = length-map before.batch (λ (r : Resting T). command_of r.rested) in
-        subst (λ (ls : List (List ℕ)). Turned before.sitting after.sitting (pending ++ ls) (text ++ rest)) (sym (ap (λ (ls : List (List ℕ)). untreated ++ ls) none.0 ∙ append-nil untreated))
-        (batch_untold before.sitting next.sitting after.sitting pending (commands_resting before.batch) text rest untreated asked catches_up.enters broken
-        (subst (λ n. n ≤ MOST_RESTING) (sym count) catches_up.few) (subst (λ n. 0 < n) (sym count) (catches_up.some broken)) none.1 none.2)
+    nothing_behind next after (line ∷ lines) rest broken (said, others, behind, advances, so, still) = let going = advances.going in absurd (both_ways _ going.whole broken)
 
     -- Lines are pending, and then come these: all have had their turns where none rests.
     turned : (before after : Hearing L P T) (pending lines : List (List ℕ)) (text : List ℕ) → ArePending pending before
@@ -394,62 +262,47 @@ module _ {L P : Type 0} (kept : P → ℕ → Type 0) where
         subst (λ (ls : List (List ℕ)). Turned before.sitting after.sitting (ls ++ []) text) (sym (none_asked before.sitting.seat.told.track pending asked_none))
         (no_turn before.sitting after.sitting text silent (ap (λ (h : Hearing L P T). h.sitting) same))
     turned before after pending (line ∷ lines) text asked (reply, rest, next, advances, is, later) none =
-        subst (λ t. Turned before.sitting after.sitting (pending ++ line ∷ lines) t) (sym is) (by (λ others told. turned next after others lines rest told later none) advances.how)
+        subst (λ (ls : List (List ℕ)). Turned before.sitting after.sitting ls text) (append_assoc pending (line ∷ []) lines)
+        (subst (λ t. Turned before.sitting after.sitting (pending_then ++ lines) t) (sym is) (by (λ others told. turned next after others lines rest told later none) advances.how))
       where
+        pending_then : List (List ℕ)
+        pending_then = pending ++ line ∷ []
+
         -- the turns from here on, with those of the lines that are pending then
         Continues : Type 0
         Continues = (others : List (List ℕ)) → ArePending others next → Turned next.sitting after.sitting (others ++ lines) rest
 
-        from_next : Continues → next.batch ≡ [] → Turned next.sitting after.sitting lines rest
-        from_next continue none_now = continue [] (none_pending next none_now)
+        opened : Track
+        opened = before.sitting.seat.told.track
 
-        pending_then : List (List ℕ)
-        pending_then = pending ++ line ∷ []
+        commands : List (Result Command SessionRefusal)
+        commands = commands_resting before.batch ++ command_in opened line ∷ []
 
-        shifted : (said : List ℕ) → Turned before.sitting after.sitting (pending_then ++ lines) said → Turned before.sitting after.sitting (pending ++ line ∷ lines) said
-        shifted said turns = subst (λ (ls : List (List ℕ)). Turned before.sitting after.sitting ls said) (append_assoc pending (line ∷ []) lines) turns
+        asked_then : AreAsked opened pending_then commands
+        asked_then = asked_more opened pending (commands_resting before.batch) line (command_in opened line) asked refl
 
-        treated : Continues → (mid : Sitting L P) (late : List ℕ) → TreatsLine kept mid line late next.sitting → next.batch ≡ [] → Turned mid after.sitting (line ∷ lines) (late ++ rest)
-        treated continue mid late treats none_now = by_failure next.sitting.has_failed refl
-          where
-            by_failure : (broken : Bool) → next.sitting.has_failed ≡ broken → Turned mid after.sitting (line ∷ lines) (late ++ rest)
-            by_failure false whole = one_told mid next.sitting after.sitting line late rest lines (late ++ rest) treats whole refl (from_next continue none_now)
-            by_failure true broken =
-                let nothing = nothing_behind next after lines rest broken later in
-                subst (λ (ls : List (List ℕ)). Turned mid after.sitting (line ∷ ls) (late ++ rest)) (sym nothing.0)
-                (one_untold mid next.sitting after.sitting line late rest (late ++ rest) treats broken refl nothing.1 nothing.2)
+        few : IsGoing track says before → length commands ≤ MOST_RESTING
+        few going =
+            omega (arith, going.few, length-append (commands_resting before.batch) (command_in opened line ∷ []), length-map {B = Result Command SessionRefusal} before.batch (λ (r : Resting T). Ok (command_of r.rested)))
 
-        entered : Continues → (behind : Hearing L P T) → ArePending pending_then behind → CatchesUp kept behind reply next → Turned behind.sitting after.sitting (pending_then ++ lines) (reply ++ rest)
-        entered continue behind asked_then catches_up = by_failure next.sitting.has_failed refl
-          where
-            by_failure : (broken : Bool) → next.sitting.has_failed ≡ broken → Turned behind.sitting after.sitting (pending_then ++ lines) (reply ++ rest)
-            by_failure false whole =
-                batch_told behind.sitting next.sitting after.sitting pending_then (commands_resting behind.batch) reply lines rest asked_then catches_up.enters whole
-                (from_next continue catches_up.none_rests)
-            by_failure true broken = broke_off behind next after pending_then lines [] reply rest asked_then catches_up broken later
+        entered : Continues → IsGoing track says before → CatchesUp kept before line reply next → (broken : Bool) → next.sitting.has_failed ≡ broken
+            → Turned before.sitting after.sitting (pending_then ++ lines) (reply ++ rest)
+        entered continue going catches_up false whole =
+            all_told before.sitting next.sitting after.sitting pending_then commands reply lines rest asked_then catches_up.enters whole (continue [] (none_pending next catches_up.none_rests))
+        entered continue going catches_up true broken =
+            let nothing = nothing_behind next after lines rest broken later in
+            subst (λ (s : Sitting L P). Turned before.sitting s (pending_then ++ lines) (reply ++ rest)) (sym nothing.2)
+            (subst (λ (ls : List (List ℕ)). Turned before.sitting next.sitting (pending_then ++ ls) (reply ++ rest)) (sym nothing.0)
+            (subst (λ t. Turned before.sitting next.sitting (pending_then ++ []) (reply ++ t)) (sym nothing.1)
+            (subst (λ (ls : List (List ℕ)). Turned before.sitting next.sitting ls (reply ++ [])) (sym (append-nil pending_then))
+            (subst (λ t. Turned before.sitting next.sitting pending_then t) (sym (append-nil reply))
+            (none_told before.sitting next.sitting pending_then commands reply asked_then catches_up.enters broken (few going))))))
 
-        by : Continues → (Rests track says before line next × (reply ≡ []))
-            ⊎ (((behind : Hearing L P T) × Rests track says before line behind × CatchesUp kept behind reply next)
-            ⊎ (CatchesUpAndTreats kept before line reply next ⊎ (IsGoing track says before × BreaksOff kept before reply next)))
-            → Turned before.sitting after.sitting (pending ++ line ∷ lines) (reply ++ rest)
+        by : Continues → (Rests track says before line next × (reply ≡ [])) ⊎ CatchesUp kept before line reply next → Turned before.sitting after.sitting (pending_then ++ lines) (reply ++ rest)
         by continue (inl (rests, silent)) =
-            shifted (reply ++ rest)
-            (turned_from before.sitting next.sitting after.sitting (pending_then ++ lines) (reply ++ rest) (ap (λ (s : Sitting L P). s.seat) rests.sitting) (ap (λ (s : Sitting L P). s.committer) rests.sitting)
-            (subst (λ t. Turned next.sitting after.sitting (pending_then ++ lines) t) (sym (ap (λ t. t ++ rest) silent))
-            (continue pending_then (pending_more before next pending line asked rests))))
-        by continue (inr (inl (behind, rests, catches_up))) =
-            shifted (reply ++ rest)
-            (turned_from before.sitting behind.sitting after.sitting (pending_then ++ lines) (reply ++ rest) (ap (λ (s : Sitting L P). s.seat) rests.sitting) (ap (λ (s : Sitting L P). s.committer) rests.sitting)
-            (entered continue behind (pending_more before behind pending line asked rests) catches_up))
-        by continue (inr (inr (inl treats))) =
-            let mid = treats.next in
-            let catches_up = treats.catches_up in
-            let line_treated = treats.treats in
-            subst (λ t. Turned before.sitting after.sitting (pending ++ line ∷ lines) t) (sym (ap (λ t. t ++ rest) treats.both ∙ append_assoc treats.early treats.late rest))
-            (batch_told before.sitting mid.sitting after.sitting pending (commands_resting before.batch) treats.early (line ∷ lines) (treats.late ++ rest) asked catches_up.enters
-            line_treated.whole (treated continue mid.sitting treats.late line_treated treats.none_rests))
-        by continue (inr (inr (inr (going, breaks)))) =
-            broke_off before next after pending lines (line ∷ []) reply rest asked breaks.catches_up breaks.failed later
+            subst (λ (s : Sitting L P). Turned s after.sitting (pending_then ++ lines) (reply ++ rest)) rests.sitting
+            (subst (λ t. Turned next.sitting after.sitting (pending_then ++ lines) t) (sym (ap (λ t. t ++ rest) silent)) (continue pending_then (pending_more before next pending line asked rests)))
+        by continue (inr catches_up) = entered continue advances.going catches_up next.sitting.has_failed refl
 
     pub sitting_session : (first last : Hearing L P T) (input : List ℕ) (old new : Option (List ℕ)) (result : Result (Unit {0}) SessionFault)
         → IsTalk LONGEST_LINE (Advances track says kept failed) first last input old new result → first.batch ≡ [] → last.batch ≡ [] → (last.sitting.has_failed ≡ true → result ≡ Err Write)
@@ -457,18 +310,15 @@ module _ {L P : Type 0} (kept : P → ℕ → Type 0) where
     sitting_session first last input old new result t none none_left cut =
         let told = turned first last [] t.treated t.text (none_pending first none) t.answered none_left in
         let after = last.sitting in
-        let turns = told.told ++ told.untold in
-        let count : length turns + length told.untreated ≡ length t.treated =
-        ap (λ n. n + length told.untreated) (sym (length-map turns (λ (turn : SeatTurn). turn.line))) ∙ sym (length-append (lines_at_seat turns) told.untreated)
-        ∙ ap (λ (l : List (List ℕ)). length l) told.of_lines in (
+        let turns = told.told ++ told.untold in (
           record {
             turns = turns;
-            rest = told.untreated ++ t.rest;
-            lines = t.lines ∙ ap (λ l. l ++ t.rest) (sym told.of_lines) ∙ append_assoc (lines_at_seat turns) told.untreated t.rest;
-            few = omega (arith, count, t.few);
+            rest = t.rest;
+            lines = t.lines ∙ ap (λ l. l ++ t.rest) (sym told.of_lines);
+            few = subst (λ n. n ≤ MOST_LINES) (ap (λ (l : List (List ℕ)). length l) (sym told.of_lines) ∙ length-map turns (λ (turn : SeatTurn). turn.line)) t.few;
             each = told.right;
             receipts = told.receipts;
-            ends = ends_so after.has_failed input old new t.rest told.untreated told.told told.untold t.text result told.said told.none_untold told.none_untreated told.some cut
+            ends = ends_so after.has_failed input old new t.rest told.told told.untold t.text result told.said told.none_untold cut
                 (subst (λ (ls : List (List ℕ)). Ends LONGEST_LINE input old new ls t.rest t.text result) (sym told.of_lines) t.ends);
           },
           record {
@@ -510,7 +360,7 @@ module _ {L P T : Type 0} (kept : P → ℕ → Type 0) (track : Track) (says : 
           → failed after.sitting.committer
       by later_on false fine more then = later_on fine
       by later_on true now [] (said, same) = subst (λ (h : Hearing L P T). failed h.sitting.committer) (sym same) (advances.why now)
-      by later_on true now (other ∷ more) (said, others, behind, so, is, still) = absurd (both_ways _ (advances_whole kept track says failed next behind other said so) now)
+      by later_on true now (other ∷ more) (said, others, behind, so, is, still) = (let going = so.going in absurd (both_ways _ going.whole now))
 
   pub sitting_failed : (first last : Hearing L P T) (input : List ℕ) (old new : Option (List ℕ)) (result : Result (Unit {0}) SessionFault)
       → IsTalk LONGEST_LINE (Advances track says kept failed) first last input old new result → first.sitting.has_failed ≡ false → last.sitting.has_failed ≡ true → failed last.sitting.committer

@@ -1,6 +1,7 @@
 pub mod Answered
 pub mod Changes
 pub mod Due
+pub mod Dues
 pub mod Hearings
 pub mod Keeping
 pub mod Resting
@@ -26,6 +27,5 @@ pub use Rattle.rbc_sweep.specs.declared.outcome.Answer
 pub use Rattle.rbc_sweep.specs.declared.outcome.Outcome
 pub use Rattle.rbc_replies.specs.PriceText
 pub use Rattle.rbc_replies.specs.Replies
-pub use Rattle.rbc_replies.specs.SessionLines
 pub use Rattle.rbc_replies.specs.declared.replies.SessionRefusal
 pub use Rattle.rbc_replies.specs.declared.replies.SessionReply

@@ -1,5 +1,6 @@
 -- What was told or asked in a session and rests, with the text of its request.
-use Rattle.std.specs.Prelude.{◌≡◌, List, map, Ok}
+use Rattle.std.specs.Prelude.{◌≡◌, List, map, Result, Ok}
+use Rattle.rbc_model.specs.SessionReply.{SessionRefusal}
 use Rattle.rbc_model.specs.SessionText.{SessionLine, IsSayable}
 use Rattle.rbc_model.specs.Tracks.{Track}
 use Rattle.rbc_session_laws.specs.declared.command.Command.{Command}
@@ -24,5 +25,5 @@ module _ {T : Type 0} where
     pub of_track : IsCommandOfTrack track (command_of resting.rested)
 
   -- what is asked for, in order
-  abbrev pub commands_resting : List (Resting T) → List Command
-  commands_resting batch = map (λ (resting : Resting T). command_of resting.rested) batch
+  abbrev pub commands_resting : List (Resting T) → List (Result Command SessionRefusal)
+  commands_resting batch = map (λ (resting : Resting T). Ok (command_of resting.rested)) batch

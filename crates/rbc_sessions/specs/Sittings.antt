@@ -1,14 +1,13 @@
 -- What the treatment of a line makes of a seat and its committer, and what of a session is kept.
-use Rattle.std.specs.Prelude.{◌≡◌, ◌<◌, ◌≤◌, ◌||◌, ℕ, Bool, true, false, List, [], ◌++◌, length, Option, Some, None, Result, All, slice_index_or}
+use Rattle.std.specs.Prelude.{◌≡◌, ◌<◌, ◌≤◌, ℕ, Bool, true, false, List, [], ◌++◌, length, Option, Some, None, Result, All, slice_index_or}
 use Rattle.std.specs.List.{Contains}
 use Rattle.rbc_model.specs.Histories.{Receipt}
 use Rattle.rbc_model.specs.SessionReply.{SessionRefusal}
-use Rattle.rbc_model.specs.Sessions.{Prints, WritesPart}
+use Rattle.rbc_model.specs.Sessions.{WritesPart}
 use Rattle.rbc_sweep.specs.Outcomes.{receipts_of}
 use Rattle.rbc_sweep.specs.declared.outcome.Outcome.{Outcome}
 use Rattle.rbc_session_laws.specs.declared.command.Command.{Command}
-use Rattle.rbc_session_laws.specs.Commands.{command_in}
-use Rattle.rbc_sessions.specs.SeatChanges.{SeatComes, SeatHears}
+use Rattle.rbc_sessions.specs.SeatChanges.{SeatHears}
 use Rattle.rbc_sessions.specs.SeatSessions.{SeatTurn, replies_at_seat}
 use Rattle.rbc_sessions.specs.declared.batch.TheConstants.{MOST_RESTING}
 use Rattle.rbc_sessions.specs.declared.grants.Rank.{Rank}
@@ -23,28 +22,9 @@ IsKept kept (Some receipt) = kept receipt.place
 abbrev pub StaysKept : {P : Type 0} → (P → ℕ → Type 0) → P → P → Type 0
 StaysKept kept before after = (place : ℕ) → kept before place → kept after place
 
--- What is asked for is answered by this reply, and leads from the one seat to the other. The reply is written once what led to the entry is kept; where that
--- failed nothing is written.
-pub record Treats {L P : Type 0} (kept : P → ℕ → Type 0) (command : Result Command SessionRefusal) (before : Sitting L P) (text : List ℕ) (after : Sitting L P) : Type 0 where
-  pub whole : before.has_failed ≡ false
-  pub reply : List ℕ
-  pub comes : SeatComes command before.seat reply after.seat
-  pub stays : StaysKept kept before.committer after.committer
-  pub said : after.has_failed ≡ false → (text ≡ reply) × IsKept (kept after.committer) comes.0
-  pub unsaid : after.has_failed ≡ true → text ≡ []
-
--- It is treated so, and its reply, or nothing, is printed; or a part of it, from its start, where the writer failed.
-abbrev pub IsTreated : {L P E : Type 0} → (P → ℕ → Type 0) → Result Command SessionRefusal → Sitting L P → Sitting L P → Option (List ℕ) → Option (List ℕ) → Bool → Result (Unit {0}) E → Type 0
-IsTreated kept command before after old new writer_failed result =
-    (text : List ℕ) × Treats kept command before text after × Prints old new (after.has_failed || writer_failed) text result
-
--- what a line asks for is treated so
-abbrev pub TreatsLine : {L P : Type 0} → (P → ℕ → Type 0) → Sitting L P → List ℕ → List ℕ → Sitting L P → Type 0
-TreatsLine kept before line text after = Treats kept (command_in before.seat.told.track line) before text after
-
 -- What is asked for, one after the other, leads from the one seat to the other. The replies are written once what led to all entries is kept; where that failed
 -- nothing is written.
-pub record Enters {L P : Type 0} (kept : P → ℕ → Type 0) (before : Sitting L P) (commands : List Command) (text : List ℕ) (after : Sitting L P) : Type 0 where
+pub record Enters {L P : Type 0} (kept : P → ℕ → Type 0) (before : Sitting L P) (commands : List (Result Command SessionRefusal)) (text : List ℕ) (after : Sitting L P) : Type 0 where
   pub whole : before.has_failed ≡ false
   pub replies : List ℕ
   pub hears : SeatHears before.seat commands replies after.seat

@@ -4,14 +4,16 @@ ghost use Rattle.std.specs.Prelude.{◌≡◌, ◌≤◌, ◌+◌, ◌||◌, ◌
 ghost use Rattle.std.specs.VecDeque.{deque_len};
 ghost use Rattle.rbc_model.specs.Sessions.{Prints};
 ghost use Rattle.rbc_sessions.specs.Due.{AreSaidOf, CanBeSaid, IsSaidOf};
+ghost use Rattle.rbc_sessions.specs.Dues.{AskedSo, ToldSo};
 ghost use Rattle.rbc_sessions.specs.Resting.{IsPrepared, command_of, commands_resting};
 ghost use Rattle.rbc_sessions.specs.Sittings.{Enters, StaysKept};
 ghost use Rattle.rbc_sessions.specs.declared.batch.Rested.TheVariants.{Told as RestedTold};
 
 use crate::context::reply_to;
+use crate::dues::Dues;
 use crate::{Keeper, SessionContext, Sitting};
 use rbc_model::{OrMemory, Told, TrainId};
-use rbc_replies::{SessionReply, print};
+use rbc_replies::{SessionRefusal, SessionReply, print};
 use rbc_session_laws::Command;
 use rbc_streams::{Sink, WriteFailed};
 use rbc_sweep::{AskFault, DeskName, Gate, Granted, Track};
@@ -40,24 +42,31 @@ pub(crate) struct Resting<T> {
     pub(crate) text: T,
 }
 
-/// A reply that is due to what rested.
+/// The reply that is due to what was told.
+#[derive(Clone, Copy)]
+pub(crate) enum ToldReply {
+    /// It is accepted, and the history has this number of entries with it.
+    Accepted(u64),
+    /// It is refused.
+    Refused(SessionRefusal),
+}
+
+/// What is due to a train that asked: its answer.
 #[derive(Drop)]
-pub(crate) enum DueReply {
-    /// To what was told.
-    Told(SessionReply<'static>),
-    /// To a train that asked, by its answer.
-    Asked(TrainId, Result<Granted, OrMemory<AskFault>>),
+pub(crate) struct AskedReply {
+    pub(crate) train: TrainId,
+    pub(crate) answer: Result<Granted, OrMemory<AskFault>>,
 }
 
 /// What rests, in order, and room for the replies that are due to it then. Contracts see it as what rests.
 #[derive(Drop)]
 pub(crate) struct Batch<T> {
     resting: VecDeque<Resting<T>>,
-    dues: Vec<DueReply>,
+    dues: Dues<ToldReply, AskedReply>,
 }
 
 impl<T> Model for Batch<T> {
-    ghost use Rattle.std.specs.Prelude.{◌≡◌, ◌≤◌, List, vec_len, vec_capacity};
+    ghost use Rattle.std.specs.Prelude.{◌≡◌, ◌≤◌, List, []};
     ghost use Rattle.std.specs.VecDeque.{deque_len};
     ghost use Rattle.rbc_sessions.specs.declared.batch.Resting.{Resting};
 
@@ -65,7 +74,7 @@ impl<T> Model for Batch<T> {
 
     ghost view = { λ r. r.resting.items };
 
-    ghost invariant = { λ r. (vec_len r.dues ≡ 0) × (deque_len r.resting ≤ vec_capacity r.dues) };
+    ghost invariant = { λ r. (r.dues.dues ≡ []) × (deque_len r.resting ≤ r.dues.room) };
 }
 
 /// What a line that asks for this may rest as: none, where it is neither told nor asks for an authority.
@@ -79,21 +88,40 @@ pub(crate) fn rested_of(command: Command) -> Option<Rested>
     }
 }
 
-/// Prints a reply that is due.
+/// Prints the reply to what was told.
 ///
 /// # Errors
 ///
 /// The writer failed.
-fn print_due<W: Sink>(track: &Track, due: &DueReply, writer: &mut W) -> Result<(), WriteFailed>
+fn print_told<W: Sink>(track: &Track, reply: ToldReply, writer: &mut W) -> Result<(), WriteFailed>
     requires going { W.failed writer.old ≡ false }
-    requires due { CanBeSaid track.now due.now }
-    ensures { (text : List ℕ) × IsSaidOf track.now due.now text
+    requires due { CanBeSaid track.now (ToldSo reply) }
+    ensures { (text : List ℕ) × IsSaidOf track.now (ToldSo reply) text
         × Prints (W.written writer.old) (W.written writer.new) (W.failed writer.new) text result }
 {
-    match due {
-        DueReply::Told(reply) => print(track, reply, writer),
-        DueReply::Asked(train, answer) => print(track, &reply_to(track, *train, answer), writer),
-    }
+    let reply = match reply {
+        ToldReply::Accepted(version) => SessionReply::Accepted(version),
+        ToldReply::Refused(refusal) => SessionReply::Refused(refusal),
+    };
+    print(track, &reply, writer)
+}
+
+/// Prints the reply to a train that asked.
+///
+/// # Errors
+///
+/// The writer failed.
+fn print_asked<W: Sink>(
+    track: &Track,
+    asked: &AskedReply,
+    writer: &mut W,
+) -> Result<(), WriteFailed>
+    requires going { W.failed writer.old ≡ false }
+    requires due { CanBeSaid track.now (AskedSo asked.now) }
+    ensures { (text : List ℕ) × IsSaidOf track.now (AskedSo asked.now) text
+        × Prints (W.written writer.old) (W.written writer.new) (W.failed writer.new) text result }
+{
+    print(track, &reply_to(track, asked.train, &asked.answer), writer)
 }
 
 /// Prints the replies that are due, one behind another.
@@ -101,15 +129,28 @@ fn print_due<W: Sink>(track: &Track, due: &DueReply, writer: &mut W) -> Result<(
 /// # Errors
 ///
 /// The writer failed.
-fn print_all<W: Sink>(track: &Track, dues: &[DueReply], writer: &mut W) -> Result<(), WriteFailed>
+fn print_all<W: Sink>(
+    track: &Track,
+    dues: &Dues<ToldReply, AskedReply>,
+    writer: &mut W,
+) -> Result<(), WriteFailed>
     requires going { W.failed writer.old ≡ false }
-    requires dues { All (CanBeSaid track.now) dues.now }
-    requires some { (text : List ℕ) × AreSaidOf track.now dues.now text }
-    ensures { (text : List ℕ) × AreSaidOf track.now dues.now text
+    requires dues { All (CanBeSaid track.now) dues.now.dues }
+    requires some { (text : List ℕ) × AreSaidOf track.now dues.now.dues text }
+    ensures { (text : List ℕ) × AreSaidOf track.now dues.now.dues text
         × Prints (W.written writer.old) (W.written writer.new) (W.failed writer.new) text result }
 {
-    for due in dues {
-        print_due(track, due, writer)?;
+    let (replies, mut answers) = dues.parts();
+    for reply in replies {
+        match reply {
+            Some(told) => print_told(track, *told, writer)?,
+            None => {
+                if let Some((asked, more)) = answers.split_first() {
+                    print_asked(track, asked, writer)?;
+                    answers = more;
+                }
+            }
+        }
     }
     Ok(())
 }
@@ -123,19 +164,19 @@ fn say_all<'a, L: DeskName, K: Keeper<L>, G: Gate, R: Wait, W: Sink>(
     context: &SessionContext<'a, L, K, G, R>,
     sitting: &mut Sitting<L, K::Committer>,
     had: usize,
-    dues: &[DueReply],
+    dues: &Dues<ToldReply, AskedReply>,
     writer: &mut W,
 ) -> Result<(), WriteFailed>
     requires going { W.failed writer.old ≡ false }
     requires whole { sitting.old.has_failed ≡ false }
     requires had { had ≤ length sitting.old.seat.receipts }
-    requires dues { All (CanBeSaid context.now.track.now) dues.now }
-    requires some { (text : List ℕ) × AreSaidOf context.now.track.now dues.now text }
+    requires dues { All (CanBeSaid context.now.track.now) dues.now.dues }
+    requires some { (text : List ℕ) × AreSaidOf context.now.track.now dues.now.dues text }
     ensures seat { sitting.new.seat ≡ sitting.old.seat }
     ensures stays { StaysKept K.kept sitting.old.committer sitting.new.committer }
     ensures kept { sitting.new.has_failed ≡ false
         → All (λ receipt. K.kept sitting.new.committer receipt.place) (drop had sitting.old.seat.receipts) }
-    ensures said { sitting.new.has_failed ≡ false → (text : List ℕ) × AreSaidOf context.now.track.now dues.now text
+    ensures said { sitting.new.has_failed ≡ false → (text : List ℕ) × AreSaidOf context.now.track.now dues.now.dues text
         × Prints (W.written writer.old) (W.written writer.new) (W.failed writer.new) text result }
     ensures why { sitting.new.has_failed ≡ true → K.failed sitting.new.committer }
     ensures unsaid { sitting.new.has_failed ≡ true → (writer.new ≡ writer.old) × (is_err result ≡ true) }
@@ -175,7 +216,7 @@ impl<T: Drop> Batch<T> {
     {
         Batch {
             resting: VecDeque::new(alloc),
-            dues: Vec::new(alloc),
+            dues: Dues::new(alloc),
         }
     }
 
@@ -191,7 +232,7 @@ impl<T: Drop> Batch<T> {
         ensures { MatchBool result (self.new ≡ self.old ++ one ∷ []) (self.new ≡ self.old) }
     {
         let Batch { resting, dues } = self;
-        if dues.reserve(resting.len() + 1).is_err() || resting.reserve(1).is_err() {
+        if !dues.reserve(resting.len() + 1) || resting.reserve(1).is_err() {
             return false;
         }
         resting.push_back_reserved(one);
@@ -232,7 +273,7 @@ impl<T: Drop> Batch<T> {
         let Batch { resting, dues } = self;
         let had = sitting.seat.receipts().len();
         context.enter_all(rt, alloc, &mut sitting.seat, resting, more, dues);
-        let said = say_all(context, sitting, had, dues.as_slice(), writer);
+        let said = say_all(context, sitting, had, dues, writer);
         dues.clear();
         said
     }

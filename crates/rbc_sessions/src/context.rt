@@ -1,36 +1,34 @@
 //! What the seats of a desk have at hand, and how a line is treated from one.
 
-ghost use Rattle.std.specs.Prelude.{◌≡◌, ◌<◌, ◌≤◌, ◌+◌, ◌∷◌, ℕ, List, [], All, true, false, Ok, IfOk, OnOk, OnErr, drop, is_err, length, vec_len, vec_capacity};
+ghost use Rattle.std.specs.Prelude.{◌≡◌, ◌<◌, ◌≤◌, ◌+◌, ◌∷◌, ℕ, List, [], All, true, false, Ok, IfOk, OnOk, OnErr, drop, is_err, length};
 ghost use Rattle.std.specs.VecDeque.{deque_len};
 ghost use Rattle.rbc_model.specs.Scenes.{Scene};
 ghost use Rattle.rbc_model.specs.Sessions.{Prints};
-ghost use Rattle.rbc_model.specs.SessionText.{IsSayable};
 ghost use Rattle.rbc_model.specs.Histories.{Entry};
 ghost use Rattle.rbc_model.specs.declared.limits.TheConstants.{MOST_ENTRIES};
 ghost use Rattle.rbc_sweep.specs.Records.{IsRight, begin_on, history_on};
 ghost use Rattle.rbc_sweep.specs.Asking.{IsAnswered};
 ghost use Rattle.rbc_replies.specs.Replies.{reply_text, ReplyIsWhole};
 ghost use Rattle.rbc_session_laws.specs.declared.command.Command.TheVariants.{Event, Authority, Show};
-ghost use Rattle.rbc_session_laws.specs.Commands.{resolve};
 ghost use Rattle.rbc_session_laws.specs.Turns.{AnswersAuthority};
 ghost use Rattle.rbc_model.specs.HistoryText.{IsToldOfTrack};
-ghost use Rattle.rbc_replies.specs.SessionLines.{request_view};
-ghost use Rattle.rbc_sessions.specs.Due.{IsOwedSoFar, Owes, OwesAll};
-ghost use Rattle.rbc_sessions.specs.SeatChanges.{SeatComes};
+ghost use Rattle.rbc_sessions.specs.Due.{IsOwedSoFar, Owes, OwesAll, told_reply};
+ghost use Rattle.rbc_sessions.specs.Dues.{AskedSo};
+ghost use Rattle.rbc_sessions.specs.SeatChanges.{SeatComes, SeatReplies};
 ghost use Rattle.rbc_sessions.specs.Resting.{IsPrepared, command_of, commands_resting};
 ghost use Rattle.rbc_sessions.specs.SaidLines.{asked_by, IsReadOn};
 ghost use Rattle.rbc_sessions.specs.Shown.{entry_granted_in};
 ghost use Rattle.rbc_sessions.specs.declared.batch.Rested.TheVariants.{Told as RestedTold, Asked as RestedAsked};
-ghost use Rattle.rbc_sessions.specs.Sittings.{IsTreated, StaysKept};
+ghost use Rattle.rbc_sessions.specs.Sittings.{StaysKept};
 
 use crate::asking::told_of;
-use crate::batch::{DueReply, Rested, Resting, pop_told};
+use crate::batch::{AskedReply, Rested, Resting, ToldReply, pop_told};
 use crate::command::Said;
+use crate::dues::Dues;
 use crate::telling::refusal_of;
 use crate::{Keeper, NotKept, Sitting};
 use rbc_lines::{print_shown, print_state};
 use rbc_model::{Inquiry, OrMemory, Refusal, Told, TrainId};
-use rbc_replies::words::Request;
 use rbc_replies::{SessionRefusal, SessionReply, print};
 use rbc_session_laws::Command;
 use rbc_streams::{Sink, WriteFailed};
@@ -117,153 +115,7 @@ impl<'a, L: DeskName, K: Keeper<L>, G: Gate, R: Wait> SessionContext<'a, L, K, G
         kept
     }
 
-    /// Returns once the request that led to the entry of a receipt is kept, whose line was laid.
-    ///
-    /// # Errors
-    ///
-    /// It could not be kept. Then the sitting has failed.
-    fn keep(&self, sitting: &mut Sitting<L, K::Committer>, receipt: &Receipt) -> Result<(), NotKept>
-        requires whole { sitting.old.has_failed ≡ false }
-        ensures seat { sitting.new.seat ≡ sitting.old.seat }
-        ensures failed { sitting.new.has_failed ≡ is_err result }
-        ensures why { sitting.new.has_failed ≡ true → K.failed sitting.new.committer }
-        ensures kept { OnOk result (K.kept sitting.new.committer receipt.now.place) }
-        ensures stays { StaysKept K.kept sitting.old.committer sitting.new.committer }
-    {
-        let kept = self
-            .keeper
-            .keep(self.waiting, &mut sitting.committer, receipt);
-        sitting.has_failed = kept.is_err();
-        kept
-    }
-
-    /// Prints the reply to what led to the entry of a receipt, once that is kept. Its line was laid.
-    ///
-    /// # Errors
-    ///
-    /// It could not be kept, and nothing is printed; or the writer failed.
-    fn say<W: Sink>(
-        &self,
-        sitting: &mut Sitting<L, K::Committer>,
-        receipt: &Receipt,
-        reply: &SessionReply,
-        writer: &mut W,
-    ) -> Result<(), WriteFailed>
-        requires going { W.failed writer.old ≡ false }
-        requires whole { sitting.old.has_failed ≡ false }
-        requires reply { ReplyIsWhole self.now.track.now reply.now }
-        ensures seat { sitting.new.seat ≡ sitting.old.seat }
-        ensures stays { StaysKept K.kept sitting.old.committer sitting.new.committer }
-        ensures kept { sitting.new.has_failed ≡ false → K.kept sitting.new.committer receipt.now.place }
-        ensures said { sitting.new.has_failed ≡ false → Prints (W.written writer.old) (W.written writer.new)
-            (W.failed writer.new) (reply_text self.now.track.now reply.now) result }
-        ensures why { sitting.new.has_failed ≡ true → K.failed sitting.new.committer }
-        ensures unsaid { sitting.new.has_failed ≡ true → (writer.new ≡ writer.old) × (is_err result ≡ true) }
-    {
-        match self.keep(sitting, receipt) {
-            Ok(()) => print(self.track, reply, writer),
-            Err(_) => Err(WriteFailed),
-        }
-    }
-
-    /// Treats what is told.
-    ///
-    /// # Errors
-    ///
-    /// The reply is not printed whole: the writer failed, or what led to the entry could not be kept.
-    fn tell<W: Sink>(
-        &self,
-        alloc: Global,
-        sitting: &mut Sitting<L, K::Committer>,
-        request: &Request,
-        told: Told,
-        writer: &mut W,
-    ) -> Result<(), WriteFailed>
-        requires going { W.failed writer.old ≡ false }
-        requires whole { sitting.old.has_failed ≡ false }
-        requires sayable { IsSayable (request_view request.now) }
-        requires command { resolve L.opened.track (request_view request.now) ≡ Ok (Event told) }
-        requires of_track { IsToldOfTrack L.opened.track told }
-        ensures why { sitting.new.has_failed ≡ true → K.failed sitting.new.committer }
-        ensures treated { IsTreated K.kept (Ok (Event told)) sitting.old sitting.new
-            (W.written writer.old) (W.written writer.new) (W.failed writer.new) result }
-    {
-        // What a refusal names is of the track, since the track is sound. What the seat was told is on it.
-        self.track.known();
-        sitting.seat.known();
-        let Ok(text) = self.keeper.prepare(alloc, request) else {
-            let fault = self
-                .desk
-                .event_in_vain(self.waiting, &mut sitting.seat, &told);
-            return print(
-                self.track,
-                &SessionReply::Refused(refusal_of(fault)),
-                writer,
-            );
-        };
-        match self
-            .desk
-            .event_ahead(self.waiting, alloc, &mut sitting.seat, told)
-        {
-            Ok(receipt) => {
-                self.keeper.lay(self.waiting, &sitting.seat, &receipt, text);
-                let accepted = SessionReply::Accepted(receipt.place() + 1);
-                self.say(sitting, &receipt, &accepted, writer)
-            }
-            Err(fault) => print(
-                self.track,
-                &SessionReply::Refused(refusal_of(fault)),
-                writer,
-            ),
-        }
-    }
-
-    /// Treats a train that asks for an authority.
-    ///
-    /// # Errors
-    ///
-    /// The reply is not printed whole: the writer failed, or what led to the entry could not be kept.
-    /// What is granted is granted all the same.
-    fn ask<T: Threads + Sync, W: Sink>(
-        &self,
-        rt: &T,
-        alloc: Global,
-        sitting: &mut Sitting<L, K::Committer>,
-        request: &Request,
-        train: TrainId,
-        writer: &mut W,
-    ) -> Result<(), WriteFailed>
-        requires going { W.failed writer.old ≡ false }
-        requires whole { sitting.old.has_failed ≡ false }
-        requires sayable { IsSayable (request_view request.now) }
-        requires command { resolve L.opened.track (request_view request.now) ≡ Ok (Authority train) }
-        ensures why { sitting.new.has_failed ≡ true → K.failed sitting.new.committer }
-        ensures treated { IsTreated K.kept (Ok (Authority train)) sitting.old sitting.new
-            (W.written writer.old) (W.written writer.new) (W.failed writer.new) result }
-    {
-        // What a reply names is of the track, since the track is sound. What the seat was told is on it.
-        self.track.known();
-        sitting.seat.known();
-        let Ok(text) = self.keeper.prepare(alloc, request) else {
-            let fault = Err(
-                self.desk
-                    .ask_in_vain(self.waiting, &mut sitting.seat, train),
-            );
-            return print(self.track, &reply_to(self.track, train, &fault), writer);
-        };
-        let answer = self.desk.ask_by(rt, self.waiting, alloc, &mut sitting.seat, train, self.gate);
-        let reply = reply_to(self.track, train, &answer);
-        match &answer {
-            Ok(granted) => {
-                self.keeper
-                    .lay(self.waiting, &sitting.seat, &granted.receipt, text);
-                self.say(sitting, &granted.receipt, &reply, writer)
-            }
-            Err(_) => print(self.track, &reply, writer),
-        }
-    }
-
-    /// Shows what is asked for. Nothing is entered.
+    /// Shows what is asked for.
     ///
     /// # Errors
     ///
@@ -271,66 +123,104 @@ impl<'a, L: DeskName, K: Keeper<L>, G: Gate, R: Wait> SessionContext<'a, L, K, G
     fn show<W: Sink>(
         &self,
         alloc: Global,
-        sitting: &mut Sitting<L, K::Committer>,
+        seat: &mut Seat<L>,
         inquiry: Inquiry,
         writer: &mut W,
     ) -> Result<(), WriteFailed>
         requires going { W.failed writer.old ≡ false }
-        requires whole { sitting.old.has_failed ≡ false }
-        ensures goes_on { sitting.new.has_failed ≡ false }
-        ensures treated { IsTreated K.kept (Ok (Show inquiry)) sitting.old sitting.new
-            (W.written writer.old) (W.written writer.new) (W.failed writer.new) result }
+        ensures { (reply : List ℕ) × SeatReplies (Ok (Show inquiry)) seat.old reply seat.new
+            × Prints (W.written writer.old) (W.written writer.new) (W.failed writer.new) reply result }
     {
         // What the seat was told is on the desk's track.
-        sitting.seat.known();
+        seat.known();
         match inquiry {
             Inquiry::State => {
-                let state = self.desk.state(self.waiting, &mut sitting.seat);
+                let state = self.desk.state(self.waiting, seat);
                 print_state(state.version, state.trains, state.locked, writer)
             }
-            Inquiry::Scene => {
-                match self.desk.scene(self.waiting, alloc, &mut sitting.seat) {
-                    Ok((scene, version)) => print_shown(alloc, version, &scene, writer),
-                    Err(_) => {
-                        let refused = SessionReply::Refused(SessionRefusal::Memory);
-                        print(self.track, &refused, writer)
-                    }
+            Inquiry::Scene => match self.desk.scene(self.waiting, alloc, seat) {
+                Ok((scene, version)) => print_shown(alloc, version, &scene, writer),
+                Err(_) => {
+                    let refused = SessionReply::Refused(SessionRefusal::Memory);
+                    print(self.track, &refused, writer)
                 }
-            }
+            },
         }
     }
 
-    /// Treats a line, of which this was read.
+    /// Refuses what is told, since there is no memory for it. What would refuse it at once is told first.
     ///
     /// # Errors
     ///
-    /// The reply is not printed whole: the writer failed, or what led to the entry could not be kept.
-    pub(crate) fn treat<T: Threads + Sync, W: Sink>(
+    /// The writer failed.
+    fn refuse_told<W: Sink>(
         &self,
-        rt: &T,
+        seat: &mut Seat<L>,
+        told: Told,
+        writer: &mut W,
+    ) -> Result<(), WriteFailed>
+        requires going { W.failed writer.old ≡ false }
+        requires of_track { IsToldOfTrack L.opened.track told }
+        ensures { (reply : List ℕ) × SeatReplies (Ok (Event told)) seat.old reply seat.new
+            × Prints (W.written writer.old) (W.written writer.new) (W.failed writer.new) reply result }
+    {
+        // What a refusal names is of the track, since the track is sound. What the seat was told is on it.
+        self.track.known();
+        seat.known();
+        let fault = self.desk.event_in_vain(self.waiting, seat, &told);
+        let refused = SessionReply::Refused(refusal_of(fault));
+        print(self.track, &refused, writer)
+    }
+
+    /// Refuses a train that asks, since there is no memory for what it may be granted. That there is no such train is told first.
+    ///
+    /// # Errors
+    ///
+    /// The writer failed.
+    fn refuse_asked<W: Sink>(
+        &self,
+        seat: &mut Seat<L>,
+        train: TrainId,
+        writer: &mut W,
+    ) -> Result<(), WriteFailed>
+        requires going { W.failed writer.old ≡ false }
+        ensures { (reply : List ℕ) × SeatReplies (Ok (Authority train)) seat.old reply seat.new
+            × Prints (W.written writer.old) (W.written writer.new) (W.failed writer.new) reply result }
+    {
+        // What a reply names is of the track, since the track is sound. What the seat was told is on it.
+        self.track.known();
+        seat.known();
+        let fault = Err(self.desk.ask_in_vain(self.waiting, seat, train));
+        print(self.track, &reply_to(self.track, train, &fault), writer)
+    }
+
+    /// Answers a line that does not rest, of which this was read. Nothing is entered for it: for what it tells, or asks for, there was no memory.
+    ///
+    /// # Errors
+    ///
+    /// The writer failed.
+    pub(crate) fn reply<W: Sink>(
+        &self,
         alloc: Global,
-        sitting: &mut Sitting<L, K::Committer>,
+        seat: &mut Seat<L>,
         read: &Result<Said, SessionRefusal>,
         writer: &mut W,
     ) -> Result<(), WriteFailed>
         requires going { W.failed writer.old ≡ false }
-        requires whole { sitting.old.has_failed ≡ false }
         requires read { IsReadOn L.opened.track read.now }
-        ensures why { sitting.new.has_failed ≡ true → K.failed sitting.new.committer }
-        ensures treated { IsTreated K.kept (asked_by read.now) sitting.old sitting.new
-            (W.written writer.old) (W.written writer.new) (W.failed writer.new) result }
+        ensures { (reply : List ℕ) × SeatReplies (asked_by read.now) seat.old reply seat.new
+            × Prints (W.written writer.old) (W.written writer.new) (W.failed writer.new) reply result }
     {
         // What the seat was told is on the desk's track.
-        sitting.seat.known();
+        seat.known();
         match read {
             Ok(said) => match said.command {
                 Command::Nothing => print(self.track, &SessionReply::Nothing, writer),
-                Command::Event(told) => self.tell(alloc, sitting, &said.request, told, writer),
+                Command::Event(told) => self.refuse_told(seat, told, writer),
                 Command::Authority(number) => {
-                    let train = TrainId::new(number);
-                    self.ask(rt, alloc, sitting, &said.request, train, writer)
+                    self.refuse_asked(seat, TrainId::new(number), writer)
                 }
-                Command::Show(inquiry) => self.show(alloc, sitting, inquiry, writer),
+                Command::Show(inquiry) => self.show(alloc, seat, inquiry, writer),
             },
             Err(refusal) => print(self.track, &SessionReply::Refused(*refusal), writer),
         }
@@ -345,13 +235,13 @@ impl<'a, L: DeskName, K: Keeper<L>, G: Gate, R: Wait> SessionContext<'a, L, K, G
         seat: &mut Seat<L>,
         resting: &mut VecDeque<Resting<K::Text>>,
         more: bool,
-        dues: &mut Vec<DueReply>,
+        dues: &mut Dues<ToldReply, AskedReply>,
     )
         requires each { All (IsPrepared L.opened.track K.says) resting.old.items }
-        requires none { vec_len dues.old ≡ 0 }
-        requires room { deque_len resting.old ≤ vec_capacity dues.old }
+        requires none { dues.old.dues ≡ [] }
+        requires room { deque_len resting.old ≤ dues.old.room }
         ensures none_rests { resting.new.items ≡ [] }
-        ensures owes { OwesAll self.now.track.now seat.old (commands_resting resting.old.items) dues.new.items seat.new }
+        ensures owes { OwesAll self.now.track.now seat.old (commands_resting resting.old.items) dues.new.dues seat.new }
     {
         while let Some(one) = resting.pop_front() {
             self.enter_one(rt, alloc, seat, one, resting, more, dues);
@@ -367,22 +257,22 @@ impl<'a, L: DeskName, K: Keeper<L>, G: Gate, R: Wait> SessionContext<'a, L, K, G
         one: Resting<K::Text>,
         resting: &mut VecDeque<Resting<K::Text>>,
         more: bool,
-        dues: &mut Vec<DueReply>,
+        dues: &mut Dues<ToldReply, AskedReply>,
     )
         requires one { IsPrepared L.opened.track K.says one }
         requires each { All (IsPrepared L.opened.track K.says) resting.old.items }
-        requires room { vec_len dues.old + deque_len resting.old + 1 ≤ vec_capacity dues.old }
+        requires room { deque_len resting.old + 1 ≤ dues.old.room }
         ensures each { All (IsPrepared L.opened.track K.says) resting.new.items }
-        ensures room { vec_len dues.new + deque_len resting.new ≤ vec_capacity dues.new }
+        ensures room { deque_len resting.new ≤ dues.new.room }
         ensures shorter { deque_len resting.new ≤ deque_len resting.old }
-        ensures owes { IsOwedSoFar self.now.track.now seat.old (command_of one.rested ∷ commands_resting resting.old.items)
-            dues.old.items seat.new (commands_resting resting.new.items) dues.new.items }
+        ensures owes { IsOwedSoFar self.now.track.now seat.old (Ok (command_of one.rested) ∷ commands_resting resting.old.items)
+            dues.old.dues seat.new (commands_resting resting.new.items) dues.new.dues }
     {
         let Resting { rested, text } = one;
         match rested {
             Rested::Told(told) => self.hear_run(alloc, seat, (told, text), resting, more, dues),
             Rested::Asked(train) => {
-                dues.push_reserved(self.ask_at_rest(rt, alloc, seat, train, text));
+                dues.push_asked(self.ask_at_rest(rt, alloc, seat, train, text));
             }
         }
     }
@@ -396,22 +286,22 @@ impl<'a, L: DeskName, K: Keeper<L>, G: Gate, R: Wait> SessionContext<'a, L, K, G
         first: (Told, K::Text),
         resting: &mut VecDeque<Resting<K::Text>>,
         more: bool,
-        dues: &mut Vec<DueReply>,
+        dues: &mut Dues<ToldReply, AskedReply>,
     )
         requires first { IsPrepared L.opened.track K.says (record { rested = RestedTold first.0; text = first.1 }) }
         requires each { All (IsPrepared L.opened.track K.says) resting.old.items }
-        requires room { vec_len dues.old + deque_len resting.old + 1 ≤ vec_capacity dues.old }
+        requires room { deque_len resting.old + 1 ≤ dues.old.room }
         ensures each { All (IsPrepared L.opened.track K.says) resting.new.items }
-        ensures room { vec_len dues.new + deque_len resting.new ≤ vec_capacity dues.new }
+        ensures room { deque_len resting.new ≤ dues.new.room }
         ensures shorter { deque_len resting.new ≤ deque_len resting.old }
-        ensures owes { IsOwedSoFar self.now.track.now seat.old (Event first.0 ∷ commands_resting resting.old.items)
-            dues.old.items seat.new (commands_resting resting.new.items) dues.new.items }
+        ensures owes { IsOwedSoFar self.now.track.now seat.old (Ok (Event first.0) ∷ commands_resting resting.old.items)
+            dues.old.dues seat.new (commands_resting resting.new.items) dues.new.dues }
     {
         let mut hold = self.desk.hold(self.waiting);
         let (told, text) = first;
-        dues.push_reserved(DueReply::Told(self.hear(alloc, &mut hold, seat, told, text)));
+        dues.push_told(self.hear(alloc, &mut hold, seat, told, text));
         while let Some((told, text)) = pop_told(resting) {
-            dues.push_reserved(DueReply::Told(self.hear(alloc, &mut hold, seat, told, text)));
+            dues.push_told(self.hear(alloc, &mut hold, seat, told, text));
         }
         if !more && resting.is_empty() {
             hold.publish(self.waiting, alloc, seat);
@@ -427,10 +317,10 @@ impl<'a, L: DeskName, K: Keeper<L>, G: Gate, R: Wait> SessionContext<'a, L, K, G
         seat: &mut Seat<L>,
         told: Told,
         text: K::Text,
-    ) -> SessionReply<'static>
+    ) -> ToldReply
         requires { IsPrepared L.opened.track K.says (record { rested = RestedTold told; text = text }) }
-        ensures comes { SeatComes (Ok (Event told)) seat.old (reply_text self.now.track.now result) seat.new }
-        ensures whole { ReplyIsWhole self.now.track.now result }
+        ensures comes { SeatComes (Ok (Event told)) seat.old (reply_text self.now.track.now (told_reply result)) seat.new }
+        ensures whole { ReplyIsWhole self.now.track.now (told_reply result) }
     {
         // What a refusal names is of the track, since the track is sound. What the seat was told is on it.
         self.track.known();
@@ -438,9 +328,9 @@ impl<'a, L: DeskName, K: Keeper<L>, G: Gate, R: Wait> SessionContext<'a, L, K, G
         match hold.event(self.waiting, alloc, seat, &told) {
             Ok(receipt) => {
                 self.keeper.lay(self.waiting, seat, &receipt, text);
-                SessionReply::Accepted(receipt.place() + 1)
+                ToldReply::Accepted(receipt.place() + 1)
             }
-            Err(fault) => SessionReply::Refused(refusal_of(fault)),
+            Err(fault) => ToldReply::Refused(refusal_of(fault)),
         }
     }
 
@@ -452,9 +342,9 @@ impl<'a, L: DeskName, K: Keeper<L>, G: Gate, R: Wait> SessionContext<'a, L, K, G
         seat: &mut Seat<L>,
         train: TrainId,
         text: K::Text,
-    ) -> DueReply
+    ) -> AskedReply
         requires prepared { IsPrepared L.opened.track K.says (record { rested = RestedAsked train; text = text }) }
-        ensures { Owes self.now.track.now seat.old (Authority train) result seat.new }
+        ensures { Owes self.now.track.now seat.old (Ok (Authority train)) (AskedSo result) seat.new }
     {
         // What a reply names is of the track, since the track is sound. What the seat was told is on it.
         self.track.known();
@@ -467,7 +357,7 @@ impl<'a, L: DeskName, K: Keeper<L>, G: Gate, R: Wait> SessionContext<'a, L, K, G
         if let Ok(granted) = &answer {
             self.keeper.lay(self.waiting, seat, &granted.receipt, text);
         }
-        DueReply::Asked(train, answer)
+        AskedReply { train, answer }
     }
 
     /// Publishes what the seat was told, and is not published yet.

@@ -1,13 +1,11 @@
 //! A sitting in a session answers lines. What is told or asked rests, so that all of it is kept at once, and what is told is entered in one hold of the
 //! desk's lock.
 
-ghost use Rattle.std.specs.Prelude.{◌≡◌, ◌≤◌, ◌||◌, ◌⊎◌, [], ℕ, List, All, true, false, length, MatchBool};
+ghost use Rattle.std.specs.Prelude.{◌≡◌, ◌≤◌, ◌||◌, [], ℕ, List, true, false, length, MatchBool};
 ghost use Rattle.rbc_model.specs.Sessions.{Prints};
 ghost use Rattle.rbc_session_laws.specs.Commands.{command_in};
-ghost use Rattle.rbc_sessions.specs.Hearings.{BreaksOff, CatchesUp, CatchesUpAndTreats, IsGoing, Rests};
-ghost use Rattle.rbc_sessions.specs.Resting.{IsPrepared};
+ghost use Rattle.rbc_sessions.specs.Hearings.{CatchesUp, IsGoing, Rests};
 ghost use Rattle.rbc_sessions.specs.SaidLines.{asked_by, IsReadOn};
-ghost use Rattle.rbc_sessions.specs.declared.batch.TheConstants.{MOST_RESTING};
 
 use crate::batch::{Batch, MOST_RESTING, Resting, rested_of};
 use crate::command::{Said, said_in};
@@ -48,7 +46,6 @@ impl<L: DeskName, P: Drop, T: Drop> Hearing<L, P, T> {
         context: &SessionContext<'a, L, K, G, R>,
         read: &Result<Said, SessionRefusal>,
     ) -> bool
-        requires going { IsGoing L.opened.track K.says self.old }
         requires read { IsReadOn L.opened.track read.now }
         ensures { MatchBool result ((line : List ℕ) → command_in L.opened.track line ≡ asked_by read.now
             → Rests L.opened.track K.says self.old line self.new) (self.new ≡ self.old) }
@@ -67,42 +64,6 @@ impl<L: DeskName, P: Drop, T: Drop> Hearing<L, P, T> {
         }
     }
 
-    /// Enters what rests, publishes it unless more comes, and prints the replies to it once it is kept.
-    ///
-    /// # Errors
-    ///
-    /// What was entered could not be kept; or the writer failed. All is entered.
-    fn catch_up<
-        'a,
-        K: Keeper<L, Committer = P, Text = T>,
-        G: Gate,
-        R: Wait,
-        H: Threads + Sync,
-        W: Sink,
-    >(
-        &mut self,
-        rt: &H,
-        alloc: Global,
-        context: &SessionContext<'a, L, K, G, R>,
-        more: bool,
-        writer: &mut W,
-    ) -> Result<(), WriteFailed>
-        requires going { W.failed writer.old ≡ false }
-        requires whole { self.old.sitting.has_failed ≡ false }
-        requires each { All (IsPrepared L.opened.track K.says) self.old.batch }
-        requires few { length self.old.batch ≤ MOST_RESTING }
-        ensures none_rests { self.new.batch ≡ [] }
-        ensures why { self.new.sitting.has_failed ≡ true → K.failed self.new.sitting.committer }
-        ensures caught_up { (text : List ℕ) × CatchesUp K.kept self.old text self.new
-            × Prints (W.written writer.old) (W.written writer.new) (self.new.sitting.has_failed || W.failed writer.new) text result }
-    {
-        if self.batch.len() == 0 {
-            return Ok(());
-        }
-        let Hearing { sitting, batch } = self;
-        batch.enter(rt, alloc, context, sitting, more, writer)
-    }
-
     /// Publishes what was told or granted before the connection is read again, or ends.
     fn publish<'a, K: Keeper<L, Committer = P, Text = T>, G: Gate, R: Wait>(
         &mut self,
@@ -118,13 +79,13 @@ impl<L: DeskName, P: Drop, T: Drop> Hearing<L, P, T> {
         }
     }
 
-    /// Enters what rests, and then treats a line, of which this was read. Where the replies to what rested could not be printed, the reply to the line
-    /// is not either. Where what rested could not be kept, the line is not treated.
+    /// Enters what rests, and then answers a line that does not rest, of which this was read. Where the replies to what rested could not be printed, the
+    /// reply to the line is not either.
     ///
     /// # Errors
     ///
-    /// The writer failed, or what led to an entry could not be kept.
-    fn treat<
+    /// What was entered could not be kept; or the writer failed. All is entered.
+    fn reply<
         'a,
         K: Keeper<L, Committer = P, Text = T>,
         G: Gate,
@@ -144,20 +105,17 @@ impl<L: DeskName, P: Drop, T: Drop> Hearing<L, P, T> {
         requires read { IsReadOn L.opened.track read.now }
         ensures none_rests { self.new.batch ≡ [] }
         ensures why { self.new.sitting.has_failed ≡ true → K.failed self.new.sitting.committer }
-        ensures treated { (reply : List ℕ) × ((line : List ℕ) → command_in L.opened.track line ≡ asked_by read.now
-            → CatchesUpAndTreats K.kept self.old line reply self.new ⊎ BreaksOff K.kept self.old reply self.new)
-            × Prints (W.written writer.old) (W.written writer.new) (self.new.sitting.has_failed || W.failed writer.new) reply result }
+        ensures entered { (text : List ℕ) × ((line : List ℕ) → command_in L.opened.track line ≡ asked_by read.now → CatchesUp K.kept self.old line text self.new)
+            × Prints (W.written writer.old) (W.written writer.new) (self.new.sitting.has_failed || W.failed writer.new) text result }
     {
-        let caught_up = self.catch_up(rt, alloc, context, true, writer);
-        if self.sitting.has_failed {
-            return caught_up;
-        }
         // What the seat was told is on the desk's track.
         self.sitting.seat.known();
-        match caught_up {
-            Ok(()) => context.treat(rt, alloc, &mut self.sitting, read, writer),
+        let Hearing { sitting, batch } = self;
+        let said = batch.enter(rt, alloc, context, sitting, true, writer);
+        match said {
+            Ok(()) => context.reply(alloc, &mut sitting.seat, read, writer),
             Err(failed) => {
-                let _ = context.treat(rt, alloc, &mut self.sitting, read, &mut NullSink);
+                let _ = context.reply(alloc, &mut sitting.seat, read, &mut NullSink);
                 Err(failed)
             }
         }
@@ -216,11 +174,12 @@ impl<
             if more && self.batch.len() < MOST_RESTING {
                 return Ok(());
             }
-            let said = self.catch_up(rt, alloc, context, more, writer);
+            let Hearing { sitting, batch } = self;
+            let said = batch.enter(rt, alloc, context, sitting, more, writer);
             self.publish(alloc, context, more, &said);
             return said;
         }
-        let said = self.treat(rt, alloc, context, &read, writer);
+        let said = self.reply(rt, alloc, context, &read, writer);
         self.publish(alloc, context, more, &said);
         said
     }

@@ -7,6 +7,7 @@ mod batch;
 mod centre;
 mod command;
 mod context;
+mod dues;
 mod grants;
 mod hearing;
 mod histories;
@@ -27,10 +28,9 @@ pub use keeping::{KeepFault, Keeper, NoJournal, NotKept};
 pub use null_sink::NullSink;
 pub use rbc_replies as replies;
 pub use rbc_replies::words;
-pub use rbc_streams::SessionFault;
 pub use rbc_sweep::{
-    Answer, Blank, Candidate, CloseFault, Desk, DeskName, Entry, EntryLimit, Granted, Onlooker,
-    OpenGate, Outcome, Receipt, Record, Seat, Sight, Track, View, candidate, sweep,
+    Answer, Blank, CloseFault, Desk, DeskName, Entry, EntryLimit, Granted, Onlooker, OpenGate,
+    Outcome, Receipt, Record, Seat, Sight, Track, View, candidate, sweep,
 };
 pub use sessions::{SessionEnd, run, session};
 pub use showing::show;

@@ -15,8 +15,8 @@ ghost use Rattle.rbc_sessions.specs.Answered.{AnswersAll};
 
 use crate::centre::Centre;
 use crate::hearing::Hearing;
-use crate::{Keeper, SessionContext, SessionFault, Sitting};
-use rbc_streams::{LineReader, Sink, Source, serve_lines, serve_lines_with};
+use crate::{Keeper, SessionContext, Sitting};
+use rbc_streams::{LineReader, SessionFault, Sink, Source, serve_lines, serve_lines_with};
 use rbc_sweep::{DeskName, Gate, Record};
 use std::alloc::Global;
 use std::sync::Wait;

@@ -1,17 +1,12 @@
-use Rattle.std.proofs.Common.{◌≡◌, false, Bool, drop, Option, List, ℕ, Result}
-use Rattle.rbc_model.specs.Sessions.{Prints}
+use Rattle.std.proofs.Common.{◌≡◌, false, drop}
 use Rattle.rbc_streams.specs.declared.streams.WriteFailed.{WriteFailed}
-use Rattle.rbc_sessions.specs.Due.{AreSaidOf}
+use Rattle.rbc_sessions.specs.Dues.{dues_of}
+use Rattle.rbc_sessions.proofs.DueLemmas.{AreLeft}
 use Rattle.rbc_sessions.proofs.batch.print_all.Given as goal
 
 -- to print the replies that are left is to print them all
-abbrev pub invariant-loop-due : goal.invariant-loop-due
-invariant-loop-due g l =
-    let written = g.W.Sink.written in
-    record {
-      going : g.W.Sink.failed l.writer ≡ false;
-      some : (text : List ℕ) × AreSaidOf l.track (drop l.due-index l.dues) text;
-      whole : (end : Option (List ℕ)) (failed : Bool) (r : Result (Unit {0}) WriteFailed) (text : List ℕ) → AreSaidOf l.track (drop l.due-index l.dues) text
-          → Prints (written l.writer) end failed text r
-          → (all : List ℕ) × AreSaidOf l.track l.dues all × Prints (written l.fn.writer) end failed all r;
-    }
+abbrev pub invariant-loop-reply : goal.invariant-loop-reply
+invariant-loop-reply g l = record {
+  going : g.W.Sink.failed l.writer ≡ false;
+  left : AreLeft l.track WriteFailed l.dues.dues (dues_of (drop l.reply-index l.replies) l.answers) (g.W.Sink.written l.fn.writer) (g.W.Sink.written l.writer);
+}

@@ -17,11 +17,11 @@ say_all-said-requires-clause-had g c =
 
 pub say_all-said-requires-clause-dues : goal.say_all-said-requires-clause-dues
 say_all-said-requires-clause-dues g c =
-    rw c.as_slice.ensures.value (owed_can c.args.context.now.track.now c.args.sitting.now.seat c.enter_all.new.seat _ _ c.enter_all.ensures.owes)
+    owed_can c.args.context.now.track.now c.args.sitting.now.seat c.enter_all.new.seat _ _ c.enter_all.ensures.owes
 
 pub say_all-said-requires-clause-some : goal.say_all-said-requires-clause-some
 say_all-said-requires-clause-some g c =
-    rw c.as_slice.ensures.value (owed_some c.args.context.now.track.now c.args.sitting.now.seat c.enter_all.new.seat _ _ c.enter_all.ensures.owes)
+    owed_some c.args.context.now.track.now c.args.sitting.now.seat c.enter_all.new.seat _ _ c.enter_all.ensures.owes
 
 pub returns-clause-entered : goal.returns-clause-entered
 returns-clause-entered g c =
@@ -29,10 +29,10 @@ returns-clause-entered g c =
     let after = c.say_all-said.new.sitting in
     let seat = c.enter_all.new.seat in
     let track = c.args.context.now.track.now in
-    let dues = c.enter_all.new.dues.items in
+    let dues = c.enter_all.new.dues.dues in
     let said = c.say_all-said.ensures in
     let count = ap (λ (l : List Receipt). length l) c.receipts-had.ensures in
     let owes = subst (λ items. OwesAll track before.seat (commands_resting items) dues seat) c.self.view_is c.enter_all.ensures.owes in
     let kept = λ (n : ℕ). All (λ (r : Receipt). g.K.Keeper.kept after.committer r.place) (drop n seat.receipts) in
     entered_said track g.K.Keeper.kept before after seat (commands_resting c.args.self.now) dues _ _ _ _ c.requires.whole owes said.seat said.stays (λ fine. subst kept count (said.kept fine))
-    (rw c.as_slice.ensures.value at said.said) (λ broken. let none = said.unsaid broken in (ap g.W.Sink.written none.0, none.1))
+    said.said (λ broken. let none = said.unsaid broken in (ap g.W.Sink.written none.0, none.1))

@@ -28,9 +28,9 @@ loop-one-preserved g c =
     record {
       room = entered.room;
       each = entered.each;
-      so_far = so_far_then track c.args.seat.now loop.seat c.enter_one.new.seat (commands_resting c.args.resting.now.items) _ (commands_resting c.enter_one.new.resting.items) c.args.dues.now.items
-          loop.dues.items c.enter_one.new.dues.items
-          (subst (λ items. IsOwedSoFar track c.args.seat.now (commands_resting c.args.resting.now.items) c.args.dues.now.items loop.seat (commands_resting items) loop.dues.items)
+      so_far = so_far_then track c.args.seat.now loop.seat c.enter_one.new.seat (commands_resting c.args.resting.now.items) _ (commands_resting c.enter_one.new.resting.items) c.args.dues.now.dues
+          loop.dues.dues c.enter_one.new.dues.dues
+          (subst (λ items. IsOwedSoFar track c.args.seat.now (commands_resting c.args.resting.now.items) c.args.dues.now.dues loop.seat (commands_resting items) loop.dues.dues)
           c.in-Some.ensures.items loop.invariant.so_far)
           entered.owes;
     }
@@ -39,6 +39,5 @@ pub returns-clause-owes : goal.returns-clause-owes
 returns-clause-owes g c =
     let loop = c.loop-one in
     let none : loop.resting.items ≡ [] = nil_from_length loop.resting.items (search rules) in
-    let none_due : c.args.dues.now.items ≡ [] = nil_from_length c.args.dues.now.items (search rules) in
-    so_far_all c.args.self.now.track.now c.args.seat.now loop.seat (commands_resting c.args.resting.now.items) (commands_resting loop.resting.items) c.args.dues.now.items loop.dues.items
-    none_due (ap (λ items. commands_resting items) none) loop.invariant.so_far
+    so_far_all c.args.self.now.track.now c.args.seat.now loop.seat (commands_resting c.args.resting.now.items) (commands_resting loop.resting.items) c.args.dues.now.dues loop.dues.dues
+    c.requires.none (ap (λ items. commands_resting items) none) loop.invariant.so_far

@@ -1,4 +1,4 @@
-use Rattle.std.proofs.Common.{◌≤◌, ◌+◌, All, vec_capacity, vec_len}
+use Rattle.std.proofs.Common.{◌≤◌, All}
 use Rattle.std.specs.VecDeque.{deque_len}
 use Rattle.rbc_sessions.specs.Due.{IsOwedSoFar}
 use Rattle.rbc_sessions.specs.Resting.{IsPrepared, commands_resting}
@@ -7,9 +7,9 @@ use Rattle.rbc_sessions.proofs.context.SessionContext.enter_all.Given as goal
 -- what was entered so far has its replies, and there is room for those to what is left
 abbrev pub invariant-loop-one : goal.invariant-loop-one
 invariant-loop-one g l = record {
-  room : vec_len l.dues + deque_len l.resting ≤ vec_capacity l.dues;
+  room : deque_len l.resting ≤ l.dues.room;
   each : All (IsPrepared g.L.DeskName.opened.track g.K.Keeper.says) l.resting.items;
-  so_far : IsOwedSoFar l.self.track.now l.fn.seat (commands_resting l.fn.resting.items) l.fn.dues.items l.seat (commands_resting l.resting.items) l.dues.items;
+  so_far : IsOwedSoFar l.self.track.now l.fn.seat (commands_resting l.fn.resting.items) l.fn.dues.dues l.seat (commands_resting l.resting.items) l.dues.dues;
 }
 
 abbrev pub decreases-loop-one : goal.decreases-loop-one

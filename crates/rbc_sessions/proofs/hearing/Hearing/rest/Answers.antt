@@ -17,7 +17,7 @@ returns-in-Ok-prepare g c =
     let read = subst (IsReadOn track) c.in-Ok.is c.requires.read in
     let asks = ap Ok (sym c.in-Some.ensures) in
     rests_or_same track g.K.Keeper.says c.args.self.now (record { sitting = c.args.self.now.sitting; batch = c.push.new.self }) (record { rested = rested; text = c.in-Ok-prepare.text })
-    (asked_by c.args.read.now) (ap asked_by c.in-Ok.is ∙ asks) c.push.result c.requires.going later.track
+    (asked_by c.args.read.now) (ap asked_by c.in-Ok.is ∙ asks) c.push.result later.track
     (record {
       request = request_view said.request;
       sayable = read.sayable;
