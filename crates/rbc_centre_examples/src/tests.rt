@@ -8,6 +8,7 @@ mod memory;
 mod publishing;
 mod records;
 mod replays;
+mod scenes;
 mod sessions;
 mod showing;
 mod sweeps;

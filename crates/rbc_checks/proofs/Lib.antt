@@ -5,4 +5,3 @@ mod TableLemmas
 mod VerdictLemmas
 mod CheckingLemmas
 mod PrintedLemmas
-pub use Rattle.rbc_words.proofs.PrintingLemmas

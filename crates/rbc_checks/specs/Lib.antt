@@ -6,4 +6,3 @@ pub mod Rows
 pub mod Tables
 pub mod Verdicts
 pub use Rattle.rbc_session_laws.specs.CheckAnswers
-pub use Rattle.rbc_words.specs.StepsLines

@@ -13,12 +13,6 @@ mod verdict;
 pub use block::{Block, is_head, part_read};
 pub use checking::check;
 pub use lines::{CheckLine, ToldProfile, parse_check};
-pub use rbc_model::{Part, Reason};
-pub use rbc_steps::{Grade, Level, Speed};
-pub use rbc_streams::{LineHandler, SessionFault, serve_lines};
-pub use rbc_words::{
-    StepsRequest, integer, is_text, next_word, number, print_number, print_signed, without_return,
-};
 pub use rows::Rows;
 pub use spare::Spare;
 pub use verdict::{Verdict, judge, print_said};

@@ -1,8 +1,8 @@
 -- What a centre that has a journal begins with, and which scene the journal leads to.
 use Rattle.std.specs.Prelude.{◌≡◌, ℕ, List, [], ◌∷◌, length, Ok}
-use Rattle.rbc_journal_file.specs.Beginnings.{beginning_of, joined}
-use Rattle.rbc_journal_file.specs.Gates.{counted}
-use Rattle.rbc_journal_file.specs.Journal.{told_of}
+use Rattle.rbc_journal.specs.Beginnings.{beginning_of, joined}
+use Rattle.rbc_journal.specs.Gates.{counted}
+use Rattle.rbc_journal.specs.Journal.{told_of}
 use Rattle.rbc_model.specs.SceneLines.{scene_lines}
 use Rattle.rbc_model.specs.Sessions.{lines_of}
 use Rattle.rbc_model.specs.Scenes.{Scene, empty_scene}

@@ -9,8 +9,8 @@ use Rattle.clap.specs.declared.error.kind.ErrorKind.{ErrorKind}
 use Rattle.clap.specs.declared.error.kind.ErrorKind.TheVariants.{DisplayHelp, DisplayVersion}
 use Rattle.rbc_model.specs.declared.sessions.SessionFault.{SessionFault}
 use Rattle.rbc_model.specs.declared.sessions.SessionFault.TheVariants.{Memory, Write}
-use Rattle.rbc_show.specs.ServeFault.{ServeFault}
-use Rattle.rbc_show.specs.ServeFault.TheVariants.{Memory as NoServeMemory, Close, Write as ServeWrite}
+use Rattle.rbc_duty.specs.ServeFault.{ServeFault}
+use Rattle.rbc_duty.specs.ServeFault.TheVariants.{Memory as NoServeMemory, Close, Write as ServeWrite}
 use Rattle.rbc_commands.specs.declared.journal_fault.JournalFault.{JournalFault}
 use Rattle.rbc_commands.specs.declared.journal_fault.JournalFault.TheVariants.{InUse, Failed, Unreadable, IsThere}
 use Rattle.rbc_trackfile.specs.declared.loading.LoadFault.{LoadFault}

@@ -2,9 +2,8 @@
 
 ghost use Rattle.std.specs.Prelude.{◌≡◌, [], IfOk};
 ghost use Rattle.std.specs.Arc.{arc_value};
-ghost use Rattle.rbc_journal_file.specs.Beginnings.{beginning_of, joined};
-ghost use Rattle.rbc_journal_file.specs.Gates.{counted};
-ghost use Rattle.rbc_model.specs.SceneLines.{scene_lines};
+ghost use Rattle.rbc_journal.specs.Beginnings.{beginning_of, joined};
+ghost use Rattle.rbc_journal.specs.Gates.{counted};
 ghost use Rattle.rbc_show.specs.Records.{begin_of};
 ghost use Rattle.rbc_show.specs.Retelling.{IsRetold};
 ghost use Rattle.rbc_commands.specs.Beginnings.{Begins};
@@ -12,13 +11,14 @@ ghost use Rattle.rbc_commands.specs.Beginnings.{Begins};
 use crate::failure::Failure;
 use crate::journal_fault::JournalFault;
 use crate::reason::Reason;
-use rbc_journal_file::beginning_in;
+use rbc_journal::beginning_in;
 use rbc_model::limits::LONGEST_FILE;
 use rbc_model::{Memory, OrMemory};
+use rbc_page::scene_text;
 use rbc_scene_reading::{FaultyLine, Scene, SceneFault, explain, read};
-use rbc_show::journaled::server::{EntryLimit, Record};
-use rbc_show::{Stream, WholeFault, list, print_scene, read_whole};
-use rbc_streams::Text;
+use rbc_show::list;
+use rbc_show::sessions::{EntryLimit, Record};
+use rbc_streams::{Stream, Text, WholeFault, read_whole};
 use rbc_trackfile::Track;
 use std::alloc::Global;
 use std::fmt::Display;
@@ -140,18 +140,7 @@ pub(crate) fn lines_at(
         return Ok(Vec::new(alloc));
     };
     let (version, scene) = scene_at(rt, track, path)?;
-    Ok(lines_of(alloc, version, &scene)?)
-}
-
-/// The lines of a scene of this version.
-pub(crate) fn lines_of(alloc: Global, version: u64, scene: &Scene) -> Result<Vec<u8>, Memory>
-    ensures { IfOk result (λ lines. lines.items ≡ scene_lines scene.now.track version scene.now.scene) }
-{
-    let mut lines = Text::new(alloc);
-    match print_scene(alloc, version, scene, &mut lines) {
-        Ok(()) => Ok(lines.bytes),
-        Err(_) => Err(Memory),
-    }
+    Ok(scene_text(alloc, version, &scene)?)
 }
 
 /// The scene that the file of this path tells, and its version.

@@ -1,8 +1,8 @@
 //! The standard input of a centre that stays up: it tells when to end.
 
 use crate::failure::Failure;
+use rbc_duty::server::ServeFault;
 use rbc_port::{Closing, PortEnd};
-use rbc_show::journaled::server::ServeFault;
 use std::io::{ErrorKind, Read};
 use std::sync::{Arc, Wait};
 use std::thread;

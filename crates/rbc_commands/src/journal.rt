@@ -1,11 +1,11 @@
 //! Centres whose history is kept in a journal.
 
 ghost use Rattle.std.specs.Prelude.{◌≡◌, [], IfOk};
-ghost use Rattle.rbc_journal_file.specs.Beginnings.{beginning_of};
-ghost use Rattle.rbc_journal_file.specs.Gates.{IsLine, counted};
+ghost use Rattle.rbc_journal.specs.Beginnings.{beginning_of};
+ghost use Rattle.rbc_journal.specs.Gates.{IsLine, counted};
 ghost use Rattle.rbc_journal_file.specs.Past.{may_leave, seen};
 ghost use Rattle.rbc_journal_file.specs.Recorded.{past_of};
-ghost use Rattle.rbc_journal_file.specs.Seals.{IsWholeText};
+ghost use Rattle.rbc_journal.specs.Seals.{IsWholeText};
 ghost use Rattle.rbc_show.specs.Journaled.{IsReady};
 ghost use Rattle.rbc_show.specs.Records.{begin_of};
 ghost use Rattle.rbc_commands.specs.Beginnings.{BeginsAsFile};
@@ -26,14 +26,13 @@ use crate::track::TrackFile;
 use crate::watching::watch_on;
 use rbc_command_line::{CentreOptions, Service, Staying};
 use rbc_hints::Prompted;
-use rbc_journal_file::{
-    FoundFile, JournalPaths, Readable, Recorded, Timed, beginning_in, begun_file, next_told, read,
-};
+use rbc_journal::{Readable, beginning_in, begun_file, next_told, read};
+use rbc_journal_file::{FoundFile, JournalPaths, Recorded, Timed};
 use rbc_model::Memory;
-use rbc_port::tally::Tally;
-use rbc_show::Stream;
-use rbc_show::journaled::server::{EntryLimit, Record};
 use rbc_show::journaled::{self, JournaledRecord, OpeningFault, RunFault, replay};
+use rbc_show::sessions::{EntryLimit, Record};
+use rbc_streams::Stream;
+use rbc_tally::Tally;
 use rbc_trackfile::Track;
 use std::fs::{File, Files};
 use std::io::{BufRead, Eprint, IsTerminal};

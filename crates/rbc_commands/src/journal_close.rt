@@ -2,10 +2,10 @@
 
 ghost use Rattle.std.specs.Arc.{arc_value};
 ghost use Rattle.std.specs.Prelude.{IfOk};
-ghost use Rattle.rbc_journal_file.specs.Gates.{IsLine};
+ghost use Rattle.rbc_journal.specs.Gates.{IsLine};
 ghost use Rattle.rbc_commands.specs.Beginnings.{Closes};
 
-use crate::beginning::{begin_in, lines_of};
+use crate::beginning::begin_in;
 use crate::failure::{Failure, at_place, failed_at, file_failed};
 use crate::journal::readable;
 use crate::journal_fault::JournalFault;
@@ -13,9 +13,11 @@ use crate::journal_report::{created, remove};
 use crate::limit::limit_of;
 use crate::track::{TrackFile, read_track};
 use rbc_command_line::JournalClosing;
-use rbc_journal_file::{JournalPaths, next_told, open};
+use rbc_journal::{Device, next_told};
+use rbc_journal_file::{JournalPaths, open};
 use rbc_model::Memory;
-use rbc_show::journaled::{Device, replay};
+use rbc_page::scene_text;
+use rbc_show::journaled::replay;
 use rbc_trackfile::Track;
 use std::alloc::Global;
 use std::fs::{File, Files};
@@ -79,7 +81,7 @@ fn closed(
     let most = limit_of(Some(count_told(text)));
     let mut record = begin_in(alloc, track, text, most)?.record;
     replay(rt, alloc, &mut record, text)?;
-    Ok(lines_of(alloc, record.version(), record.scene())?)
+    Ok(scene_text(alloc, record.version(), record.scene())?)
 }
 
 /// How many lines a text tells, but one at least.

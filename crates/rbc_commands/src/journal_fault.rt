@@ -3,7 +3,8 @@
 ghost use Rattle.std.specs.Prelude.{◌≡◌};
 ghost use Rattle.rbc_commands.specs.Statuses.{status_of_journal};
 
-use rbc_journal_file::{CallFailed, ReadFault};
+use rbc_journal::ReadFault;
+use rbc_journal_file::CallFailed;
 use rbc_scene_reading::SceneFault;
 use std::fmt;
 use std::fmt::Display;

@@ -4,7 +4,7 @@ use crate::failure::Failure;
 use crate::journal_fault::JournalFault;
 use crate::output::{ended, standard_output};
 use rbc_journal_report::{Doubt, FollowFault, LookFailed, Watched, follow};
-use rbc_show::SessionFault;
+use rbc_streams::SessionFault;
 use std::fs::{self, Files};
 use std::io::ErrorKind;
 use std::sync::Wait;

@@ -1,8 +1,8 @@
 //! What is told of the file of a journal, and new journals with lines of an old one.
 
 ghost use Rattle.std.specs.Prelude.{◌≡◌, [], IfOk, IfSome};
-ghost use Rattle.rbc_journal_file.specs.Gates.{IsLine};
-ghost use Rattle.rbc_journal_file.specs.Device.{Only};
+ghost use Rattle.rbc_journal.specs.Gates.{IsLine};
+ghost use Rattle.rbc_journal.specs.Device.{Only};
 ghost use Rattle.rbc_journal_file.specs.Past.{may_leave, seen};
 ghost use Rattle.rbc_journal_file.specs.Recorded.{past_of};
 
@@ -13,12 +13,12 @@ use crate::output::{ended, standard_output};
 use crate::reason::Reason;
 use crate::track::{unread, unreadable};
 use rbc_command_line::{JournalWork, Journaled};
+use rbc_journal::JournalFault as PutFault;
 use rbc_journal_file::{JournalPaths, OpenFault, Recorded, Role, SystemFile, create};
 use rbc_journal_report::{
-    CopyFault, JournalFault as PutFault, check, copy_first, digest_of, print_lines, print_report,
-    renew,
+    CopyFault, check, copy_first, digest_of, print_lines, print_report, renew,
 };
-use rbc_show::Stream;
+use rbc_streams::Stream;
 use rbc_trackfile::LoadFault;
 use std::fs::{self, File, Files};
 use std::io::ErrorKind;

@@ -40,8 +40,9 @@ use rbc_command_line::{CentreOptions, Listed, Printing, Service, Shown, Staying,
 use rbc_decode::{Form, Json, Plain, decode};
 use rbc_hints::Prompted;
 use rbc_model::Memory;
-use rbc_show::journaled::server::{self, Record};
-use rbc_show::{Stream, list, show, show_each, show_each_page, show_page};
+use rbc_show::sessions::{self, Record};
+use rbc_show::{list, show, show_each, show_each_page, show_page};
+use rbc_streams::Stream;
 use rbc_track_report::report;
 use rbc_viewer::draw;
 pub use reason::Reason;
@@ -178,7 +179,7 @@ fn run_centre<I: BufRead + Drop + IsTerminal>(
     let history = history_of(rt, centre)?;
     let mut output = heard_output(rt, terminal.as_ref())?;
     let reader = &mut Stream::reader(Prompted::new(rt.reader(), terminal.as_ref()));
-    let answered = server::run(rt, alloc, reader, &mut output, &mut record);
+    let answered = sessions::run(rt, alloc, reader, &mut output, &mut record);
     if let Some(terminal) = &terminal {
         terminal.end();
     }

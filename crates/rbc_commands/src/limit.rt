@@ -1,6 +1,6 @@
 //! How many entries the history of a centre may have.
 
-use rbc_show::journaled::server::EntryLimit;
+use rbc_show::sessions::EntryLimit;
 
 /// The limit that a command line asks for, or the usual one.
 pub(crate) fn limit_of(entries: Option<usize>) -> EntryLimit {

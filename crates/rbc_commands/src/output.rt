@@ -6,9 +6,9 @@ ghost use Rattle.std.specs.declared.io.Error.{Error};
 ghost use Rattle.rbc_commands.specs.Statuses.{end_of, is_reader_gone};
 
 use crate::failure::Failure;
+use rbc_duty::server::ServeFault;
 use rbc_model::Memory;
-use rbc_show::journaled::server::ServeFault;
-use rbc_show::{Buffered, SessionFault, Stream};
+use rbc_streams::{Buffered, SessionFault, Stream};
 use std::alloc::Global;
 use std::io::{self, ErrorKind, Printer, Write};
 

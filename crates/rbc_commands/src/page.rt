@@ -5,10 +5,11 @@ ghost use Rattle.std.specs.Prelude.{◌≡◌, ◌+◌, ◌≤◌, length, optio
 use crate::failure::Failure;
 use crate::serve::listener_at;
 use rbc_command_line::PagePlace;
+use rbc_duty::server::ServeFault;
 use rbc_model::Memory;
 use rbc_page::{Opening, Reception, track_text};
 use rbc_port::Watch;
-use rbc_show::journaled::server::{DeskName, Seat, ServeFault};
+use rbc_show::sessions::{DeskName, Seat};
 use rbc_streams::Text;
 use rbc_trackfile::Track;
 use rbc_viewer::{begin_page, end_page};

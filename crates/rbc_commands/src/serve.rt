@@ -7,11 +7,11 @@ ghost use Rattle.rbc_commands.specs.Listening.{listening_line};
 use crate::failure::Failure;
 use crate::watching::MinuteLog;
 use rbc_command_line::Service;
-use rbc_port::Watch;
-use rbc_show::journaled::server::{
-    self, Blank, Client, Clients, Desk, DeskName, NoJournal, Port, Record, Staff, no_committers,
-};
-use rbc_show::{Sink, Source, Word, WriteFailed, print_line};
+use rbc_duty::server::{self, Staff, no_committers};
+use rbc_port::{Client, Clients, Port, Watch};
+use rbc_show::sessions::{Blank, Desk, DeskName, NoJournal, Record};
+use rbc_streams::{Sink, Source, WriteFailed};
+use rbc_words::{Word, print_line};
 use std::alloc::Global;
 use std::io::Eprint;
 use std::marker::Brand;

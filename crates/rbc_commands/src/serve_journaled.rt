@@ -8,13 +8,13 @@ ghost use Rattle.rbc_show.specs.Journaled.{IsReady};
 use crate::failure::{Failure, file_failed};
 use crate::serve::Opening;
 use rbc_command_line::Service;
+use rbc_duty::server::{ServeFault, Served, Staff, serve};
+use rbc_group_commit::{BlankStamps, CommitName};
 use rbc_journal_file::{Calls, Recorded};
-use rbc_show::journaled::group_commit::{self, CommitName};
-use rbc_show::journaled::server::{
-    Client, Clients, DeskName, Port, ServeFault, Served, Staff, serve,
-};
+use rbc_port::{Client, Clients, Port};
 use rbc_show::journaled::{self, DeskJournal, JournaledRecord, Opened, SeatTold, close};
-use rbc_show::{Sink, Source};
+use rbc_show::sessions::DeskName;
+use rbc_streams::{Sink, Source};
 use std::alloc::Global;
 use std::io::{Eprint, Read, Write};
 use std::marker::Brand;
@@ -48,7 +48,7 @@ pub(crate) fn serve_journaled<
     requires ready { IsReady (λ file. seen (past_of file)) (λ file. may_leave (past_of file)) kept }
 {
     let opening = Opening::new(kept, service);
-    let stamps = group_commit::BlankStamps::new();
+    let stamps = BlankStamps::new();
     open::<Brand, Brand, _, _, _, _, Port<N>, D, W, T>(rt, alloc, port, opening, stamps, writer)
 }
 
@@ -69,7 +69,7 @@ fn open<
     alloc: Global,
     port: P,
     opening: Opening<JournaledRecord<Recorded<D>>>,
-    stamps: group_commit::BlankStamps,
+    stamps: BlankStamps,
     writer: &mut W,
 ) -> Result<(), Failure>
     requires going { W.failed writer.old ≡ false }

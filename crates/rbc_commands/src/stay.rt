@@ -8,13 +8,12 @@ use crate::page::{Showing, lookers, onlooker_of};
 use crate::serve::{Opening, listener_of, print_listening};
 use crate::watching::MinuteLog;
 use rbc_command_line::Staying;
+use rbc_duty::server::{ServeFault, no_committers};
 use rbc_duty::{Company, Post, stay};
 use rbc_model::OrMemory;
-use rbc_port::{Closing, Place, PortEnd, Watch, open_places};
-use rbc_show::journaled::server::{
-    Client, Clients, Desk, DeskName, NoJournal, Port, Record, ServeFault, no_committers,
-};
-use rbc_show::{Sink, Source};
+use rbc_port::{Client, Clients, Closing, Place, Port, PortEnd, Watch, open_places};
+use rbc_show::sessions::{Desk, DeskName, NoJournal, Record};
+use rbc_streams::{Sink, Source};
 use std::alloc::Global;
 use std::io::{BufRead, Eprint, Read, Write};
 use std::marker::Brand;

@@ -8,14 +8,15 @@ ghost use Rattle.rbc_show.specs.Journaled.{IsReady};
 use crate::failure::{Failure, file_failed};
 use crate::page::{Showing, lookers, onlooker_of};
 use crate::serve::Opening;
-use rbc_duty::{Company, Onlooker, Post, Stayed, stay};
+use rbc_duty::server::ServeFault;
+use rbc_duty::{Company, Post, Stayed, stay};
+use rbc_group_commit::{BlankStamps, CommitName, Committer, GroupCommit};
 use rbc_journal_file::{Calls, Recorded};
 use rbc_page::Reception;
-use rbc_port::Closing;
-use rbc_show::journaled::group_commit::{self, CommitName, Committer, GroupCommit};
-use rbc_show::journaled::server::{Client, Clients, Desk, DeskName, Port, ServeFault};
+use rbc_port::{Client, Clients, Closing, Port};
 use rbc_show::journaled::{self, DeskJournal, JournaledRecord, Opened, SeatTold, close};
-use rbc_show::{Sink, Source};
+use rbc_show::sessions::{Desk, DeskName, Onlooker};
+use rbc_streams::{Sink, Source};
 use std::alloc::Global;
 use std::io::{Eprint, Read, Write};
 use std::marker::Brand;
@@ -56,7 +57,7 @@ pub(crate) fn stay_journaled<
     let opening = Opening::for_places(kept, ports.len(), lookers(&page));
     let journaled = Journaled {
         opening,
-        stamps: group_commit::BlankStamps::new(),
+        stamps: BlankStamps::new(),
     };
     open::<Brand, Brand, _, _, _, _, Port<N>, U, M, D, E, W, T>(
         rt, alloc, closing, ports, page, journaled, writer,
@@ -67,7 +68,7 @@ pub(crate) fn stay_journaled<
 struct Journaled<D: Calls> {
     opening: Opening<JournaledRecord<Recorded<D>>>,
     /// The blank of the stamps that its committers are given.
-    stamps: group_commit::BlankStamps,
+    stamps: BlankStamps,
 }
 
 /// A desk over the record, with its group commit and with seats that have committers, and who looks on from a seat of its own, if there is a

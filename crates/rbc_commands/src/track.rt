@@ -1,14 +1,14 @@
 //! The track of a centre.
 
 ghost use Rattle.std.specs.Prelude.{IfOk};
-ghost use Rattle.rbc_journal_file.specs.Gates.{IsLine};
+ghost use Rattle.rbc_journal.specs.Gates.{IsLine};
 
 use crate::failure::Failure;
 use crate::reason::Reason;
-use rbc_journal_file::track_digest;
+use rbc_journal::track_digest;
 use rbc_model::OrMemory;
 use rbc_model::limits::LONGEST_FILE;
-use rbc_show::{Stream, WholeFault, read_whole};
+use rbc_streams::{Stream, WholeFault, read_whole};
 use rbc_track_hints::hints;
 use rbc_trackfile::{FileFault, LoadFault, Track, read};
 use std::alloc::Global;

@@ -2,9 +2,10 @@
 
 use crate::failure::Failure;
 use rbc_command_line::Terms;
+use rbc_duty::server::ServeFault;
 use rbc_model::Memory;
 use rbc_port::{Minutes, Watch};
-use rbc_show::journaled::server::{EntryLimit, ServeFault};
+use rbc_show::sessions::EntryLimit;
 use std::io::Eprint;
 use std::sync::{Arc, Mutex, Wait};
 use std::thread;

@@ -8,13 +8,11 @@ pub mod Trains
 pub use Rattle.rbc_snap.specs.ApplyFault
 pub use Rattle.rbc_snap.specs.Candidates
 pub use Rattle.rbc_snap.specs.CommitFault
-pub use Rattle.rbc_snap.specs.Ends
 pub use Rattle.rbc_snap.specs.Entering
 pub use Rattle.rbc_snap.specs.Entries
 pub use Rattle.rbc_snap.specs.Events
 pub use Rattle.rbc_snap.specs.Forms
 pub use Rattle.rbc_snap.specs.Later
-pub use Rattle.rbc_snap.specs.Present
 pub use Rattle.rbc_snap.specs.Records
 pub use Rattle.rbc_snap.specs.SameViews
 pub use Rattle.rbc_snap.specs.Sights

@@ -24,10 +24,8 @@ pub use granted::Granted;
 pub use hold::Hold;
 pub use name::DeskName;
 pub use onlooker::Onlooker;
-pub use rbc_model::{Memory, OrMemory, Told};
 pub use rbc_snap::{
-    ApplyFault, Behind, Candidate, CommitFault, Entry, EntryLimit, Event, Grant, HistoryName,
-    Receipt, Record, Scene, Sight, Train, View, candidate,
+    ApplyFault, Candidate, CommitFault, Entry, EntryLimit, Receipt, Record, Sight, View, candidate,
 };
 pub use rbc_track::Track;
 pub use seat::Seat;

@@ -9,8 +9,8 @@ ghost use Rattle.rbc_desk.specs.Looking.{HasLooked};
 ghost use Rattle.rbc_desk.specs.Seats.{seated};
 
 use crate::DeskName;
-use rbc_model::OrMemory;
-use rbc_snap::{Behind, Event, Eye, Receipt, Scene, Sight};
+use rbc_model::{Event, OrMemory};
+use rbc_snap::{Behind, Eye, Receipt, Scene, Sight};
 use std::alloc::Global;
 use std::marker::Model;
 use std::sync::ledger::Share;

@@ -1,3 +1,4 @@
 pub mod Visits
 pub mod Duties
 pub mod Stays
+pub use Rattle.rbc_server.specs.declared.serving.ServeFault

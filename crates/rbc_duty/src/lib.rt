@@ -9,6 +9,6 @@ mod staying;
 
 pub use duty::{Duty, serve_in_turn};
 pub use post::Post;
-pub use rbc_server::Onlooker;
+pub use rbc_server as server;
 pub use standing::{Stood, stand_all};
 pub use staying::{Company, Stayed, Unstayed, stay};

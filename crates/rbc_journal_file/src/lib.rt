@@ -15,8 +15,5 @@ pub use calls::{Calls, SystemFile};
 pub use opening::{FoundFile, OpenFault, create, open};
 pub use past::{Bytes, Past};
 pub use paths::JournalPaths;
-pub use rbc_journal::{
-    ReadFault, Readable, beginning_in, begun_file, next_told, read, track_digest,
-};
 pub use recorded::Recorded;
 pub use timed::Timed;

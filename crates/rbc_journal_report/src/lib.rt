@@ -11,6 +11,4 @@ mod telling;
 pub use copying::{CopyFault, copy_first, renew};
 pub use following::{Doubt, FollowFault, LookFailed, Watched, follow};
 pub use printing::{print_lines, print_report};
-pub use rbc_journal::{Journal, JournalFault, ReadFault};
-pub use rbc_streams::WholeFault;
 pub use telling::{FileContent, FileState, check, digest_of, named, tell, tell_beside};

@@ -11,8 +11,8 @@ use Rattle.rbc_model.specs.Histories.{Beginning, Entry}
 use Rattle.rbc_model.specs.HistoryText.{entry_line}
 use Rattle.rbc_model.specs.SessionText.{SessionLine, parse_session}
 use Rattle.rbc_model.specs.SessionReply.{BadLine, Memory, refused_reply}
-use Rattle.rbc_server.specs.Changes.{Comes, Goes}
-use Rattle.rbc_server.specs.Records.{history_on, begin_of, HistoryOnTrack, with_entry}
+use Rattle.rbc_sessions.specs.Changes.{Comes, Goes}
+use Rattle.rbc_sessions.specs.Records.{history_on, begin_of, HistoryOnTrack, with_entry}
 use Rattle.rbc_session_laws.specs.Commands.{resolve}
 use Rattle.rbc_session_laws.specs.Turns.{AnswersLine}
 use Rattle.rbc_session_laws.specs.Answers.{Answer, command_answer, line_answer}

@@ -16,9 +16,9 @@ use Rattle.rbc_model.specs.Events.{step}
 use Rattle.rbc_model.specs.Views.{View, view}
 use Rattle.rbc_model.specs.Histories.{Beginning, Entry, Heard, is_full, replay}
 use Rattle.rbc_model.specs.SessionReply.{SessionRefusal, Full}
-use Rattle.rbc_server.proofs.CentreLemmas.{line_comes}
-use Rattle.rbc_server.specs.Changes.{Comes}
-use Rattle.rbc_server.specs.Records.{begin_of, HistoryOnTrack, with_entry}
+use Rattle.rbc_sessions.proofs.CentreLemmas.{line_comes}
+use Rattle.rbc_sessions.specs.Changes.{Comes}
+use Rattle.rbc_sessions.specs.Records.{begin_of, HistoryOnTrack, with_entry}
 use Rattle.rbc_session_laws.specs.declared.command.Command.{Command}
 use Rattle.rbc_session_laws.specs.declared.command.Command.TheVariants.{Nothing, Event, Authority, Show}
 use Rattle.rbc_session_laws.specs.Commands.{command_in}

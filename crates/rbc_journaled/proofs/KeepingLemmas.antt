@@ -8,8 +8,8 @@ use Rattle.rbc_journal.specs.Journal.{recovered, IsBeforeOrAfter}
 use Rattle.rbc_journal.specs.Settled.{staged}
 use Rattle.rbc_model.specs.Histories.{Beginning, Entry}
 use Rattle.rbc_model.specs.SoundTracks.{IsInForm}
-use Rattle.rbc_server.specs.Changes.{Goes}
-use Rattle.rbc_server.specs.Records.{begin_of, HistoryOnTrack}
+use Rattle.rbc_sessions.specs.Changes.{Goes}
+use Rattle.rbc_sessions.specs.Records.{begin_of, HistoryOnTrack}
 use Rattle.rbc_journaled.specs.Adds.{Adds}
 use Rattle.rbc_journaled.specs.Advances.{Advances, LeavesWritten, IsSaid, IsTreated, Rests, Writes}
 use Rattle.rbc_journaled.specs.Journaled.{IsFrom, IsGoing, IsReady, TellsRecord}

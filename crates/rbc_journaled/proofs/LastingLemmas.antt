@@ -2,8 +2,8 @@
 use Rattle.std.proofs.Common.{◌≡◌, ℕ, ◌+◌, List, subst, arith, Some}
 use Rattle.std.specs.Prelude.{slice_get}
 use mathlib.Core.List.{IsPrefix}
-use Rattle.rbc_server.specs.Later.{IsLater}
-use Rattle.rbc_server.specs.Records.{HistoryOnTrack}
+use Rattle.rbc_sessions.specs.Later.{IsLater}
+use Rattle.rbc_sessions.specs.Records.{HistoryOnTrack}
 use Rattle.rbc_group_commit.specs.Marks.{HasLine}
 use Rattle.rbc_group_commit.specs.Stamps.{EachLasts}
 use Rattle.rbc_group_commit.specs.declared.stamp.Stamp.{Stamp}

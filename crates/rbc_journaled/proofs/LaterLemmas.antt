@@ -3,8 +3,8 @@ use Rattle.std.proofs.Common.{◌≡◌, ℕ, ◌<◌, ◌≤◌, List, [], ◌�
 use Rattle.std.specs.Prelude.{slice_get}
 use Rattle.std.proofs.lemmas.List.{take-take}
 use Rattle.std.proofs.lemmas.Option.{slice_get_within}
-use Rattle.rbc_server.specs.Later.{IsLater}
-use Rattle.rbc_server.specs.Records.{begin_on, begin_of, HistoryOnTrack}
+use Rattle.rbc_sessions.specs.Later.{IsLater}
+use Rattle.rbc_sessions.specs.Records.{begin_on, begin_of, HistoryOnTrack}
 use Rattle.rbc_journal.specs.Journal.{recovered}
 use Rattle.rbc_model.specs.Histories.{Beginning, Entry}
 use Rattle.rbc_model.proofs.BasicLemmas.{slice_get-from_take}

@@ -4,8 +4,8 @@ use Rattle.std.proofs.lemmas.Bool.{ltb-false}
 use Rattle.rbc_journal.specs.Journal.{IsTold}
 use Rattle.rbc_journaled.proofs.AddingLemmas.{adds_said}
 use Rattle.rbc_journaled.proofs.TreatingLemmas.{said_is_told}
-use Rattle.rbc_server.specs.Keeping.{AddsEntry}
-use Rattle.rbc_server.specs.Records.{begin_of, HistoryOnTrack}
+use Rattle.rbc_sessions.specs.Keeping.{AddsEntry}
+use Rattle.rbc_sessions.specs.Records.{begin_of, HistoryOnTrack}
 use Rattle.rbc_model.proofs.SaidLineLemmas.{said_line_read}
 use Rattle.rbc_model.specs.declared.limits.TheConstants.{LONGEST_LINE}
 use Rattle.rbc_model.specs.declared.refusals.LineFault.{LineFault}

@@ -21,7 +21,7 @@ use Rattle.rbc_journal.specs.Gates.{IsLine}
 use Rattle.rbc_journal.specs.Seals.{is_comment}
 use Rattle.rbc_journal.specs.Journal.{IsNote, told_of}
 use Rattle.rbc_model.specs.Histories.{Entry}
-use Rattle.rbc_server.specs.Records.{HistoryOnTrack}
+use Rattle.rbc_sessions.specs.Records.{HistoryOnTrack}
 use Rattle.rbc_journaled.specs.declared.journaled_record.JournaledRecord.{JournaledRecord}
 use Rattle.rbc_journaled.specs.Notes.{note_mark, is_note, grant_note, note_behind, AreTrue}
 

@@ -7,7 +7,7 @@ use Rattle.rbc_journal.specs.declared.journal.Journal.{Journal}
 use Rattle.rbc_journaled.proofs.TellingLemmas.{as_many}
 use Rattle.rbc_journaled.specs.Adds.{Adds}
 use Rattle.rbc_journaled.specs.Journaled.{IsKept}
-use Rattle.rbc_server.specs.Records.{begin_of, HistoryOnTrack}
+use Rattle.rbc_sessions.specs.Records.{begin_of, HistoryOnTrack}
 use Rattle.rbc_journaled.specs.Tells.{Tells}
 use Rattle.rbc_model.specs.Histories.{Entry}
 use Rattle.rbc_group_commit.specs.Told.{AreTold}

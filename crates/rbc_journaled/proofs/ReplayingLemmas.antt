@@ -8,7 +8,7 @@ use Rattle.rbc_journal.specs.Gates.{counted}
 use Rattle.rbc_journal.specs.Journal.{told_of}
 use Rattle.rbc_journal.specs.Seals.{is_comment}
 use Rattle.rbc_model.specs.Histories.{Beginning}
-use Rattle.rbc_server.specs.Records.{begin_of, HistoryOnTrack}
+use Rattle.rbc_sessions.specs.Records.{begin_of, HistoryOnTrack}
 use Rattle.rbc_journaled.specs.Adds.{Adds}
 use Rattle.rbc_journaled.specs.Notes.{is_note, note_behind, AreTrue, DiffersFirst, Enters}
 use Rattle.rbc_journaled.specs.Tells.{Tells}

@@ -15,11 +15,11 @@ use Rattle.rbc_model.specs.Sessions.{WritesPart}
 use Rattle.rbc_model.specs.SoundTracks.{IsInForm}
 use Rattle.rbc_model.specs.Talks.{Answered, IsTalk}
 use Rattle.rbc_model.specs.Histories.{Entry}
-use Rattle.rbc_server.specs.Changes.{Goes}
-use Rattle.rbc_server.specs.Records.{begin_of, HistoryOnTrack, history_on}
-use Rattle.rbc_server.specs.Answered.{AnswersAll}
-use Rattle.rbc_server.proofs.AnsweredLemmas.{session_answers}
-use Rattle.rbc_server.proofs.SessionLemmas.{AreRight, turned, session_turns}
+use Rattle.rbc_sessions.specs.Changes.{Goes}
+use Rattle.rbc_sessions.specs.Records.{begin_of, HistoryOnTrack, history_on}
+use Rattle.rbc_sessions.specs.Answered.{AnswersAll}
+use Rattle.rbc_sessions.proofs.AnsweredLemmas.{session_answers}
+use Rattle.rbc_sessions.proofs.SessionLemmas.{AreRight, turned, session_turns}
 use Rattle.rbc_session_laws.specs.SessionRuns.{Turn, entries_of, entries_added, lines_treated}
 use Rattle.rbc_journaled.specs.Adds.{Adds}
 use Rattle.rbc_journaled.specs.Advances.{Advances, Leaves, LeavesWritten, Rests, Writes}

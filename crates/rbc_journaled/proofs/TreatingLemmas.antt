@@ -18,14 +18,14 @@ use Rattle.rbc_model.specs.Tracks.{Track}
 use Rattle.rbc_model.specs.Views.{View, view}
 use Rattle.rbc_model.specs.SessionText.{SessionLine, Ask, Inquire, Blank, Free, GiveBack, Leave, Lock, Report, parse_session, said_line, IsSayable}
 use Rattle.rbc_model.specs.SessionReply.{SessionRefusal, BadLine, refused_reply}
-use Rattle.rbc_server.specs.Replies.{reply_text}
-use Rattle.rbc_server.specs.SessionRefusal.TheVariants.{Memory as NoMemory}
-use Rattle.rbc_server.specs.SessionReply.{SessionReply}
-use Rattle.rbc_server.specs.SessionReply.TheVariants.{Refused as RefusedReply}
-use Rattle.rbc_server.specs.Changes.{Comes, Goes}
-use Rattle.rbc_server.specs.Records.{history_on, begin_of, HistoryOnTrack, scene_now}
-use Rattle.rbc_server.proofs.CentreLemmas.{line_comes, printed_comes, refused_comes}
-use Rattle.rbc_server.proofs.KeepingLemmas.{line_asks}
+use Rattle.rbc_sessions.specs.Replies.{reply_text}
+use Rattle.rbc_sessions.specs.SessionRefusal.TheVariants.{Memory as NoMemory}
+use Rattle.rbc_sessions.specs.SessionReply.{SessionReply}
+use Rattle.rbc_sessions.specs.SessionReply.TheVariants.{Refused as RefusedReply}
+use Rattle.rbc_sessions.specs.Changes.{Comes, Goes}
+use Rattle.rbc_sessions.specs.Records.{history_on, begin_of, HistoryOnTrack, scene_now}
+use Rattle.rbc_sessions.proofs.CentreLemmas.{line_comes, printed_comes, refused_comes}
+use Rattle.rbc_sessions.proofs.KeepingLemmas.{line_asks}
 use Rattle.rbc_model.specs.declared.sessions.Inquiry.{Inquiry}
 use Rattle.rbc_model.specs.declared.sessions.Inquiry.TheVariants.{State as AskedState, Scene as AskedScene}
 use Rattle.rbc_session_laws.specs.declared.command.Command.{Command}

@@ -1,7 +1,7 @@
 -- Which entry a line adds to the history of a centre.
 use Rattle.std.specs.Prelude.{◌≡◌, ℕ, Bool, List, Some, None, Ok, MatchBool}
 use Rattle.rbc_model.specs.Histories.{Beginning, Entry}
-use Rattle.rbc_server.specs.Records.{begin_of, HistoryOnTrack, with_entry}
+use Rattle.rbc_sessions.specs.Records.{begin_of, HistoryOnTrack, with_entry}
 use Rattle.rbc_session_laws.specs.declared.command.Command.{Command}
 use Rattle.rbc_session_laws.specs.Commands.{command_in}
 use Rattle.rbc_session_laws.specs.Answers.{line_answer}

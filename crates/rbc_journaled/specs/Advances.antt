@@ -4,8 +4,8 @@ use Rattle.rbc_journal.specs.Device.{LeavesOnly}
 use Rattle.rbc_journal.specs.Journal.{recovered, IsBeforeOrAfter}
 use Rattle.rbc_journal.specs.Settled.{IsSettled, staged}
 use Rattle.rbc_model.specs.SessionText.{parse_session}
-use Rattle.rbc_server.specs.Changes.{Goes}
-use Rattle.rbc_server.specs.Records.{begin_of, HistoryOnTrack}
+use Rattle.rbc_sessions.specs.Changes.{Goes}
+use Rattle.rbc_sessions.specs.Records.{begin_of, HistoryOnTrack}
 use Rattle.rbc_journaled.specs.Adds.{Adds}
 use Rattle.rbc_journaled.specs.Journaled.{IsFrom, IsBetween, IsGoing}
 use Rattle.rbc_journaled.specs.declared.journaled_record.JournaledRecord.{JournaledRecord}

@@ -2,7 +2,7 @@
 use Rattle.std.specs.Prelude.{◌≡◌, ◌≤◌, ℕ, List, length, take, slice_get, Some}
 use Rattle.rbc_journal.specs.Journal.{recovered}
 use Rattle.rbc_journaled.specs.Adds.{Adds}
-use Rattle.rbc_server.specs.Records.{begin_of, HistoryOnTrack}
+use Rattle.rbc_sessions.specs.Records.{begin_of, HistoryOnTrack}
 use Rattle.rbc_model.specs.Histories.{Entry}
 
 -- the line adds the entry at this place, behind those before it

@@ -1,7 +1,7 @@
 -- What a crash leaves of a history, since a stamp.
 use Rattle.std.specs.Prelude.{◌≡◌, ◌<◌, ◌≤◌, ◌+◌, ℕ, List, slice_get, Some}
-use Rattle.rbc_server.specs.Later.{IsLater}
-use Rattle.rbc_server.specs.Records.{HistoryOnTrack}
+use Rattle.rbc_sessions.specs.Later.{IsLater}
+use Rattle.rbc_sessions.specs.Records.{HistoryOnTrack}
 use Rattle.rbc_group_commit.specs.declared.stamp.Stamp.{Stamp}
 use Rattle.rbc_journaled.specs.Entries.{TellsFirst}
 

@@ -9,13 +9,3 @@ pub mod Ends
 pub mod Sessions
 pub mod Entries
 pub mod Lasting
-pub use Rattle.rbc_server.specs.Keeping
-pub use Rattle.rbc_server.specs.Later
-pub use Rattle.rbc_server.specs.Records
-pub use Rattle.rbc_server.specs.Seats
-pub use Rattle.rbc_server.specs.Sights
-pub use Rattle.rbc_server.specs.declared.serving.ServeFault
-pub use Rattle.rbc_session_laws.specs.Answers
-pub use Rattle.rbc_session_laws.specs.Retelling
-pub use Rattle.rbc_session_laws.specs.SessionRuns
-pub use Rattle.rbc_server.specs.SessionLines

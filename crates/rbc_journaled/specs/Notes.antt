@@ -4,7 +4,7 @@ use Rattle.rbc_journal.specs.Journal.{told_of}
 use Rattle.rbc_model.specs.Histories.{Beginning, Entry, Heard, Granted}
 use Rattle.rbc_journaled.specs.Adds.{Adds, Gains}
 use Rattle.rbc_journaled.specs.Tells.{Tells}
-use Rattle.rbc_server.specs.Records.{HistoryOnTrack}
+use Rattle.rbc_sessions.specs.Records.{HistoryOnTrack}
 
 -- ---- what is noted
 

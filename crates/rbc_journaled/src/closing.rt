@@ -2,12 +2,12 @@
 
 ghost use Rattle.std.specs.Prelude.{All};
 ghost use Rattle.rbc_journaled.specs.Lasting.{EachLeavesFirst};
-ghost use Rattle.rbc_server.specs.Later.{IsLater};
+ghost use Rattle.rbc_sessions.specs.Later.{IsLater};
 
 use crate::SeatTold;
 use rbc_group_commit::{CommitName, Committer, GroupCommit, Page};
 use rbc_journal::Device;
-use rbc_server::DeskName;
+use rbc_sessions::DeskName;
 use std::sync::Wait;
 
 /// Ends the group commit of a desk's journal, once no seat writes any more, and vouches for what its committers have kept: a crash at

@@ -2,11 +2,11 @@
 
 ghost use Rattle.std.specs.Prelude.{◌≡◌, IfOk};
 ghost use Rattle.rbc_model.specs.SessionText.{said_line};
-ghost use Rattle.rbc_server.specs.SessionLines.{request_view};
+ghost use Rattle.rbc_words.specs.SessionLines.{request_view};
 
 use rbc_model::Memory;
-use rbc_server::words::{Request, print_request};
 use rbc_streams::Text;
+use rbc_words::{Request, print_request};
 use std::alloc::Global;
 
 /// The line of a request, one space between its words, without a line feed.

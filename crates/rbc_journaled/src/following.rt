@@ -3,13 +3,13 @@
 ghost use Rattle.std.specs.Prelude.{◌≡◌, IfOk, OnErr, Ok};
 ghost use Rattle.rbc_model.specs.HistoryText.{IsToldOfTrack};
 ghost use Rattle.rbc_model.specs.Views.{view};
-ghost use Rattle.rbc_server.specs.Records.{scene_now};
+ghost use Rattle.rbc_sessions.specs.Records.{scene_now};
 ghost use Rattle.rbc_session_laws.specs.declared.command.Command.TheVariants.{Event, Authority};
 ghost use Rattle.rbc_journaled.specs.Adds.{Follows, FollowsSaid};
 
 use rbc_model::{Memory, OrMemory, Told, TrainId};
-use rbc_server::{Record, View, candidate, command_in, commit};
 use rbc_session_laws::Command;
+use rbc_sessions::{Record, View, candidate, command_in, commit};
 use std::alloc::Global;
 use std::thread::Threads;
 

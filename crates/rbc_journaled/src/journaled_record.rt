@@ -1,7 +1,7 @@
 //! A record and its journal.
 
 ghost use Rattle.std.specs.Prelude.{◌≡◌, ◌<◌, [], false, not, is_some, IfSome, IfOk, IfErr};
-ghost use Rattle.rbc_server.specs.Records.{begin_of};
+ghost use Rattle.rbc_sessions.specs.Records.{begin_of};
 ghost use Rattle.rbc_journal.specs.Beginnings.{beginning_of};
 ghost use Rattle.rbc_journal.specs.Device.{Only, LeavesOnly};
 ghost use Rattle.rbc_journal.specs.Gates.{counted};
@@ -16,7 +16,7 @@ ghost use Rattle.rbc_journaled.specs.Tells.{Tells};
 use crate::OpeningFault;
 use crate::replaying::replay;
 use rbc_journal::{Device, Journal, Readable};
-use rbc_server::Record;
+use rbc_sessions::Record;
 use rbc_streams::Text;
 use std::alloc::Global;
 use std::thread::Threads;

@@ -4,8 +4,8 @@ use crate::{RequestLine, SeatTold, line_of};
 use rbc_group_commit::{CommitName, Committer, GroupCommit, ToldHistory};
 use rbc_journal::Device;
 use rbc_model::Memory;
-use rbc_server::words::Request;
-use rbc_server::{DeskName, Keeper, NotKept, Receipt, Seat};
+use rbc_sessions::{DeskName, Keeper, NotKept, Receipt, Seat};
+use rbc_words::Request;
 use std::alloc::Global;
 use std::sync::Wait;
 

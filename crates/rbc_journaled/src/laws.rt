@@ -7,7 +7,7 @@ ghost use Rattle.rbc_journaled.specs.Entries.{TellsEntry, TellsFirst};
 ghost use Rattle.rbc_journaled.specs.Lasting.{LinesLast};
 ghost use Rattle.rbc_journaled.specs.Laws.{TellOne, BeginningsStand, AreRetold, JournalsAreSessions};
 ghost use Rattle.rbc_group_commit.specs.Told.{HasLines};
-ghost use Rattle.rbc_server.specs.Records.{HistoryOnTrack};
+ghost use Rattle.rbc_sessions.specs.Records.{HistoryOnTrack};
 
 use rbc_journal::Device;
 

@@ -4,11 +4,11 @@ ghost use Rattle.std.specs.Prelude.{◌≡◌, ◌↔◌, ◌+◌, ◌<◌, ◌�
 ghost use Rattle.rbc_group_commit.specs.declared.line.TheConstants.{LONGEST_NOTE};
 ghost use Rattle.rbc_journal.specs.Journal.{IsNote};
 ghost use Rattle.rbc_journaled.specs.Notes.{is_note, grant_note, note_of, note_behind};
-ghost use Rattle.rbc_server.specs.Entries.{entry_of};
+ghost use Rattle.rbc_sessions.specs.Entries.{entry_of};
 
 use rbc_group_commit::LONGEST_NOTE;
-use rbc_server::words::TailBuffer;
-use rbc_server::{Entry, Receipt, Record};
+use rbc_sessions::{Entry, Receipt, Record};
+use rbc_words::TailBuffer;
 
 /// Whether a line is a note.
 pub(crate) fn is_note(line: &[u8]) -> bool

@@ -3,13 +3,13 @@
 ghost use Rattle.std.specs.Prelude.{◌≡◌, ◌≤◌, ◌⊎◌, ◌∷◌, [], length, replicate, IfOk, IfErr};
 ghost use Rattle.rbc_journal.specs.Journal.{recovered};
 ghost use Rattle.rbc_journaled.specs.Journaled.{IsReady};
-ghost use Rattle.rbc_server.specs.Seats.{seated};
+ghost use Rattle.rbc_sessions.specs.Seats.{seated};
 ghost use Rattle.rbc_group_commit.specs.Stamps.{stamp_of};
 
 use crate::{JournaledRecord, OpeningFault, SeatTold};
 use rbc_group_commit::{CommitName, Committer, GroupCommit, Start, ToldHistory};
 use rbc_journal::Device;
-use rbc_server::{Blank, Desk, DeskName, Seat};
+use rbc_sessions::{Blank, Desk, DeskName, Seat};
 use std::alloc::Global;
 use std::sync::Wait;
 

@@ -1,7 +1,7 @@
 //! The lines of a journal, entered in a record, and its notes, compared with that.
 
 ghost use Rattle.std.specs.Prelude.{◌≡◌, ℕ, [], true, length, Some, OnOk, OnErr, IfErr, Err};
-ghost use Rattle.rbc_server.specs.Records.{begin_of};
+ghost use Rattle.rbc_sessions.specs.Records.{begin_of};
 ghost use Rattle.rbc_journal.specs.Gates.{counted};
 ghost use Rattle.rbc_journal.specs.Journal.{told_of};
 ghost use Rattle.rbc_journal.specs.Seals.{is_comment};
@@ -13,7 +13,7 @@ use crate::OpeningFault;
 use crate::following::follow;
 use crate::note::{is_note, is_true};
 use rbc_journal::{is_comment, next_line};
-use rbc_server::Record;
+use rbc_sessions::Record;
 use std::alloc::Global;
 use std::thread::Threads;
 

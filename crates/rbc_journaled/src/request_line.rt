@@ -2,12 +2,12 @@
 
 ghost use Rattle.std.specs.Prelude.{◌≡◌, Ok, IfOk};
 ghost use Rattle.rbc_model.specs.SessionText.{parse_session, IsSayable};
-ghost use Rattle.rbc_server.specs.SessionLines.{request_view};
+ghost use Rattle.rbc_words.specs.SessionLines.{request_view};
 
 use crate::line_text;
 use rbc_group_commit::LONGEST_NOTE;
 use rbc_model::Memory;
-use rbc_server::words::Request;
+use rbc_words::Request;
 use std::alloc::Global;
 use std::marker::Model;
 

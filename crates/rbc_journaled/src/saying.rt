@@ -2,12 +2,12 @@
 
 ghost use Rattle.std.specs.Prelude.{◌≡◌, ◌||◌, ◌+◌, ◌<◌, ◌≤◌, ◌++◌, [], ℕ, List, None, true, false, is_err, IsTrue, OnOk, OnErr, MatchBool};
 ghost use Rattle.std.specs.Io.KnownBytes.{Keeps};
-ghost use Rattle.rbc_server.specs.Records.{begin_of};
+ghost use Rattle.rbc_sessions.specs.Records.{begin_of};
 ghost use Rattle.rbc_journal.specs.Device.{LeavesOnly};
 ghost use Rattle.rbc_journal.specs.Journal.{recovered, IsBeforeOrAfter};
 ghost use Rattle.rbc_journal.specs.Settled.{staged, IsSettled};
 ghost use Rattle.rbc_model.specs.Sessions.{Prints};
-ghost use Rattle.rbc_server.specs.Replies.{reply_text, ReplyIsWhole};
+ghost use Rattle.rbc_sessions.specs.Replies.{reply_text, ReplyIsWhole};
 ghost use Rattle.rbc_session_laws.specs.Turns.{AnswersInquiry};
 ghost use Rattle.rbc_journaled.specs.Advances.{Holds, IsSaid, RestsOnly};
 ghost use Rattle.rbc_journaled.specs.declared.journaled_record.TheConstants.{MOST_TOGETHER};
@@ -16,8 +16,8 @@ use crate::JournaledRecord;
 use crate::journaled_record::MOST_TOGETHER;
 use rbc_journal::Device;
 use rbc_model::Inquiry;
-use rbc_server::replies::{SessionReply, print};
-use rbc_server::show;
+use rbc_sessions::replies::{SessionReply, print};
+use rbc_sessions::show;
 use rbc_streams::{Sink, WriteFailed, put};
 use std::alloc::Global;
 

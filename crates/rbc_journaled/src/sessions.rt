@@ -2,10 +2,10 @@
 
 ghost use Rattle.std.specs.Prelude.{◌≡◌, ◌↔◌, ◌<◌, ℕ, List, [], true, false, IsTrue, OnOk, IfErr, Err};
 ghost use Rattle.std.specs.Io.KnownBytes.{Consumes, IsAtEnd};
-ghost use Rattle.rbc_server.specs.Records.{begin_of};
+ghost use Rattle.rbc_sessions.specs.Records.{begin_of};
 ghost use Rattle.rbc_journal.specs.Device.{LeavesOnly};
 ghost use Rattle.rbc_model.specs.declared.sessions.SessionFault.TheVariants.{Read as ReadFault, Write as WriteFault, Memory as NoMemory};
-ghost use Rattle.rbc_server.specs.Answered.{AnswersAll};
+ghost use Rattle.rbc_sessions.specs.Answered.{AnswersAll};
 ghost use Rattle.rbc_session_laws.specs.Retelling.{IsRetold};
 ghost use Rattle.rbc_journaled.specs.Advances.{Leaves};
 ghost use Rattle.rbc_journaled.specs.declared.fault.RunFault.TheVariants.{Session as Ended, Journal as JournalFailed};
@@ -22,11 +22,11 @@ use std::alloc::Global;
 use std::thread::Threads;
 
 /// Answers each line of the reader, in order, up to the end of the input or the first fault, as
-/// [`rbc_server::run`] does; but a reply that tells of an entry is written once the journal has the entry on the disk.
+/// [`rbc_sessions::run`] does; but a reply that tells of an entry is written once the journal has the entry on the disk.
 ///
 /// # Errors
 ///
-/// `Session` with whatever [`rbc_server::run`] answers; `Journal`, where the journal failed: the line that was treated last has
+/// `Session` with whatever [`rbc_sessions::run`] answers; `Journal`, where the journal failed: the line that was treated last has
 /// no reply, and whether the journal has its entry is not known. The replies before it are handed on, if the writer takes them.
 pub fn run<R: Source, W: Sink, D: Device>(
     rt: &(impl Threads + Sync),

@@ -2,12 +2,12 @@
 
 ghost use Rattle.std.specs.Prelude.{◌≡◌, ℕ, List};
 ghost use Rattle.rbc_journaled.specs.Entries.{TellsEntry};
-ghost use Rattle.rbc_server.specs.Later.{IsLater};
+ghost use Rattle.rbc_sessions.specs.Later.{IsLater};
 
 use crate::RequestLine;
 use crate::note::note_in;
 use rbc_group_commit::{EntryLine, ToldHistory};
-use rbc_server::{DeskName, Receipt, Seat, Sight};
+use rbc_sessions::{DeskName, Receipt, Seat, Sight};
 use std::marker::{Model, PhantomData};
 use std::sync::Wait;
 
@@ -20,7 +20,7 @@ pub struct SeatTold<L: DeskName> {
 
 impl<L: DeskName> Model for SeatTold<L> {
     ghost use Rattle.std.specs.Prelude.{◌≡◌};
-    ghost use Rattle.rbc_server.specs.Records.{HistoryOnTrack};
+    ghost use Rattle.rbc_sessions.specs.Records.{HistoryOnTrack};
 
     ghost Value = { HistoryOnTrack };
 

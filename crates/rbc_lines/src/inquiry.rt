@@ -7,10 +7,10 @@ ghost use Rattle.rbc_model.specs.Sessions.{Prints};
 ghost use Rattle.rbc_model.specs.Words.{line_of};
 
 use crate::scene::{LinesFault, print_scene};
-use rbc_replies::words::{Word, print_line};
 use rbc_replies::{SessionRefusal, SessionReply, print};
 use rbc_scene::Scene;
 use rbc_streams::{Sink, WriteFailed};
+use rbc_words::{Word, print_line};
 use std::alloc::Global;
 
 /// Writes how far a history is: its version, how many trains there are, and how many sections are locked. It takes no memory.

@@ -16,10 +16,10 @@ ghost use Rattle.rbc_lines.specs.declared.scene.LinesFault.TheVariants.{Memory a
 use crate::next::{Next, nexts_of};
 use crate::train::print_train;
 use rbc_model::{Leg, Lock, Memory, RouteId, SectionId};
-use rbc_replies::words::{Word, leg_word, print_line};
 use rbc_scene::{Locks, Scene};
 use rbc_streams::{SessionFault, Sink, WriteFailed, put};
 use rbc_track::Track;
+use rbc_words::{Word, leg_word, print_line};
 use std::alloc::Global;
 
 /// Why a scene is not written to its end.

@@ -11,7 +11,7 @@ ghost use Rattle.rbc_model.specs.Words.{line_of};
 ghost use Rattle.rbc_model.specs.declared.limits.TheConstants.{LEGS_A_LINE};
 ghost use Rattle.rbc_replies.specs.Replies.{ObstacleIsOfTrack};
 ghost use Rattle.rbc_words.specs.LineWords.{word_text};
-ghost use Rattle.rbc_replies.specs.PriceText.{spaced};
+ghost use Rattle.rbc_words.specs.PriceText.{spaced};
 ghost use Rattle.rbc_lines.specs.Nexts.{next_of};
 ghost use Rattle.rbc_lines.specs.Pieces.{later_lines};
 
@@ -19,10 +19,10 @@ use crate::next::Next;
 use rbc_model::Leg;
 use rbc_model::limits::LEGS_A_LINE;
 use rbc_replies::print_stopped;
-use rbc_replies::words::{Word, leg_word, print_line, print_report, print_words};
 use rbc_scene::Train;
 use rbc_streams::{Sink, WriteFailed, put};
 use rbc_track::Track;
+use rbc_words::{Word, leg_word, print_line, print_report, print_words};
 
 /// A place as a distance from the train's group, negative before it.
 fn from_group(train: &Train, place: u32) -> i64

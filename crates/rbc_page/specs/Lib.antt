@@ -5,7 +5,3 @@ pub mod Hearing
 pub mod Histories
 pub mod Metrics
 pub mod Moments
-pub use Rattle.rbc_desk.specs.Events
-pub use Rattle.rbc_desk.specs.Later
-pub use Rattle.rbc_desk.specs.Records
-pub use Rattle.rbc_desk.specs.States

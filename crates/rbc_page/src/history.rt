@@ -5,8 +5,8 @@ ghost use Rattle.rbc_model.specs.HistoryText.{IsToldOfTrack};
 ghost use Rattle.rbc_page.specs.Histories.{IsLineOf, end_of, event_request, lines_from, request_line};
 ghost use Rattle.rbc_words.specs.SessionLines.{request_view};
 
-use rbc_desk::{DeskName, Event, Seat, Told};
-use rbc_model::Memory;
+use rbc_desk::{DeskName, Seat};
+use rbc_model::{Event, Memory, Told};
 use rbc_streams::Text;
 use rbc_track::Track;
 use rbc_words::{Request, print_request, told_request};

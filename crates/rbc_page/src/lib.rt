@@ -22,7 +22,5 @@ pub use head::{Head, Kind, Status};
 pub use hearing::{Heard, MOST_FIELDS, hear};
 pub use lookout::{Fixed, Lookout};
 pub use numbers::{Numbers, Refused};
-pub use rbc_desk::Onlooker;
-pub use rbc_model::Memory;
 pub use reception::{Opening, Reception};
-pub use text::track_text;
+pub use text::{scene_text, track_text};

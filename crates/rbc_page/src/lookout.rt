@@ -3,12 +3,12 @@
 ghost use Rattle.std.specs.Prelude.{◌≡◌, [], true, Some, option_map, IfOk, OnOk};
 ghost use Rattle.std.specs.Arc.{arc_value};
 ghost use Rattle.rbc_desk.specs.Looking.{HasLooked};
-ghost use Rattle.rbc_page.specs.Later.{IsLater};
+ghost use Rattle.rbc_desk.specs.Later.{IsLater};
 ghost use Rattle.rbc_page.specs.Moments.{answer_to, scene_text, told_lines, version_of};
-ghost use Rattle.rbc_page.specs.States.{state_of};
+ghost use Rattle.rbc_desk.specs.States.{state_of};
 
 use crate::history::history_lines;
-use crate::text::lines_of;
+use crate::text::scene_text;
 use crate::{Asked, Bodies, write_answer};
 use rbc_desk::{DeskName, Seat, State};
 use rbc_model::Memory;
@@ -68,7 +68,7 @@ impl<L: DeskName> Lookout<L> {
             self.is_kept = true;
             return Ok(());
         }
-        self.lines = lines_of(alloc, version, &scene)?;
+        self.lines = scene_text(alloc, version, &scene)?;
         self.track = Some(Arc::try_clone(scene.track())?);
         self.state = State::of(version, &scene);
         self.is_kept = true;

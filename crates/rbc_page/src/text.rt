@@ -15,7 +15,7 @@ use std::alloc::Global;
 /// # Errors
 ///
 /// [`Memory`]: there is none for them, or none to see what each train would be granted.
-pub(crate) fn lines_of(alloc: Global, version: u64, scene: &Scene) -> Result<Vec<u8>, Memory>
+pub fn scene_text(alloc: Global, version: u64, scene: &Scene) -> Result<Vec<u8>, Memory>
     ensures { IfOk result (λ text. text.items ≡ scene_lines scene.now.track version scene.now.scene) }
 {
     let mut text = Text::new(alloc);

@@ -17,6 +17,4 @@ pub use connection::{Connection, Gone};
 pub use minutes::Minutes;
 pub use place::{Place, PlaceStream, open_places};
 pub use port::{Port, PortFailed, Terms};
-pub use rbc_model::SessionFault;
-pub use rbc_tally as tally;
 pub use watch::Watch;

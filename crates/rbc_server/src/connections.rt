@@ -7,9 +7,10 @@ ghost use Rattle.rbc_port.specs.Clients.{at_close};
 ghost use Rattle.rbc_server.specs.Connections.{AreParted, AreServed, IsConnection, OneKnows, StandsConnected, TellsFailure, fault_of};
 ghost use Rattle.rbc_server.specs.declared.connections.ConnectFault.TheVariants.{Memory as NoThread, Journal as NotKeptInSession};
 
-use crate::{Keeper, SessionContext, SessionEnd, Sitting, session};
 use rbc_port::{Client, Clients, Closed, Ends, PortFailed};
-use rbc_sessions::{DeskName, OpenGate, Seat};
+use rbc_sessions::{
+    DeskName, Keeper, OpenGate, Seat, SessionContext, SessionEnd, Sitting, session,
+};
 use rbc_streams::{Sink, Source};
 use std::alloc::{AllocError, Global};
 use std::io::Eprint;

@@ -14,13 +14,16 @@ ghost use Rattle.rbc_server.specs.Serving.{closed_line, AreKept, GoOn, IsAttende
 ghost use Rattle.rbc_server.specs.declared.serving.ServeFault.TheVariants.{Port as PortFault, Write as WriteFault, Memory as NoMemory, Journal as JournalFault};
 ghost use Rattle.rbc_server.specs.declared.staff.Staff.{Staff as Serving};
 
+use crate::Staff;
 use crate::bringing::{bring, bring_all};
 use crate::connections::{ConnectFault, Connected, Parted, connect};
 use crate::outcomes::{print_closed, print_outcomes};
-use crate::{KeepFault, Keeper, SessionContext, Staff};
 use rbc_model::Memory;
 use rbc_port::{Client, Clients, Closed};
-use rbc_sessions::{CloseFault, Desk, DeskName, OpenGate, Outcome, Record, Seat, Sight, sweep};
+use rbc_sessions::{
+    CloseFault, Desk, DeskName, KeepFault, Keeper, OpenGate, Outcome, Record, Seat, SessionContext,
+    Sight, sweep,
+};
 use rbc_streams::{Sink, Source, WriteFailed};
 use std::alloc::{AllocError, Global};
 use std::io::Eprint;

@@ -2,8 +2,7 @@
 
 ghost use Rattle.std.specs.Prelude.{◌≡◌, ◌+◌, ◌≤◌, map, take, drop, IfOk, vec_len};
 
-use crate::Sitting;
-use rbc_sessions::{DeskName, Seat};
+use rbc_sessions::{DeskName, Seat, Sitting};
 use std::alloc::{AllocError, Global};
 
 /// Those who serve clients at a desk: each connection has a seat with its committer, and each worker of the sweep behind them a

@@ -13,7 +13,7 @@ use Rattle.rbc_model.specs.TrackLines.{track_lines}
 use Rattle.rbc_session_laws.specs.Answers.{line_answer, turns_of, entries_after}
 use Rattle.rbc_session_laws.specs.SessionRuns.{entries_of, entries_added}
 use Rattle.rbc_journaled.specs.Adds.{Follows}
-use Rattle.rbc_journaled.specs.Records.{begin_of, HistoryOnTrack}
+use Rattle.rbc_sessions.specs.Records.{begin_of, HistoryOnTrack}
 use Rattle.rbc_show.specs.declared.last.Following.{Following}
 use Rattle.rbc_show.specs.Showing.{scene_text, shown_text, Shows, IsFollowed, FollowsLine}
 use Rattle.rbc_show.proofs.EndLemmas.{of_input}

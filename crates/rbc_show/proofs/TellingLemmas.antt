@@ -7,7 +7,7 @@ use Rattle.std.proofs.KnownBytes.{Appends-kept, Appends-trans}
 use Rattle.std.proofs.Math.Nat.{min-eq_left}
 use Rattle.std.proofs.lemmas.List.Elements.{recursion_from_All}
 use Rattle.std.proofs.lemmas.Bool.{both_ways}
-use Rattle.rbc_journaled.specs.Records.{begin_of}
+use Rattle.rbc_sessions.specs.Records.{begin_of}
 use Rattle.rbc_model.specs.declared.limits.TheConstants.{LONGEST_LINE}
 use Rattle.rbc_model.specs.Histories.{Beginning, Entry, replay}
 use Rattle.rbc_model.specs.SessionReply.{SessionRefusal, Memory, refused_reply}

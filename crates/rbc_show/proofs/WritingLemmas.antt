@@ -11,7 +11,7 @@ use Rattle.rbc_session_laws.specs.declared.command.Command.{Command}
 use Rattle.rbc_session_laws.specs.declared.command.Command.TheVariants.{Nothing, Event, Authority, Show}
 use Rattle.rbc_session_laws.specs.SessionRuns.{entries_of}
 use Rattle.rbc_session_laws.specs.Turns.{AnswersCommand}
-use Rattle.rbc_journaled.specs.Records.{begin_of, HistoryOnTrack}
+use Rattle.rbc_sessions.specs.Records.{begin_of, HistoryOnTrack}
 use Rattle.rbc_show.specs.Showing.{change_text, has_reply, scene_text}
 
 -- ---- parts of texts

@@ -3,6 +3,5 @@ pub mod ShownPages
 pub use Rattle.rbc_journaled.specs.Journaled
 pub use Rattle.rbc_journaled.specs.Adds
 pub use Rattle.rbc_journaled.specs.Tells
-pub use Rattle.rbc_journaled.specs.Records
-pub use Rattle.rbc_journaled.specs.Retelling
-pub use Rattle.rbc_journaled.specs.ServeFault
+pub use Rattle.rbc_session_laws.specs.Retelling
+pub use Rattle.rbc_sessions.specs.Records

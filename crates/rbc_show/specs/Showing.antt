@@ -1,7 +1,7 @@
 -- The program `rbc show`: what it writes, as one function of the track and of the text read.
 use Rattle.std.specs.Prelude.{◌≡◌, ◌≤◌, ◌⊎◌, ℕ, ◌+◌, Bool, true, false, if◌then◌else◌, min, List, [], ◌∷◌, ◌++◌, length, Option, Some, None, Result, Ok, codes, decimal}
 use Rattle.std.specs.Io.KnownBytes.{Appends}
-use Rattle.rbc_journaled.specs.Records.{begin_of}
+use Rattle.rbc_sessions.specs.Records.{begin_of}
 use Rattle.rbc_model.specs.declared.limits.TheConstants.{LONGEST_LINE}
 use Rattle.rbc_model.specs.Histories.{Beginning, Entry, replay}
 use Rattle.rbc_model.specs.SceneLines.{scene_lines}

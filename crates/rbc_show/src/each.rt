@@ -2,7 +2,7 @@
 
 ghost use Rattle.std.specs.Prelude.{◌≡◌, ◌↔◌, ℕ, List, ◌++◌, Ok, [], true, false, IsTrue, OnOk, Err, Option};
 ghost use Rattle.std.specs.Io.KnownBytes.{Appends, Consumes, IsAtEnd};
-ghost use Rattle.rbc_journaled.specs.Records.{begin_of};
+ghost use Rattle.rbc_sessions.specs.Records.{begin_of};
 ghost use Rattle.rbc_model.specs.declared.limits.TheConstants.{LONGEST_LINE};
 ghost use Rattle.rbc_model.specs.declared.sessions.SessionFault.TheVariants.{Read, Write};
 ghost use Rattle.rbc_model.specs.Histories.{Entry};
@@ -16,10 +16,10 @@ ghost use Rattle.rbc_lines.specs.declared.scene.LinesFault.TheVariants.{Memory a
 ghost use Rattle.rbc_show.specs.Showing.{ShowsEach, TellsLine, change_text, each_text, has_reply, next_number, request_text, scene_text, told_text};
 
 use crate::scene::print_now;
-use rbc_journaled::server::words::{Word, print_line, without_return};
 use rbc_lines::{LinesFault, print_track};
 use rbc_model::limits::LONGEST_LINE;
 use rbc_session_laws::Command;
+use rbc_sessions::words::{Word, print_line, without_return};
 use rbc_sessions::{Centre, NullSink, Record, command_in};
 use rbc_streams::{LineHandler, SessionFault, Sink, Source, WriteFailed, serve_lines};
 use rbc_track::Track;
@@ -228,7 +228,7 @@ fn begin<W: Sink>(alloc: Global, history: &Record, writer: &mut W) -> Result<(),
     Ok(())
 }
 
-/// Writes the track of a record as lines, and its scene; then answers the lines that are read, as [`rbc_journaled::server::run`]
+/// Writes the track of a record as lines, and its scene; then answers the lines that are read, as [`rbc_sessions::run`]
 /// does, and writes each with its number, its reply and, where it adds an entry, the scene that it leads to. A line without a
 /// reply is not written.
 ///

@@ -2,7 +2,7 @@
 
 ghost use Rattle.std.specs.Prelude.{◌≡◌, ◌≤◌, ◌↔◌, ℕ, List, Ok, [], true, false, IsTrue, OnOk, Err};
 ghost use Rattle.std.specs.Io.KnownBytes.{Appends, Consumes, IsAtEnd};
-ghost use Rattle.rbc_journaled.specs.Records.{begin_of};
+ghost use Rattle.rbc_sessions.specs.Records.{begin_of};
 ghost use Rattle.rbc_model.specs.declared.limits.TheConstants.{LONGEST_LINE};
 ghost use Rattle.rbc_model.specs.declared.sessions.SessionFault.TheVariants.{Read, Write};
 ghost use Rattle.rbc_model.specs.Talks.{IsTalk};
@@ -10,10 +10,10 @@ ghost use Rattle.rbc_show.specs.Showing.{FollowsLine, Shows, scene_text, shown_t
 
 use crate::scene::print_now;
 use rbc_journaled::follow;
-use rbc_journaled::server::Record;
 use rbc_lines::print_track;
 use rbc_model::Memory;
 use rbc_model::limits::LONGEST_LINE;
+use rbc_sessions::Record;
 use rbc_streams::{LineHandler, SessionFault, Sink, Source, WriteFailed, serve_lines};
 use std::alloc::Global;
 use std::thread::Threads;
@@ -132,7 +132,7 @@ fn finish<W: Sink>(alloc: Global, history: &Record, writer: &mut W) -> Result<()
     Ok(())
 }
 
-/// Writes the track of a record as lines; then follows the lines that are read, as [`rbc_journaled::server::run`] does, but says
+/// Writes the track of a record as lines; then follows the lines that are read, as [`rbc_sessions::run`] does, but says
 /// no reply; and writes the scene that they lead to.
 ///
 /// # Errors

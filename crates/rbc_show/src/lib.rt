@@ -12,8 +12,4 @@ pub use last::show;
 pub use listing::list;
 pub use page::{show_each_page, show_page};
 pub use rbc_journaled as journaled;
-pub use rbc_journaled::server::words::{Word, print_line};
-pub use rbc_lines::print_scene;
-pub use rbc_streams::{
-    Buffered, SessionFault, Sink, Source, Stream, WholeFault, WriteFailed, read_whole,
-};
+pub use rbc_sessions as sessions;

@@ -2,7 +2,7 @@
 
 ghost use Rattle.std.specs.Prelude.{◌≡◌, ◌↔◌, ◌⊎◌, ℕ, List, Ok, [], true, false, IsTrue, IfErr, OnOk, Err};
 ghost use Rattle.std.specs.Io.KnownBytes.{Appends, IsAtEnd};
-ghost use Rattle.rbc_journaled.specs.Records.{begin_of};
+ghost use Rattle.rbc_sessions.specs.Records.{begin_of};
 ghost use Rattle.rbc_model.specs.declared.sessions.SessionFault.TheVariants.{Read, Write};
 ghost use Rattle.rbc_show.specs.Showing.{each_text, shown_text};
 ghost use Rattle.rbc_show.specs.ShownPages.{ShowsPage, ShowsEachPage};
@@ -10,7 +10,7 @@ ghost use Rattle.rbc_viewer.specs.Pages.{rest_of_page};
 
 use crate::each::show_each;
 use crate::last::show;
-use rbc_journaled::server::Record;
+use rbc_sessions::Record;
 use rbc_streams::{SessionFault, Sink, Source, WriteFailed};
 use rbc_viewer::{Escaping, begin_page, end_page};
 use std::alloc::Global;

@@ -1,13 +1,13 @@
 //! The scene that a record leads to.
 
 ghost use Rattle.std.specs.Prelude.{◌≡◌, true, false, OnOk, Err};
-ghost use Rattle.rbc_journaled.specs.Records.{begin_of};
+ghost use Rattle.rbc_sessions.specs.Records.{begin_of};
 ghost use Rattle.rbc_model.specs.Sessions.{WritesText};
 ghost use Rattle.rbc_lines.specs.declared.scene.LinesFault.TheVariants.{Memory as NoMemory, Write as NoWrite};
 ghost use Rattle.rbc_show.specs.Showing.{scene_text};
 
-use rbc_journaled::server::Record;
 use rbc_lines::{LinesFault, print_scene};
+use rbc_sessions::Record;
 use rbc_streams::Sink;
 use std::alloc::Global;
 

@@ -20,10 +20,9 @@ pub use moments::NewHistory;
 pub use name::HistoryName;
 pub use press::Press;
 pub use published::{Issue, Published};
-pub use rbc_model::{Event, Memory, OrMemory, ViewFault};
 pub use rbc_record::{
-    ApplyFault, Candidate, CommitFault, Entry, EntryLimit, Grant, Receipt, Record, Scene, Train,
-    View, candidate,
+    ApplyFault, Candidate, CommitFault, Entry, EntryLimit, Grant, Receipt, Record, Scene, View,
+    candidate,
 };
 pub use rule::{Known, Names, OneHistory, Sees};
 pub use sight::Sight;

@@ -18,7 +18,6 @@ pub use Rattle.rbc_desk.specs.Sights
 pub use Rattle.rbc_desk.specs.States
 pub use Rattle.rbc_desk.specs.Steps
 pub use Rattle.rbc_desk.specs.Telling
-pub use Rattle.rbc_desk.specs.Trains
 pub use Rattle.rbc_desk.specs.declared.faults.AskFault
 pub use Rattle.rbc_desk.specs.declared.faults.CloseFault
 pub use Rattle.rbc_desk.specs.declared.granted.Granted

@@ -13,8 +13,7 @@ mod worker;
 pub use outcome::{Answer, Outcome};
 pub use rbc_desk::{
     ApplyFault, AskFault, Blank, Candidate, CloseFault, CommitFault, Desk, DeskName, Entry,
-    EntryLimit, Gate, Granted, Hold, Onlooker, OpenGate, Receipt, Record, Scene, Seat, Sight,
-    State, Track, Train, View, candidate,
+    EntryLimit, Gate, Granted, Hold, Onlooker, OpenGate, Receipt, Record, Seat, Sight, State,
+    Track, View, candidate,
 };
-pub use rbc_model::Memory;
 pub use sweeping::sweep;

@@ -3,8 +3,8 @@
 ghost use Rattle.std.specs.Prelude.{◌≡◌};
 ghost use Rattle.rbc_sweep.specs.Outcomes.{asked};
 
-use rbc_desk::{AskFault, Granted, OrMemory};
-use rbc_model::{Obstacle, TrainId};
+use rbc_desk::{AskFault, Granted};
+use rbc_model::{Obstacle, OrMemory, TrainId};
 
 /// What a train is answered.
 #[derive(Drop)]

@@ -9,9 +9,9 @@ ghost use Rattle.rbc_checks.specs.Verdicts.{said_text};
 ghost use Rattle.rbc_viewer.specs.Judged.{unjudged, behind_line, at_end, is_memory};
 
 use rbc_checks::{
-    Block, CheckLine, Part, Spare, Verdict, is_head, judge, parse_check, part_read, print_said,
+    Block, CheckLine, Spare, Verdict, is_head, judge, parse_check, part_read, print_said,
 };
-use rbc_model::Memory;
+use rbc_model::{Memory, Part};
 use rbc_streams::{Text, WriteFailed};
 use std::alloc::Global;
 use std::marker::Model;

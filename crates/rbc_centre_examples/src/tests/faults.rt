@@ -2,7 +2,7 @@
 
 use super::PLAIN;
 use super::sessions::{LINES, REPLIES, session_to};
-use rbc_server::SessionFault;
+use rbc_streams::SessionFault;
 use std::io;
 use std::io::{Error, ErrorKind, Read, Write};
 use std::process::Abort;

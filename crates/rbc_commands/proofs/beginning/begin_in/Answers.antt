@@ -1,7 +1,7 @@
 use Rattle.std.proofs.Common.{rules, ◌≡◌, ℕ, List, [], ◌∷◌, Ok, sym, ap, ◌∙◌, subst}
 use Rattle.std.specs.Arc.{arc_value}
-use Rattle.rbc_journal_file.specs.Beginnings.{beginning_of, joined}
-use Rattle.rbc_journal_file.specs.Gates.{counted}
+use Rattle.rbc_journal.specs.Beginnings.{beginning_of, joined}
+use Rattle.rbc_journal.specs.Gates.{counted}
 use Rattle.rbc_model.specs.Scenes.{Scene}
 use Rattle.rbc_model.specs.Sessions.{lines_of}
 use Rattle.rbc_model.specs.Tracks.{Track}

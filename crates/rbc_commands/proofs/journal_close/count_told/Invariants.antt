@@ -1,6 +1,6 @@
 use Rattle.std.proofs.Common.{◌≤◌, length}
-use Rattle.rbc_journal_file.specs.Gates.{counted}
-use Rattle.rbc_journal_file.specs.Journal.{told_of}
+use Rattle.rbc_journal.specs.Gates.{counted}
+use Rattle.rbc_journal.specs.Journal.{told_of}
 use Rattle.rbc_commands.proofs.journal_close.count_told.Given as goal
 
 abbrev pub invariant-loop-comments : goal.invariant-loop-comments

@@ -1,5 +1,5 @@
 use Rattle.std.proofs.Common.{◌∙◌}
-use Rattle.rbc_server.proofs.CentreLemmas.{command_is}
+use Rattle.rbc_sessions.proofs.CentreLemmas.{command_is}
 use Rattle.rbc_session_laws.specs.declared.command.Command.TheVariants.{Event, Authority}
 use Rattle.rbc_journaled.proofs.FollowingLemmas.{says_nothing, is_refused, said_follows, shows}
 use Rattle.rbc_journaled.proofs.following.follow.Goals as goal

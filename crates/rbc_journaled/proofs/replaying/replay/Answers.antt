@@ -1,7 +1,7 @@
 use Rattle.std.proofs.Common.{◌≡◌, Result, Err, ap, sym, subst, ◌∙◌}
 use Rattle.std.proofs.lemmas.Result.{err_from_is_err_and}
 use Rattle.rbc_journal.specs.Gates.{counted}
-use Rattle.rbc_server.specs.Records.{begin_of, HistoryOnTrack}
+use Rattle.rbc_sessions.specs.Records.{begin_of, HistoryOnTrack}
 use Rattle.rbc_journaled.specs.Notes.{DiffersFirst}
 use Rattle.rbc_journaled.specs.declared.fault.OpeningFault.{OpeningFault}
 use Rattle.rbc_journaled.specs.declared.fault.OpeningFault.TheVariants.{Differs}

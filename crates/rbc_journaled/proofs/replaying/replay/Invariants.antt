@@ -1,5 +1,5 @@
 use Rattle.std.proofs.Common.{length}
-use Rattle.rbc_server.specs.Records.{begin_of}
+use Rattle.rbc_sessions.specs.Records.{begin_of}
 use Rattle.rbc_journaled.proofs.ReplayingLemmas.{IsReplayed}
 use Rattle.rbc_journaled.proofs.replaying.replay.Given as goal
 

@@ -1,7 +1,7 @@
 use Rattle.std.proofs.Common.{◌≡◌, ◌∙◌, ap, true, sym}
 use Rattle.std.specs.Io.KnownBytes.{IsAtEnd}
 use Rattle.rbc_model.specs.Histories.{Beginning}
-use Rattle.rbc_server.specs.Answered.{AnswersAll}
+use Rattle.rbc_sessions.specs.Answered.{AnswersAll}
 use Rattle.rbc_journaled.proofs.EndLemmas.{read_told, write_told, journal_told, broken_told, memory_told, ok_told, handed_told}
 use Rattle.rbc_journaled.proofs.KeepingLemmas.{ready_goes}
 use Rattle.rbc_journaled.proofs.TalkLemmas.{leaves_in, begin_in, ready_after, fails_in, kept_session, kept_answers}

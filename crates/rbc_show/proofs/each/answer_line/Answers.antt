@@ -2,7 +2,7 @@ use Rattle.std.proofs.Common.{◌++◌, ap, arith, sym, subst, append-nil}
 use Rattle.std.specs.Io.KnownBytes.{Appends}
 use Rattle.std.proofs.KnownBytes.{Appends-trans}
 use Rattle.rbc_model.specs.Sessions.{WritesPart}
-use Rattle.rbc_journaled.specs.Records.{begin_of, HistoryOnTrack}
+use Rattle.rbc_sessions.specs.Records.{begin_of, HistoryOnTrack}
 use Rattle.rbc_show.specs.Showing.{change_text, scene_text}
 use Rattle.rbc_show.proofs.WritingLemmas.{grown, part_behind, part_more, stopped, unchanged}
 use Rattle.rbc_show.proofs.each.answer_line.Goals as goal

@@ -3,7 +3,7 @@ use Rattle.std.specs.Io.KnownBytes.{Appends}
 use Rattle.std.proofs.KnownBytes.{Appends-nil}
 use Rattle.rbc_model.specs.Sessions.{WritesPart, WritesText}
 use Rattle.rbc_session_laws.specs.Commands.{command_in}
-use Rattle.rbc_journaled.specs.Records.{begin_of, HistoryOnTrack}
+use Rattle.rbc_sessions.specs.Records.{begin_of, HistoryOnTrack}
 use Rattle.rbc_show.specs.Showing.{change_text, has_reply, request_text}
 use Rattle.rbc_show.proofs.WritingLemmas.{failed_part, is_told, not_told, part_more, silent, text_behind, whole_text}
 use Rattle.rbc_show.proofs.each.tell_line.Goals as goal

@@ -1,7 +1,7 @@
 use Rattle.std.proofs.Common.{sym, refl}
 use Rattle.rbc_model.proofs.SaidLineLemmas.{read_is_sayable}
 use Rattle.rbc_model.specs.SessionReply.{BadLine, refused_reply}
-use Rattle.rbc_server.specs.SessionLines.{request_view}
+use Rattle.rbc_words.specs.SessionLines.{request_view}
 use Rattle.rbc_journaled.proofs.KeepingLemmas.{unchanged}
 use Rattle.rbc_journaled.proofs.TreatingLemmas.{refused_goes}
 use Rattle.rbc_journaled.proofs.answering.JournaledRecordLineHandlerJournaledCentre.answer.Goals as goal

@@ -1,7 +1,7 @@
 use Rattle.std.proofs.Common.{Ok}
-use Rattle.rbc_server.specs.Replies.{reply_text}
+use Rattle.rbc_sessions.specs.Replies.{reply_text}
 use Rattle.rbc_session_laws.specs.declared.command.Command.TheVariants.{Authority}
-use Rattle.rbc_server.specs.SessionLines.{request_view}
+use Rattle.rbc_words.specs.SessionLines.{request_view}
 use Rattle.rbc_journaled.proofs.KeepingLemmas.{unchanged}
 use Rattle.rbc_journaled.proofs.TreatingLemmas.{goes_by}
 use Rattle.rbc_journaled.proofs.journaled_record.JournaledRecord.ask.Goals as goal

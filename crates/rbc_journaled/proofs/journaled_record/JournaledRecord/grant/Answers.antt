@@ -1,12 +1,12 @@
 use Rattle.std.proofs.Common.{◌∙◌, Ok, ap, subst, sym}
 use Rattle.rbc_model.specs.SessionText.{parse_session}
 use Rattle.rbc_model.specs.Views.{View}
-use Rattle.rbc_server.specs.Replies.{reply_text, ReplyIsWhole}
-use Rattle.rbc_server.specs.SessionRefusal.TheVariants.{Memory as NoMemory}
-use Rattle.rbc_server.specs.SessionReply.TheVariants.{Refused as RefusedReply}
+use Rattle.rbc_sessions.specs.Replies.{reply_text, ReplyIsWhole}
+use Rattle.rbc_sessions.specs.SessionRefusal.TheVariants.{Memory as NoMemory}
+use Rattle.rbc_sessions.specs.SessionReply.TheVariants.{Refused as RefusedReply}
 use Rattle.rbc_session_laws.specs.declared.command.Command.TheVariants.{Authority}
-use Rattle.rbc_server.specs.Records.{HistoryOnTrack}
-use Rattle.rbc_server.specs.SessionLines.{request_view}
+use Rattle.rbc_sessions.specs.Records.{HistoryOnTrack}
+use Rattle.rbc_words.specs.SessionLines.{request_view}
 use Rattle.rbc_streams.specs.declared.text.Text.{Text}
 use Rattle.rbc_journaled.proofs.KeepingLemmas.{advances, told_still, told_after}
 use Rattle.rbc_journaled.proofs.TreatingLemmas.{ComesTo, given_up, goes_from, said_goes, treated_by}

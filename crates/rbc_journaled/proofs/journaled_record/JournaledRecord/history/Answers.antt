@@ -1,4 +1,4 @@
-use Rattle.rbc_server.specs.Records.{begin_of}
+use Rattle.rbc_sessions.specs.Records.{begin_of}
 use Rattle.rbc_journaled.proofs.AddingLemmas.{are_retold}
 use Rattle.rbc_journaled.proofs.journaled_record.JournaledRecord.history.Goals as goal
 

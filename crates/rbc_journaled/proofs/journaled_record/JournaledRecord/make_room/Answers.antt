@@ -2,7 +2,7 @@ use Rattle.std.proofs.Common.{◌∙◌, ap, sym, subst}
 use Rattle.rbc_journal.specs.Journal.{IsTold}
 use Rattle.rbc_model.specs.SessionText.{parse_session}
 use Rattle.rbc_model.proofs.SaidLineLemmas.{said_line_read}
-use Rattle.rbc_server.specs.SessionLines.{request_view}
+use Rattle.rbc_words.specs.SessionLines.{request_view}
 use Rattle.rbc_journaled.proofs.TreatingLemmas.{said_is_told}
 use Rattle.rbc_journaled.proofs.journaled_record.JournaledRecord.make_room.Goals as goal
 

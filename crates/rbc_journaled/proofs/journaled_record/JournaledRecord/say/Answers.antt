@@ -2,8 +2,8 @@ use Rattle.std.proofs.Common.{[], ◌++◌, cond, ◌∙◌, ap, refl, subst}
 use Rattle.std.specs.Prelude.{is_err}
 use Rattle.std.proofs.lemmas.Result.{err_from_is_err_and}
 use Rattle.rbc_model.specs.Sessions.{Prints}
-use Rattle.rbc_server.specs.Replies.{reply_text}
-use Rattle.rbc_server.specs.Records.{HistoryOnTrack}
+use Rattle.rbc_sessions.specs.Replies.{reply_text}
+use Rattle.rbc_sessions.specs.Records.{HistoryOnTrack}
 use Rattle.rbc_journaled.proofs.SayingLemmas.{said_batched, said_settled, prints_nothing, prints_lost, prints_behind}
 use Rattle.rbc_journaled.proofs.journaled_record.JournaledRecord.say.Goals as goal
 

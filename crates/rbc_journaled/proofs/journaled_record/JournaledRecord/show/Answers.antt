@@ -3,7 +3,7 @@ use Rattle.std.specs.Prelude.{is_err}
 use Rattle.std.proofs.lemmas.Result.{err_from_is_err_and}
 use Rattle.rbc_model.specs.Histories.{replay}
 use Rattle.rbc_model.specs.Inquiries.{inquiry_reply}
-use Rattle.rbc_server.specs.Records.{begin_of, HistoryOnTrack}
+use Rattle.rbc_sessions.specs.Records.{begin_of, HistoryOnTrack}
 use Rattle.rbc_session_laws.specs.Turns.{AnswersInquiry}
 use Rattle.rbc_journaled.proofs.SayingLemmas.{said_settled, prints_lost, prints_behind, shown_itself}
 use Rattle.rbc_journaled.proofs.journaled_record.JournaledRecord.show.Goals as goal

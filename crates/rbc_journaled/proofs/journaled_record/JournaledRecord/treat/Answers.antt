@@ -1,8 +1,8 @@
 use Rattle.std.proofs.Common.{◌∙◌, Ok, refl}
-use Rattle.rbc_server.specs.Replies.{reply_text, refusal_view}
-use Rattle.rbc_server.specs.SessionReply.TheVariants.{Nothing as NoReply}
+use Rattle.rbc_sessions.specs.Replies.{reply_text, refusal_view}
+use Rattle.rbc_sessions.specs.SessionReply.TheVariants.{Nothing as NoReply}
 use Rattle.rbc_session_laws.specs.declared.command.Command.TheVariants.{Nothing, Show}
-use Rattle.rbc_server.specs.SessionLines.{request_view}
+use Rattle.rbc_words.specs.SessionLines.{request_view}
 use Rattle.rbc_journaled.proofs.KeepingLemmas.{unchanged}
 use Rattle.rbc_journaled.proofs.TreatingLemmas.{asked, goes_by, nothing_comes, refused_said, shown_comes}
 use Rattle.rbc_journaled.proofs.journaled_record.JournaledRecord.treat.Goals as goal

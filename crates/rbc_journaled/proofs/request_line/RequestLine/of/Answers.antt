@@ -1,4 +1,4 @@
-use Rattle.rbc_server.specs.SessionLines.{request_view}
+use Rattle.rbc_words.specs.SessionLines.{request_view}
 use Rattle.rbc_journaled.proofs.LineLemmas.{text_is_told, text_is_short, text_says}
 use Rattle.rbc_journaled.proofs.request_line.RequestLine.of.Goals as goal
 

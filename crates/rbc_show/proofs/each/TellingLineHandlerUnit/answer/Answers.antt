@@ -1,5 +1,5 @@
 use Rattle.std.proofs.Common.{◌||◌, inl, refl, ap, ◌∙◌, Err}
-use Rattle.rbc_journaled.specs.Records.{begin_of}
+use Rattle.rbc_sessions.specs.Records.{begin_of}
 use Rattle.rbc_show.specs.declared.each.Telling.{Telling}
 use Rattle.rbc_show.specs.Showing.{told_text}
 use Rattle.rbc_show.proofs.TellingLemmas.{line_told}
