@@ -91,9 +91,3 @@ certified_as kind levels fields same_levels same_fields request track profile lo
     certified kind request track profile.steps lost rows packet given (rw same_levels made) (rw same_levels chosen) (rw same_levels greatest) (rw same_levels loses)
     (packs ∙ ap (λ end. bytes_of_fields (fields true end profile.steps)) ends
     ∙ ap (λ (f : Bool → ℕ → List (ℕ × _) → List (FieldName × ℕ)). bytes_of_fields (f true track.end profile.steps)) (sym same_fields))
-
--- the same of a refusal
-pub refused_as : {V : Type 0} (kind : Kind V) (levels : Levels V) → kind.levels ≡ levels
-    → (request : StepsRequest V) (fault : RunsFault) → request.end ≤ LONGEST_TRACK
-    → runs_of levels request.end request.runs ≡ Err fault → AnswersRequest kind request (refusal_reply (refusal_of fault))
-refused_as kind levels same request fault short none = refused kind request fault short (rw same none)

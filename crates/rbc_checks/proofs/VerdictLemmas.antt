@@ -1,6 +1,6 @@
 -- The verdict on a block, step by step.
-use Rattle.std.proofs.Common.{◌≡◌, ℕ, ◌≤◌, Bool, true, false, not, ◌&&◌, List, [], ◌∷◌, Option, Some, None, Result, Ok, Err, refl, sym, ap, ◌∙◌, subst, ℤ, ◌%◌, ◌==◌, nat_le, nat_lt, length}
-use Rattle.std.specs.Prelude.{if◌then◌else◌, is_none}
+use Rattle.std.proofs.Common.{◌≡◌, ℕ, ◌≤◌, Bool, true, false, not, ◌&&◌, List, [], ◌∷◌, Option, Some, None, Result, Ok, Err, refl, sym, ap, ◌∙◌, subst, ℤ, nat_le, nat_lt, length}
+use Rattle.std.specs.Prelude.{is_none, if◌then◌else◌}
 use Rattle.std.specs.List.{list_all}
 use Rattle.std.specs.Result.{result_map_both}
 use Rattle.rbc_model.specs.declared.functions.ProfileFault.{ProfileFault}
@@ -14,21 +14,10 @@ use Rattle.rbc_model.specs.declared.refusals.StepsRefusal.TheVariants.{NotRising
 use Rattle.rbc_model.specs.Results.{unless, demand, ◌>>=◌, ◌>>◌}
 use Rattle.rbc_model.specs.Levels.{Levels}
 use Rattle.rbc_model.specs.Profiles.{StepFunction, starts_of, rises_from_zero, joined_steps, runs_fault, runs_of, profile_fault, profile_of}
-use Rattle.rbc_model.specs.PriceChecks.{price_check, has_shape, first_above, first_too_high, lost, last_price}
-use Rattle.rbc_model.specs.Scales.{unit_of}
 use Rattle.rbc_model.specs.StepsText.{StepsRequest, refusal_of, track_in}
-use Rattle.rbc_model.specs.CheckText.{CheckLine, with_loss, in_shape, shaped, steps_of, rows_of, verdict_of}
+use Rattle.rbc_model.specs.CheckText.{CheckLine, in_shape, shaped, steps_of, rows_of, verdict_of}
 use Rattle.rbc_model.proofs.LineTrackLemmas.{with_track, track_in-runs_of}
-use Rattle.rbc_price.proofs.CertificateLemmas.{stop_at_shape}
-use Rattle.rbc_price.proofs.ShapeLemmas.{no_shape}
 use Rattle.rbc_checks.specs.Verdicts.{rows_verdict, steps_verdict}
-
--- a track that ends between two multiples of the unit has no table
-pub no_table : {V : Type 0} (levels : Levels V) (limit : ℕ) (track profile : StepFunction V) (rows : List (List ℕ)) (is_last : Bool) → (track.end % unit_of track.end ≡ 0 → ⊥)
-    → Err Shape ≡ with_loss is_last (price_check levels limit track profile rows)
-no_table levels limit track profile rows is_last uneven = ap (with_loss is_last) (stop_at_shape (has_shape levels limit track profile rows) (first_above levels track profile)
-    (first_too_high levels limit track rows) (lost levels limit track profile rows == last_price levels limit track rows) (nat_le (length profile.steps) limit)
-    (sym (no_shape levels limit track profile rows (λ s. uneven s.whole))))
 
 -- ---- steps
 

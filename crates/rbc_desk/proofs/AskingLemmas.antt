@@ -2,7 +2,7 @@
 use Rattle.std.proofs.Common.{◌≡◌, ℕ, zero, suc, map, replicate, Bool, true, false, length, List, [], ◌∷◌, ◌++◌, Option, Some, None, is_some, Result, Ok, Err, refl, ap, sym, subst, take, ◌∙◌, arith}
 use Rattle.std.proofs.lemmas.Bool.{both_ways}
 use Rattle.std.proofs.lemmas.List.{take_all}
-use Rattle.std.specs.Prelude.{if◌then◌else◌, IfErr, IfOk, IfSome, OnErr, slice_get}
+use Rattle.std.specs.Prelude.{IfErr, IfOk, IfSome, OnErr, slice_get, if◌then◌else◌}
 use Rattle.std.specs.Option.{option_map_or}
 use Rattle.std.specs.Result.{result_map_both}
 use Rattle.rbc_model.specs.declared.memory.OrMemory.{OrMemory}
@@ -13,7 +13,7 @@ use Rattle.rbc_model.specs.declared.refusals.ViewFault.TheVariants.{UnknownTrain
 use Rattle.rbc_model.specs.declared.reports.Told.{Told}
 use Rattle.rbc_model.specs.declared.reports.Event.TheVariants.{Tell}
 use Rattle.rbc_model.specs.Events.{step}
-use Rattle.rbc_model.specs.Histories.{Entry, Grants, Heard, Granted, Receipt}
+use Rattle.rbc_model.specs.Histories.{Entry, Heard, Granted, Receipt}
 use Rattle.rbc_model.specs.Scenes.{Scene, train_numbered}
 use Rattle.rbc_model.specs.Views.{View, view, view_of}
 use Rattle.rbc_snap.specs.SameViews.{is_same_view-decides}
@@ -23,7 +23,7 @@ use Rattle.rbc_snap.specs.CommitFault.{CommitFault}
 use Rattle.rbc_snap.specs.CommitFault.TheVariants.{Full as FullToGrants, Stale}
 use Rattle.rbc_snap.specs.Present.{has_train}
 use Rattle.rbc_snap.specs.Records.{HistoryOnTrack, scene_now, is_full, with_entry}
-use Rattle.rbc_snap.specs.Entering.{EntersOrMemory, entry_granted, entry_told, is_just, is_shown}
+use Rattle.rbc_snap.specs.Entering.{EntersOrMemory, entry_granted, is_just, is_shown}
 use Rattle.rbc_grant_laws.proofs.CandidateLemmas.{view-train}
 use Rattle.rbc_snap.specs.ApplyFault.{ApplyFault}
 use Rattle.rbc_snap.specs.ApplyFault.TheVariants.{Full as FullToTold, Refused as RefusedByScene}
@@ -245,16 +245,6 @@ only_told : (full : Bool) (told : Told) (stepped : Result Scene Refusal) (entry 
 only_told true told stepped entry e = cc
 only_told false told (Ok after) entry e = cc
 only_told false told (Err refusal) entry e = cc
-
--- the receipt of what was told is the one for its place and for what was told
-pub told_receipt : (old new : HistoryOnTrack) (told : Told) (receipt : Receipt) → EntersOrMemory {E = ApplyFault} (Ok receipt) old new (entry_told old told) → record { place = receipt.place; entry = Heard told } ≡ receipt
-told_receipt old new told receipt entered =
-    let same = only_told (is_full old) told (step old.track (scene_now old) (Tell told)) receipt.entry entered.0 in
-    λ i. record { place = receipt.place; entry = sym same i }
-
--- the receipt of what was granted is the one for its place and for the grant
-pub granted_receipt : (grant : Grants) (receipt : Receipt) → receipt.entry ≡ Granted grant → record { place = receipt.place; entry = Granted grant } ≡ receipt
-granted_receipt grant receipt same = λ i. record { place = receipt.place; entry = sym same i }
 
 -- what the seat has then
 pub told_at : (had has : Seated) (told : Told) (answer : Result Receipt (OrMemory ApplyFault)) → IsToldThen had.told has.told told answer → IsLater had.told has.told

@@ -1,11 +1,10 @@
 -- What comes of a centre that stayed up.
 use Rattle.std.proofs.Common.{◌≡◌, ℕ, Bool, true, false, suc, List, [], ◌∷◌, ◌++◌, length, map, Option, Some, None, refl, sym, ap, ◌∙◌, subst, arith}
-use Rattle.std.proofs.lemmas.List.{length-map, take_all}
+use Rattle.std.proofs.lemmas.List.{take_all}
 use Rattle.std.proofs.lemmas.List.Elements.{All-map, All-nil}
 use Rattle.std.specs.Prelude.{◌||◌, All, IfSome, take, option_to_list}
 use Rattle.std.specs.List.{Contains, list_any}
 use Rattle.rbc_port.specs.Clients.{Coming}
-use Rattle.rbc_server.specs.Connections.{OneKnows, TellsFailure}
 use Rattle.rbc_server.specs.Looking.{LooksOn}
 use Rattle.rbc_server.specs.Records.{HistoryOnTrack}
 use Rattle.rbc_server.specs.Seats.{Seated}
@@ -13,7 +12,7 @@ use Rattle.rbc_server.specs.Serving.{IsCloseFault}
 use Rattle.rbc_server.specs.Sitting.{Sitting}
 use Rattle.rbc_server.specs.declared.serving.ServeFault.{ServeFault}
 use Rattle.rbc_server.specs.declared.serving.ServeFault.TheVariants.{Port, Write, Memory, Journal, Close}
-use Rattle.rbc_server.proofs.ConnectionLemmas.{map_twice, none_failed, one_knows}
+use Rattle.rbc_server.proofs.ConnectionLemmas.{map_twice, none_failed}
 use Rattle.rbc_duty.specs.Duties.{AreOnDuty, IsDuty}
 use Rattle.rbc_duty.specs.Stays.{AreRelieved, FirstOnDuty, IsStayFault, StandsRelieved, duty_fault}
 
@@ -143,16 +142,3 @@ pub not_written : {L P : Type 0} (keeps : P → ℕ → Type 0) (comings : List 
 not_written keeps comings sittings committers fault stood is = subst (StandsRelieved keeps comings sittings committers) is stood
 
 -- ---- who looks on
-
--- from the first moment on nothing is told but what goes on
-pub looks_at_first : (seat : Option Seated) → LooksOn seat seat
-looks_at_first None = tt
-looks_at_first (Some seat) = record { receipts = refl; later = λ earlier is. is }
-
-pub looks_further : (first mid last : Option Seated) → LooksOn first mid → LooksOn mid last → LooksOn first last
-looks_further None None None so next = tt
-looks_further None None (Some last) so next = absurd next
-looks_further None (Some mid) last so next = absurd so
-looks_further (Some first) None last so next = absurd so
-looks_further (Some first) (Some mid) None so next = absurd next
-looks_further (Some first) (Some mid) (Some last) so next = record { receipts = next.receipts ∙ so.receipts; later = λ earlier is. next.later earlier (so.later earlier is) }

@@ -1,4 +1,3 @@
 mod MarkLemmas
 pub mod FileLemmas
 mod PageLemmas
-mod WaitingLemmas

@@ -1,5 +1,5 @@
 -- What files of lines stand for.
-use Rattle.std.proofs.Common.{◌≡◌, ◌≢◌, inl, inr, ℕ, ◌+◌, ◌<◌, ◌≤◌, get_or, List, [], ◌∷◌, ◌++◌, length, All, Option, Some, None, take, drop, refl, sym, ◌∙◌, ap, subst, arith, append_assoc}
+use Rattle.std.proofs.Common.{◌≡◌, ◌≢◌, inl, inr, ℕ, ◌+◌, ◌<◌, get_or, List, [], ◌∷◌, ◌++◌, length, All, Option, Some, None, take, drop, refl, sym, ◌∙◌, ap, subst, arith, append_assoc}
 use Rattle.std.proofs.lemmas.List.{append-nil, take_more, drop_more}
 use Rattle.std.proofs.lemmas.List.Elements.{All-nil, All-head, All-tail, All-cons, All-append}
 use Rattle.std.proofs.lemmas.Bool.{cases_eq}
@@ -54,15 +54,6 @@ stands_for lines rest are none = counted-text lines rest are ∙ ap (λ (ls : Li
 
 pub counted-at_rest : (lines : List (List ℕ)) → All IsLine lines → counted (at_rest lines) ≡ lines
 counted-at_rest lines are = stands_for lines (35 ∷ []) are refl
-
--- one byte is no line
-pub short_nothing : (bytes : List ℕ) → length bytes ≤ 1 → counted bytes ≡ []
-short_nothing [] short = refl
-short_nothing (gate ∷ []) short = elim (cases_eq gate 32) [
-  | inl is ↦ ap (λ (g : ℕ). counted (g ∷ [])) is
-  | inr shut ↦ closed gate [] shut
-]
-short_nothing (a ∷ b ∷ bytes) short = absurd (omega arith)
 
 -- ---- they are lines
 

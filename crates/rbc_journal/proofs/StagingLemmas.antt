@@ -1,7 +1,7 @@
 -- What stages a line.
-use Rattle.std.proofs.Common.{◌≡◌, ℕ, ◌-◌, ◌<◌, Bool, true, false, List, [], ◌∷◌, ◌++◌, length, All, Some, None, take, drop, refl, sym, ◌∙◌, ap, subst, arith, append_assoc, length-append, if◌then◌else◌, ◌==◌}
+use Rattle.std.proofs.Common.{◌≡◌, ℕ, ◌-◌, ◌<◌, Bool, false, List, [], ◌∷◌, ◌++◌, length, All, Some, None, take, drop, refl, sym, ◌∙◌, ap, subst, arith, append_assoc, length-append, ◌==◌, if◌then◌else◌}
 use Rattle.std.specs.Prelude.{◌&&◌, not, is_ok, bytes_eq}
-use Rattle.std.proofs.lemmas.List.{take_at, append-nil}
+use Rattle.std.proofs.lemmas.List.{take_at}
 use Rattle.std.proofs.lemmas.List.Elements.{All-nil, All-cons, All-append, All-weaker, filter-append}
 use Rattle.hex.specs.Hex.{decode_sized}
 use Rattle.rbc_journal.specs.Seals.{is_comment, has_seal_form}
@@ -10,7 +10,7 @@ use Rattle.rbc_journal.specs.Gates.{counted, text, at_rest, behind, staged_in, I
 use Rattle.rbc_journal.proofs.LineLemmas.{text-append, are_lines, counted-at_rest}
 use Rattle.rbc_journal.proofs.CrashLemmas.{gate_behind}
 use Rattle.rbc_journal.proofs.PutLemmas.{Inner, All-snoc}
-use Rattle.rbc_journal.proofs.ToldLemmas.{told_line, told_comment}
+use Rattle.rbc_journal.proofs.ToldLemmas.{told_line}
 
 -- what is staged for lines stands for just these
 pub staged-behind : (lines : List (List ℕ)) → All IsLine lines → staged_in (behind lines) ≡ lines
@@ -84,11 +84,6 @@ told_snoc lines line = filter-append (λ line. not (is_comment line)) lines (lin
 -- a line that is told is told behind the others
 pub told_more : (lines more : List (List ℕ)) (line : List ℕ) → more ≡ lines ++ line ∷ [] → is_comment line ≡ false → told_of more ≡ told_of lines ++ line ∷ []
 told_more lines more line adds is = ap told_of adds ∙ told_snoc lines line ∙ ap (λ (ls : List (List ℕ)). told_of lines ++ ls) (told_line line [] is)
-
--- a note changes nothing of what is told
-pub told_same : (lines more : List (List ℕ)) (line : List ℕ) → more ≡ lines ++ line ∷ [] → is_comment line ≡ true → told_of more ≡ told_of lines
-told_same lines more line adds is =
-    ap told_of adds ∙ told_snoc lines line ∙ ap (λ (ls : List (List ℕ)). told_of lines ++ ls) (told_comment line [] is) ∙ append-nil (told_of lines)
 
 -- ---- one line more
 

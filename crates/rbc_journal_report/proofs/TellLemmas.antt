@@ -1,5 +1,5 @@
 -- What is told of a file, by how it is read.
-use Rattle.std.proofs.Common.{◌≡◌, ℕ, ◌-◌, Bool, true, false, List, [], ◌∷◌, length, take, Option, Some, None, Result, Ok, Err, refl, sym, ◌∙◌, ap, ap₂, cond}
+use Rattle.std.proofs.Common.{◌≡◌, ℕ, ◌-◌, Bool, true, false, List, [], ◌∷◌, length, Option, Some, None, Result, Ok, Err, refl, sym, ◌∙◌, ap, ap₂, cond}
 use Rattle.std.specs.Prelude.{not, nat_lt, bytes_eq, ◌&&◌, ◌||◌, ◌==◌}
 use Rattle.std.specs.List.{list_any}
 use Rattle.std.specs.Option.{unwrap_or}
@@ -10,9 +10,8 @@ use Rattle.rbc_journal.specs.Journal.{told_of}
 use Rattle.rbc_journal.specs.Reading.{Parts, is_first_format, is_whole, dropped_of, tail_of, by_end, by_header, by_format, reading}
 use Rattle.rbc_journal.specs.declared.reading.ReadFault.{ReadFault}
 use Rattle.rbc_journal.specs.declared.reading.ReadFault.TheVariants.{NotAJournal, FirstFormat, OtherFormat, Damaged, OtherTrack}
-use Rattle.rbc_journal_report.specs.Telling.{own_digest, Telling, state_of, damage_of, telling_by, telling_beside}
+use Rattle.rbc_journal_report.specs.Telling.{own_digest, Telling, state_of, telling_by, telling_beside}
 use Rattle.rbc_journal_report.specs.declared.telling.FileState.{FileState}
-use Rattle.rbc_journal_report.specs.declared.telling.FileState.TheVariants.{Damaged as DamagedAt}
 
 module _ (given : Option (List ℕ)) (bytes digest : List ℕ) (is : digest ≡ unwrap_or given (own_digest bytes)) where
   pub tell_whole : (parts : Parts) (text : List ℕ) (state : FileState) → reading bytes digest ≡ Ok parts → counted text ≡ counted bytes
@@ -24,25 +23,6 @@ module _ (given : Option (List ℕ)) (bytes digest : List ℕ) (is : digest ≡ 
   pub tell_fault : (fault : ReadFault) (told : Result Telling ReadFault) → reading bytes digest ≡ Err fault
       → telling_by (counted bytes) (Err fault) ≡ told → telling_beside given bytes ≡ told
   tell_fault fault told read tells = ap (telling_by (counted bytes)) (ap (reading bytes) (sym is) ∙ read) ∙ tells
-
-pub tell_none : (lines : List (List ℕ)) (fault : ReadFault) → damage_of fault ≡ None → telling_by lines (Err fault) ≡ Err fault
-tell_none lines NotAJournal none = refl
-tell_none lines FirstFormat none = refl
-tell_none lines (OtherFormat number) none = refl
-tell_none lines (Damaged line) none = cc none
-tell_none lines (OtherTrack digest) none = refl
-
-pub tell_damage : (lines shown : List (List ℕ)) (fault : ReadFault) (line : ℕ) → damage_of fault ≡ Some line → shown ≡ take (line - 1) lines
-    → telling_by lines (Err fault) ≡ Ok (record { lines = shown; state = DamagedAt line })
-tell_damage lines shown NotAJournal line is shows = cc is
-tell_damage lines shown FirstFormat line is shows = cc is
-tell_damage lines shown (OtherFormat number) line is shows = cc is
-tell_damage lines shown (OtherTrack digest) line is shows = cc is
-tell_damage lines shown (Damaged at) line is shows =
-    ap₂ (λ (ls : List (List ℕ)) (n : ℕ). Ok (record { lines = ls; state = DamagedAt n })) (ap (λ (n : ℕ). take (n - 1) lines) (same is) ∙ sym shows) (same is)
-  where
-    same : Some at ≡ Some line → at ≡ line
-    same e = cc e
 
 -- ---- journals of the format before
 

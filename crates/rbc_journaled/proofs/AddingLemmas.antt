@@ -18,10 +18,9 @@ use Rattle.rbc_session_laws.specs.Turns.{AnswersLine}
 use Rattle.rbc_session_laws.specs.Answers.{Answer, command_answer, line_answer}
 use Rattle.rbc_session_laws.proofs.LineLemmas.{lines_are_answered, given_up_adds_none}
 use Rattle.rbc_session_laws.proofs.RetellingLemmas.{entries_are_told_again}
-use Rattle.rbc_journaled.specs.Adds.{Adds, Gains}
+use Rattle.rbc_journaled.specs.Adds.{Adds}
 use Rattle.rbc_journaled.specs.Laws.{AreRetold}
 use Rattle.rbc_journaled.specs.Tells.{Tells}
-use Rattle.rbc_journaled.proofs.TellingLemmas.{Goes as Replays, goes_on, told_in}
 
 -- ---- a line that adds an entry
 
@@ -67,13 +66,6 @@ unchanged Answers before after reply (Some entry, answers, is) no_more =
 
 pub not_grown : (before after : HistoryOnTrack) (line reply : List ℕ) → Goes before line reply after → (length before.entries < length after.entries → ⊥) → after ≡ before
 not_grown before after line reply goes no_more = unchanged (λ begin entries said added. AnswersLine begin entries line said added) before after reply goes no_more
-
--- one line more of a text
-pub replays_on : (begin : Beginning) (before after : HistoryOnTrack) (text rest further line : List ℕ) → begin_of before ≡ begin → told_in rest ≡ line ∷ told_in further
-    → Gains before line after → Replays (Adds begin) text before.entries rest → Replays (Adds begin) text after.entries further
-replays_on begin before after text rest further line same reads g so_far =
-    goes_on (Adds begin) text rest further line before.entries after.entries reads
-    (g.0, subst (λ t. Adds t before.entries line g.0) same g.1, ap (λ (h : HistoryOnTrack). h.entries) g.2) so_far
 
 -- ---- what a file stands for is retold
 

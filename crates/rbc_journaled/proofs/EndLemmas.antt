@@ -67,8 +67,3 @@ handed_told e true w X write x = tt
 handed_told (Err fault) false w X write x = tt
 handed_told (Ok done) false true X write x = absurd (ok_is_no_err refl (write.1 refl))
 handed_told (Ok done) false false X write x = x refl
-
--- the journal fails as the writer does
-pub as_write : (e : Ended) (b w : Bool) → (e ≡ Err Write) ↔ IsTrue (b || w) → b ≡ true → e ≡ Err Write
-as_write e true w write broken = write.1 refl
-as_write e false w write broken = cc

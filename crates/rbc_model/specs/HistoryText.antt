@@ -37,9 +37,6 @@ entry_request track (Granted grant) = Ask grant.train
 abbrev pub told_line : Track → Told → List ℕ
 told_line track told = said_line (told_request track told)
 
-abbrev pub ask_line : ℕ → List ℕ
-ask_line train = said_line (Ask train)
-
 abbrev pub entry_line : Track → Entry → List ℕ
 entry_line track entry = said_line (entry_request track entry)
 

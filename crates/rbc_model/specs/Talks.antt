@@ -6,10 +6,6 @@ use Rattle.rbc_model.specs.declared.sessions.SessionFault.{SessionFault}
 use Rattle.rbc_model.specs.declared.sessions.SessionFault.TheVariants.{Read, Write, Lines, Overlong, Memory}
 use Rattle.rbc_model.specs.Sessions.{lines_of, line_feeds, WritesPart}
 
--- Answers state line reply next: in this state the line is answered by this reply, and the next state follows.
-abbrev pub Answering : Type 0 → Type 1
-Answering State = State → List ℕ → List ℕ → State → Type 0
-
 -- each line is answered by itself, and there is nothing to keep
 abbrev pub EachByItself : (List ℕ → List ℕ → Type 0) → Unit {0} → List ℕ → List ℕ → Unit {0} → Type 0
 EachByItself Answers state line reply next = Answers line reply

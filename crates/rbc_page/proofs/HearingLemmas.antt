@@ -1,15 +1,14 @@
 -- What is heard of a head.
-use Rattle.std.proofs.Common.{rules, ◌≡◌, ◌≤◌, ◌==◌, ℕ, Bool, true, false, List, length, map, Option, Some, None, sym, ap, ◌∙◌, IsTrue, arith}
+use Rattle.std.proofs.Common.{rules, ◌≡◌, ◌≤◌, ℕ, Bool, true, false, List, length, map, Option, Some, None, sym, ap, ◌∙◌, IsTrue, arith}
 use Rattle.std.proofs.lemmas.List.{length-map, length-take-le}
 use Rattle.std.proofs.lemmas.List.Elements.{All-weaker}
 use Rattle.std.proofs.lemmas.Slice.Eq.{bytes_eq-Decides}
-use Rattle.std.specs.Prelude.{◌↔◌, All, bytes_eq, if◌then◌else◌, MatchOption, option_map, take}
+use Rattle.std.specs.Prelude.{◌↔◌, All, bytes_eq, MatchOption, option_map, take, if◌then◌else◌}
 use Rattle.httparse.proofs.GrammarLemmas.{request_unique}
 use Rattle.httparse.specs.Grammar.{ReadsRequest, RequestHead}
-use Rattle.httparse.specs.Spans.{IsHeaderWithin, IsRequestAt, IsRequestOf, IsRequestWithin, header_bytes, name_and_value, span_bytes}
+use Rattle.httparse.specs.Spans.{IsHeaderWithin, IsRequestOf, IsRequestWithin, header_bytes, name_and_value}
 use Rattle.httparse.specs.declared.spans.HeaderSpan.{HeaderSpan}
 use Rattle.httparse.specs.declared.spans.RequestSpans.{RequestSpans}
-use Rattle.rbc_page.specs.Hearing.{meant, said_by}
 
 -- a test that two lists of numbers are equal
 pub tested : (test : Bool) (xs ys : List ℕ) → (IsTrue test ↔ (xs ≡ ys)) → test ≡ bytes_eq xs ys
@@ -25,12 +24,6 @@ left_where Q now (Some x) test rest is = ap Some is.1 ∙ sym (ap (λ b. if b th
 pub fields_within : (count all : ℕ) (fields : List HeaderSpan) → All (IsHeaderWithin count) fields → count ≤ all → All (IsHeaderWithin all) fields
 fields_within count all fields within fits =
     All-weaker (IsHeaderWithin count) (IsHeaderWithin all) (λ f w. ((w.0.0, omega (arith, w.0.1, fits)), (w.1.0, omega (arith, w.1.1, fits)))) fields within
-
--- the parts that were found say what the head says
-pub meant_at : (start bytes : List ℕ) (fields : List HeaderSpan) (spans : RequestSpans) (head : RequestHead) → IsRequestAt bytes fields spans head
-    → said_by start (span_bytes bytes spans.method) (span_bytes bytes spans.path) spans.version (map (header_bytes bytes) (take spans.headers fields)) (spans.len == length bytes)
-    ≡ meant start bytes head
-meant_at start bytes fields spans head at = λ j. said_by start (at.method j) (at.path j) (at.version j) (at.fields j) (at.len j == length bytes)
 
 -- a head that was found has no more fields than there is room for
 pub few_fields : (bytes : List ℕ) (fields : List HeaderSpan) (spans : RequestSpans) (head : RequestHead) (rest : List ℕ)

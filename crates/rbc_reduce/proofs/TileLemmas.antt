@@ -31,9 +31,6 @@ some_is x y e = cc e
 pub min_low : (last a first : ℕ) → first ≤ last → first ≤ a → first ≤ min last a
 min_low last a first h k = grind arith
 
-pub min_more : (a b c : ℕ) → c < a → c < b → c < min a b
-min_more a b c h k = grind arith
-
 pub min_high : (last a : ℕ) → min last a ≤ last
 min_high last a = grind arith
 

@@ -1,12 +1,12 @@
 -- What comes of serving connections.
-use Rattle.std.proofs.Common.{◌≡◌, ℕ, ◌<◌, ◌==◌, Bool, true, List, [], ◌∷◌, ◌++◌, get_or, length, map, set, Option, Some, None, Result, Ok, Err, refl, sym, ap, ◌∙◌, subst, inl, inr, lit≤, arith}
+use Rattle.std.proofs.Common.{◌≡◌, ℕ, ◌<◌, ◌==◌, Bool, true, List, [], ◌∷◌, ◌++◌, get_or, length, map, set, Option, Some, None, Result, Err, refl, sym, ap, ◌∙◌, subst, inl, inr, lit≤, arith}
 use Rattle.std.proofs.KnownBytes.{Appends-nil}
 use Rattle.std.proofs.lemmas.Bool.{eqb-true}
 use Rattle.std.proofs.lemmas.List.{length-append, length-map, take_all}
 use Rattle.std.specs.Global.{Vec}
 use Rattle.rbc_model.specs.Histories.{Receipt}
 use Rattle.rbc_model.specs.Tracks.{Track}
-use Rattle.std.specs.Prelude.{◌≤◌, All, IsPermutation, IsTrue, IfOk, IfErr, vec_len}
+use Rattle.std.specs.Prelude.{◌≤◌, All, IsPermutation, IsTrue, IfErr, vec_len}
 use Rattle.std.specs.List.{AllZip}
 use Rattle.std.specs.Io.KnownBytes.{Appends}
 use Rattle.rbc_model.specs.Sessions.{WritesPart}
@@ -18,7 +18,7 @@ use Rattle.rbc_sessions.specs.Records.{HistoryOnTrack}
 use Rattle.rbc_sessions.specs.Seats.{Seated}
 use Rattle.rbc_sessions.specs.CloseFault.{CloseFault}
 use Rattle.rbc_server.specs.Connections.{AllButOneServed, AllServed, AllWhoComeServed, AreParted, Connection, OneKnows, StandsConnected}
-use Rattle.rbc_server.specs.Serving.{closed_line, AreKept, IsAttended, GoOn, IsBrought, IsClosed, IsCloseFault, IsCutOff, IsServed, IsServeFault, IsSweepFault, IsSwept, IsSweptBy, serve_fault}
+use Rattle.rbc_server.specs.Serving.{closed_line, AreKept, IsAttended, GoOn, IsBrought, IsClosed, IsCloseFault, IsCutOff, IsServeFault, IsSweepFault, IsSwept, IsSweptBy, serve_fault}
 use Rattle.rbc_server.proofs.ConnectionLemmas.{no_more_came}
 use Rattle.rbc_server.specs.declared.connections.ConnectFault.{ConnectFault}
 use Rattle.rbc_server.specs.declared.connections.ConnectFault.TheVariants.{Port as NoConnection, Memory as NoThread, Journal as NotKeptInSession}
@@ -131,13 +131,6 @@ first_is_there {L} {P} keeps track coming partings staff seats committers old ne
         let is_kept = sweep.is_kept in
         omega (arith, ap (λ (l : List Seated). length l) (sweep.all ∙ ap (λ l. l ++ sweep.swept) is_kept.heard_is), length-append (is_kept.told ∷ is_kept.more) sweep.swept)
 
-pub served_then : {L P E : Type 0} (keeps : P → ℕ → Type 0) (r : Result HistoryOnTrack E) (opened : HistoryOnTrack) (coming : Option (List Coming)) (partings : List Parting) (staff : Staff L P) (seats : List Seated) (committers : List P)
-    (old so_far new : Option (List ℕ)) → IsAttended keeps opened.track coming partings staff seats committers old so_far → IfOk r (IsClosed opened seats)
-    → IfOk r (λ log. Appends so_far new (closed_line (length log.entries))) → IfOk r (IsServed keeps opened coming partings staff committers old new)
-served_then keeps (Ok log) opened coming partings staff seats committers old so_far new attended closing closed =
-    record { seats = seats; so_far = so_far; attended = attended; closing = closing; closed = closed }
-served_then keeps (Err fault) opened coming partings staff seats committers old so_far new attended closing closed = tt
-
 -- ---- faults
 
 -- committers that are as they were
@@ -147,17 +140,6 @@ go_on_as keeps (p ∷ others) has is = (p, (λ place k. k), is)
 
 pub go_on_same : {P : Type 0} (keeps : P → ℕ → Type 0) (committers : List P) → GoOn keeps committers committers
 go_on_same keeps committers = go_on_as keeps committers committers refl
-
--- no connection fails to be written
-pub no_write : (connect : ConnectFault) → serve_fault connect ≡ Write → ⊥
-no_write NoConnection is = cc
-no_write NoThread is = cc
-no_write NotKeptInSession is = cc
-
-pub only_journal : (connect : ConnectFault) → serve_fault connect ≡ Journal → connect ≡ NotKeptInSession
-only_journal NoConnection is = absurd (let c : ⊥ = cc in c)
-only_journal NoThread is = absurd (let c : ⊥ = cc in c)
-only_journal NotKeptInSession is = refl
 
 -- where all sittings served, no client that came was left
 all_but_none : {L P : Type 0} (keeps : P → ℕ → Type 0) (coming to_come : Option (List Coming)) (sittings served : List (Sitting L P)) (partings : List Parting)

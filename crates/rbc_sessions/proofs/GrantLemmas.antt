@@ -1,12 +1,11 @@
 -- What a sweep granted is kept, entry by entry.
-use Rattle.std.proofs.Common.{◌≡◌, ℕ, ◌+◌, ◌<◌, ◌≤◌, Bool, true, false, cond, List, [], ◌∷◌, ◌++◌, length, take, get_or, Some, Result, Ok, Err, ◌⊎◌, inl, inr, refl, sym, ap, ◌∙◌, subst, arith}
+use Rattle.std.proofs.Common.{◌≡◌, ℕ, ◌+◌, ◌<◌, Bool, true, false, cond, List, [], ◌∷◌, ◌++◌, length, take, get_or, Some, Result, Ok, Err, ◌⊎◌, inl, inr, sym, ap, ◌∙◌, subst, arith}
 use Rattle.std.proofs.Math.Seq.{take-append_seam}
 use Rattle.std.specs.Prelude.{All, IsPermutation, OnOk, slice_get}
 use Rattle.std.proofs.lemmas.List.{get_or_read, take-take}
 use Rattle.std.proofs.lemmas.List.Elements.{All-nil, All-cons, All-append, All-contains, All-head, All-more, All-tail, All-weaker, Contains-append_left, Contains-push}
 use Rattle.std.proofs.lemmas.List.Sorted.{Contains-permutation}
 use Rattle.std.proofs.lemmas.Option.{slice_get_within}
-use Rattle.rbc_model.specs.declared.limits.TheConstants.{MOST_ENTRIES}
 use Rattle.rbc_model.specs.Histories.{Beginning, Entry, Granted as GrantedEntry, Grants, Receipt, is_full, replay}
 use Rattle.rbc_model.specs.SessionReply.{Full as NoRoom}
 use Rattle.rbc_model.specs.SessionText.{SessionLine, Ask}
@@ -22,15 +21,13 @@ use Rattle.rbc_sweep.specs.Asking.{IsAnswered}
 use Rattle.rbc_sweep.specs.Granted.{Granted as Grant}
 use Rattle.rbc_sweep.specs.Outcomes.{Begins, granted, receipts_of}
 use Rattle.rbc_sweep.specs.Records.{begin_on, begin_of, HistoryOnTrack, history_on, with_entry}
-use Rattle.rbc_sweep.specs.declared.outcome.Answer.{Answer}
-use Rattle.rbc_sweep.specs.declared.outcome.Answer.TheVariants.{Granted, Blocked, Gone, Full, Memory}
+use Rattle.rbc_sweep.specs.declared.outcome.Answer.TheVariants.{Granted}
 use Rattle.rbc_sweep.specs.declared.outcome.Outcome.{Outcome}
 use Rattle.rbc_sweep.proofs.AskingLemmas.{viewed}
 use Rattle.rbc_sessions.specs.Keeping.{AddsEntry, HasAnswer, HasGrant, HasOutcome}
 use Rattle.rbc_sessions.specs.Sittings.{AreKeptOf, HasRank, IsKeptAt}
 use Rattle.rbc_sessions.specs.declared.grants.Rank.{Rank}
 use Rattle.rbc_sessions.proofs.KeepingLemmas.{last_stands}
-use Rattle.rbc_sessions.proofs.SeatLemmas.{below_most}
 
 -- ---- the entry that was granted
 
@@ -84,15 +81,6 @@ grant_adds history train grant has form =
     } in
     subst (λ n. AddsEntry history n (Ask train)) (sym answered.2) (adds_still (with_entry before entry) history (length before.entries) (Ask train) begins here)
 
--- a history has few entries
-pub grant_below : (history : HistoryOnTrack) (train : ℕ) (grant : Grant) → history.most ≤ MOST_ENTRIES → HasGrant history train grant → grant.receipt.place < MOST_ENTRIES
-grant_below history train grant bounded is =
-    let before = is.before in
-    let begins = is.begins in
-    let answered = is.answered in
-    let below = below_most before.most (length before.entries) (subst (λ most. most ≤ MOST_ENTRIES) begins.most bounded) answered.0 in
-    omega (arith, answered.2)
-
 -- ---- rank by rank
 
 -- one rank more
@@ -144,17 +132,6 @@ all_kept kept outcomes ranks has is =
 pub one_kept : (kept : ℕ → Type 0) (outcome : Outcome) (grant : Grant) → outcome.answer ≡ Granted grant → kept grant.receipt.place → AreKeptOf kept outcome
 one_kept kept outcome grant is k =
     subst (λ a. All (λ (r : Receipt). kept r.place) (receipts_of a)) (sym is) (All-cons (λ (r : Receipt). kept r.place) grant.receipt [] k (All-nil (λ (r : Receipt). kept r.place)))
-
--- nothing was granted
-pub none_kept : (kept : ℕ → Type 0) (outcome : Outcome) → ((grant : Grant) → outcome.answer ≡ Granted grant → ⊥) → AreKeptOf kept outcome
-none_kept kept outcome none = by outcome.answer none
-  where
-    by : (answer : Answer) → ((grant : Grant) → answer ≡ Granted grant → ⊥) → All (λ (r : Receipt). kept r.place) (receipts_of answer)
-    by (Granted grant) never = absurd (never grant refl)
-    by (Blocked obstacle at version) never = All-nil (λ (r : Receipt). kept r.place)
-    by Gone never = All-nil (λ (r : Receipt). kept r.place)
-    by Full never = All-nil (λ (r : Receipt). kept r.place)
-    by Memory never = All-nil (λ (r : Receipt). kept r.place)
 
 -- the outcome with this number
 pub kept_at : (kept : ℕ → Type 0) (outcomes : List Outcome) (number : ℕ) (outcome : Outcome) → number < length outcomes → outcome ≡ get_or outcomes number outcome → AreKeptOf kept outcome

@@ -1,5 +1,5 @@
 -- Lemmas on the events of histories that go on from others.
-use Rattle.std.proofs.Common.{◌≡◌, ℕ, ◌<◌, ◌≤◌, length, take, Option, Some, None, refl, sym, ap, subst, ◌∙◌, arith, inl, inr, ◌⊎◌, List}
+use Rattle.std.proofs.Common.{◌≡◌, ℕ, ◌<◌, ◌≤◌, length, Option, Some, None, refl, sym, ap, subst, ◌∙◌, arith, inl, inr, ◌⊎◌, List}
 use Rattle.std.specs.Prelude.{slice_get, option_map, get_or}
 use Rattle.std.proofs.lemmas.Option.{slice_get_cases, none-some}
 use Rattle.rbc_model.specs.declared.reports.Event.{Event}
@@ -30,9 +30,3 @@ event_before a b place event later within there = by_case (slice_get_cases a.ent
     by_case (inl h) =
         ap (option_map event_of) h.2 ∙ sym (ap (option_map event_of) (entry_later a b place h.0 later h.2)) ∙ there
     by_case (inr h) = absurd (let past = h.0 in omega (arith, past, within))
-
--- what was seen at a place of one of two histories stands there in the other, which has the place, where one goes on from the other
-pub event_beside : (a b : HistoryOnTrack) (place : ℕ) (event : Event) → IsLater a b ⊎ IsLater b a → place < length a.entries → event_at b place ≡ Some event
-    → event_at a place ≡ Some event
-event_beside a b place event (inl later) within there = event_before a b place event later within there
-event_beside a b place event (inr later) within there = event_later b a place event later there

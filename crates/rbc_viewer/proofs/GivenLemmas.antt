@@ -1,9 +1,8 @@
 -- What was given to a writer inside a page stands in it, escaped.
 use Rattle.std.proofs.Common.{◌≡◌, ℕ, List, [], ◌∷◌, ◌++◌, length, take, drop, Option, Some, None, refl, sym, ap, subst, ◌∙◌, append_assoc, append-nil}
-use Rattle.std.specs.Io.KnownBytes.{Appends, Keeps}
+use Rattle.std.specs.Io.KnownBytes.{Appends}
 use Rattle.std.proofs.Math.Seq.{drop-append_seam, take-append_seam}
-use Rattle.std.proofs.lemmas.Grind.{flat_map-append}
-use Rattle.rbc_viewer.specs.Escapes.{escape, escaped}
+use Rattle.rbc_viewer.specs.Escapes.{escaped}
 use Rattle.rbc_viewer.specs.Given.{inside}
 
 -- what is known to stand behind what was written was written
@@ -15,25 +14,12 @@ known : (new : Option (List ℕ)) (old more : List ℕ) → Appends (Some old) n
 known None old more wrote = absurd wrote
 known (Some all) old more wrote = ap Some wrote
 
--- and more stands there, escaped, behind what was given before
-pub given_more : (old new : Option (List ℕ)) (before given bytes all : List ℕ) → old ≡ Some (before ++ escaped given) → Appends old new (escaped bytes) → all ≡ given ++ bytes
-    → new ≡ Some (before ++ escaped all)
-given_more old new before given bytes all stands wrote is =
-    known new (before ++ escaped given) (escaped bytes) (subst (λ o. Appends o new (escaped bytes)) stands wrote)
-    ∙ ap Some
-    (append_assoc before (escaped given) (escaped bytes)
-    ∙ ap (λ t. before ++ t) (sym (flat_map-append escape given bytes) ∙ ap escaped (sym is)))
-
 -- ---- what counts as written
 
 pub inside_more : (start : Option (List ℕ)) (given bytes all : List ℕ) → all ≡ given ++ bytes → Appends (inside start given) (inside start all) bytes
 inside_more None given bytes all is = tt
 inside_more (Some before) given bytes all is =
     ap (λ t. length before ∷ (before ++ t)) is ∙ ap (λ t. length before ∷ t) (sym (append_assoc before given bytes))
-
-pub inside_kept : (start : Option (List ℕ)) (given : List ℕ) → Keeps (inside start given) (inside start given)
-inside_kept None given = tt
-inside_kept (Some before) given = refl
 
 abbrev head_of : List ℕ → ℕ
 head_of [] = 0
