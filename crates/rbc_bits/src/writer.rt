@@ -1,19 +1,40 @@
 //! Fields, each a number of bits, written into bytes.
 
-ghost use Rattle.std.specs.Prelude.{◌≡◌, ℕ, ◌+◌, ◌^◌, ◌<◌, ◌≤◌, [], ◌++◌, IfOk, OnOk, OnErr};
-ghost use Rattle.rbc_model.specs.Bits.{bits_of, padded_bits, bytes_of};
+ghost use Rattle.std.specs.Prelude.{◌≡◌, ℕ, ◌+◌, ◌^◌, ◌<◌, ◌≤◌, [], ◌++◌, IfOk, OnOk, OnErr, vec_len, vec_capacity};
+ghost use Rattle.rbc_model.specs.Bits.{bits_of, byte_bits, byte_count, padded_bits, bytes_of};
 
 use rbc_model::Memory;
 use std::alloc::Global;
 use std::marker::Model;
 
+/// Writes the whole bytes of so many bits, and gives the bits that are left, fewer than eight, and how many these are.
+fn spill(bytes: &mut Vec<u8>, pending: u64, filled: u32) -> (u64, u32)
+    requires few { filled ≤ 64 }
+    requires fits { pending < 2 ^ filled }
+    requires room { vec_len bytes.old + byte_count filled ≤ vec_capacity bytes.old }
+    ensures bits { byte_bits bytes.new.items ++ bits_of result.1 result.0 ≡ byte_bits bytes.old.items ++ bits_of filled pending }
+    ensures few { result.1 < 8 }
+    ensures fits { result.0 < 2 ^ result.1 }
+    ensures room { vec_len bytes.new + byte_count result.1 ≤ vec_capacity bytes.new }
+{
+    let mut pending = pending;
+    let mut filled = filled;
+    while filled >= 8 {
+        filled -= 8;
+        // There is room for it.
+        let _ = bytes.push((pending >> filled) as u8);
+        pending %= 1 << filled;
+    }
+    (pending, filled)
+}
+
 /// Fields written bit by bit, each most significant bit first. It is seen as the bits so far.
 #[derive(Drop)]
 pub struct BitWriter {
-    /// The whole bytes.
+    /// The bytes that are written.
     bytes: Vec<u8>,
-    /// The bits of the byte that is not whole yet, as a number.
-    pending: u8,
+    /// The bits behind them that are no bytes yet, as a number.
+    pending: u64,
     /// How many these are.
     filled: u32,
 }
@@ -26,7 +47,7 @@ impl Model for BitWriter {
 
     ghost view = { λ w. byte_bits w.bytes.items ++ bits_of w.filled w.pending };
 
-    ghost invariant = { λ w. (w.filled < 8)
+    ghost invariant = { λ w. (w.filled ≤ 64)
         × (w.pending < 2 ^ w.filled)
         × (vec_len w.bytes + byte_count w.filled ≤ vec_capacity w.bytes) };
 }
@@ -58,16 +79,12 @@ impl BitWriter {
         ensures written { OnOk result (self.new ≡ self.old ++ bits_of width value) }
         ensures refused { OnErr result (self.new ≡ self.old) }
     {
-        let mut filled = self.filled + width;
-        self.bytes.reserve(filled.div_ceil(8) as usize)?;
-        let mut pending = u64::from(self.pending) << width | u64::from(value);
-        while filled >= 8 {
-            filled -= 8;
-            // There is room for it.
-            let _ = self.bytes.push((pending >> filled) as u8);
-            pending %= 1 << filled;
+        if self.filled + width > u64::BITS {
+            (self.pending, self.filled) = spill(&mut self.bytes, self.pending, self.filled);
         }
-        self.pending = pending as u8;
+        let filled = self.filled + width;
+        self.bytes.reserve(filled.div_ceil(8) as usize)?;
+        self.pending = self.pending << width | u64::from(value);
         self.filled = filled;
         Ok(())
     }
@@ -77,9 +94,10 @@ impl BitWriter {
         ensures { result.items ≡ bytes_of (padded_bits self) }
     {
         let mut bytes = self.bytes;
-        if self.filled > 0 {
+        let (pending, filled) = spill(&mut bytes, self.pending, self.filled);
+        if filled > 0 {
             // There is room for it.
-            let _ = bytes.push(self.pending << (8 - self.filled));
+            let _ = bytes.push((pending << (8 - filled)) as u8);
         }
         bytes
     }
