@@ -171,6 +171,49 @@ fn copies(alloc: Global, sight: &Sight, log: &Record) -> Result<(Published, Publ
     Ok((first, second))
 }
 
+/// Both ends of the copies for the record, of which readers see the one, with room for so many of them.
+fn ends<R: Wait>(
+    rt: &R,
+    alloc: Global,
+    sight: &Sight,
+    log: &Record,
+    readers: usize,
+) -> Result<Ends, Memory>
+    requires same { sight.now.history ≡ log.now }
+    requires readers { (0 < readers) × (readers < 2 ^ 32) }
+    ensures shown { IfOk result (λ writer. writer.desk.shown.value.sight ≡ sight.now) }
+    ensures knows { IfOk result (λ writer. known_to writer.desk.place ≡ knower_of sight.now) }
+{
+    let (first, second) = copies(alloc, sight, log)?;
+    let (writer, is_shown) = turn(rt, Writer::new(alloc, first, second, readers)?);
+    if !is_shown {
+        let _ = writer.take(rt);
+        return Err(Memory);
+    }
+    Ok(writer)
+}
+
+/// So many eyes, each as [`eye`] makes it.
+fn eyes<J: HistoryName>(
+    alloc: Global,
+    writer: &mut Ends,
+    sight: &Sight,
+    events: &Arc<Events<J>>,
+    readers: usize,
+) -> Result<Vec<Eye<J>>, Memory>
+    requires knows { known_to writer.old.desk.place ≡ knower J.book (known_to writer.old.desk.place).entries }
+    requires book { sight.now.book ≡ J.book }
+    ensures shown { writer.new.desk.shown.value ≡ writer.old.desk.shown.value }
+    ensures eyes { IfOk result (λ eyes. eyes.items
+        ≡ replicate readers (watching sight.now.history (known_to writer.old.desk.place).entries)) }
+{
+    let mut eyes = Vec::with_capacity(alloc, readers)?;
+    for _reader in 0..readers {
+        eyes.push_reserved(eye(writer, sight, events)?);
+    }
+    Ok(eyes)
+}
+
 impl<J: HistoryName> Press<J> {
     /// A press over the record, with `readers` eyes. The journal is that of its history, in which nothing stands yet.
     ///
@@ -194,31 +237,24 @@ impl<J: HistoryName> Press<J> {
         log.right();
         let events = no_events(alloc, room_for(has_events, log))?;
         add_if(rt, has_events, &events, &sight, log)?;
-        let mut eyes = Vec::with_capacity(alloc, readers)?;
-        let (first, second) = copies(alloc, &sight, log)?;
-        let (mut writer, is_shown) = turn(rt, Writer::new(alloc, first, second, readers)?);
-        if !is_shown {
-            let _ = writer.take(rt);
-            return Err(Memory);
-        }
-        for _reader in 0..readers {
-            match eye(&mut writer, &sight, &events) {
-                Ok(eye) => eyes.push_reserved(eye),
-                Err(fault) => {
-                    let _ = writer.take(rt);
-                    return Err(fault);
-                }
+        let mut writer = ends(rt, alloc, &sight, log, readers)?;
+        match eyes(alloc, &mut writer, &sight, &events, readers) {
+            Ok(eyes) => {
+                let press = Press {
+                    writer,
+                    head,
+                    sight,
+                    events,
+                    has_events,
+                    of: PhantomData,
+                };
+                Ok((press, eyes))
+            }
+            Err(fault) => {
+                let _ = writer.take(rt);
+                Err(fault)
             }
         }
-        let press = Press {
-            writer,
-            head,
-            sight,
-            events,
-            has_events,
-            of: PhantomData,
-        };
-        Ok((press, eyes))
     }
 
     /// All that the press was handed, for an eye to learn.
