@@ -22,4 +22,8 @@ impl Sink for NullSink {
     fn flush(&mut self) -> Result<(), WriteFailed> {
         Ok(())
     }
+
+    fn has_failed(&self) -> bool {
+        false
+    }
 }

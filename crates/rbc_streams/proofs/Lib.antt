@@ -4,3 +4,4 @@ pub mod LineLemmas
 pub mod PieceLemmas
 mod UnderWayLemmas
 pub mod WritingLemmas
+pub mod EmittingLemmas

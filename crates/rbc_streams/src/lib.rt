@@ -17,6 +17,6 @@ pub use rbc_model::{Memory, SessionFault};
 pub use retried::{LastCall, Retried};
 pub use session::{next_line, serve_lines, serve_lines_with};
 pub use stream::{Buffered, Stream};
-pub use streams::{ReadFailed, Sink, Source, WriteFailed, put};
+pub use streams::{ReadFailed, Sink, Source, WriteFailed, emit, outcome, put};
 pub use text::Text;
 pub use whole::{WholeFault, read_whole};

@@ -104,4 +104,8 @@ impl<T: Write + Drop> Sink for Stream<Buffered<T>> {
         self.inner.failed = flushed.is_err();
         flushed.map_err(|_| WriteFailed)
     }
+
+    fn has_failed(&self) -> bool {
+        self.inner.failed
+    }
 }

@@ -4,6 +4,7 @@ ghost use Rattle.std.specs.Prelude.{◌≡◌, ◌≤◌, ◌<◌, ℕ, List, []
 ghost use Rattle.std.specs.Io.KnownBytes.{ReadConsumes, WriteAppends, Keeps};
 ghost use Rattle.rbc_model.specs.Sessions.{Prints};
 ghost use Rattle.rbc_streams.specs.Calls.{finds_end};
+ghost use Rattle.rbc_streams.specs.Emitting.{Emits};
 ghost use Rattle.rbc_model.specs.declared.sessions.SessionFault.TheVariants.{Read as ReadFault, Write as WriteFault};
 
 use rbc_model::SessionFault;
@@ -83,6 +84,10 @@ pub trait Sink {
         ensures bytes { Keeps (written self.old) (written self.new) }
         ensures handed_on { OnOk result (held_back self.new ≡ []) }
         ensures failed { failed self.new ≡ is_err result };
+
+    /// Whether a write or a flush has failed.
+    fn has_failed(&self) -> bool
+        ensures { result ≡ failed self.now };
 }
 
 /// Writes all of these bytes, in as many pieces as the writer takes.
@@ -96,6 +101,32 @@ pub fn put<W: Sink>(writer: &mut W, bytes: &[u8]) -> Result<(), WriteFailed>
     let mut count = 0;
     while count < bytes.len() {
         count += writer.write(&bytes[count..])?;
+    }
+    Ok(())
+}
+
+/// Writes all of these bytes, if no write has failed yet; else nothing. The fault is kept: [`outcome`] tells it.
+pub fn emit<W: Sink>(writer: &mut W, bytes: &[u8])
+    ensures { Emits W.written W.failed writer.old writer.new bytes.now }
+{
+    if writer.has_failed() {
+        return;
+    }
+    let _told_later = put(writer, bytes);
+}
+
+/// What came of all that was emitted since a moment at which the writer had not failed: the texts are written, or a part of them,
+/// from their start.
+///
+/// # Errors
+/// A write failed.
+pub fn outcome<W: Sink>(writer: &W) -> Result<(), WriteFailed>
+    ensures failed { W.failed writer.now ≡ is_err result }
+    ensures printed { (before : W) (text : List ℕ) → W.failed before ≡ false → Emits W.written W.failed before writer.now text
+        → Prints (W.written before) (W.written writer.now) (W.failed writer.now) text result }
+{
+    if writer.has_failed() {
+        return Err(WriteFailed);
     }
     Ok(())
 }

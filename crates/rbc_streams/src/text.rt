@@ -56,4 +56,8 @@ impl Sink for Text {
     fn flush(&mut self) -> Result<(), WriteFailed> {
         Ok(())
     }
+
+    fn has_failed(&self) -> bool {
+        self.failed
+    }
 }

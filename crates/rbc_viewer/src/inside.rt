@@ -71,4 +71,8 @@ impl<W: Sink> Sink for Escaping<W> {
     fn flush(&mut self) -> Result<(), WriteFailed> {
         self.writer.flush()
     }
+
+    fn has_failed(&self) -> bool {
+        self.writer.has_failed()
+    }
 }
