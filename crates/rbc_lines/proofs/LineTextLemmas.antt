@@ -91,7 +91,3 @@ scene_lines-is track version scene locks same =
     scene_lines-cut track version scene
     ∙ sym (λ j. line_of (codes "scene" ∷ decimal version ∷ [])
     ++ (flat_map line_of (locked_lines track 0 (same j)) ++ (flat_map line_of (flat_map (train_lines track scene) scene.trains) ++ codes "done\n")))
-
--- a text that is cut, its first part in other words
-pub other_first : (text first other rest : List ℕ) → text ≡ first ++ rest → first ≡ other → text ≡ other ++ rest
-other_first text first other rest cut same = cut ∙ ap (λ l. l ++ rest) same

@@ -1,5 +1,5 @@
 -- The legs of a train, as the lines that tell them.
-use Rattle.std.proofs.Common.{◌≡◌, ℕ, zero, suc, ◌+◌, ◌<◌, true, false, List, [], ◌∷◌, ◌++◌, refl, sym, ap, ◌∙◌, subst, arith, append-nil, take, drop, get_or, length, map}
+use Rattle.std.proofs.Common.{◌≡◌, ℕ, zero, suc, ◌<◌, true, false, List, [], ◌∷◌, ◌++◌, refl, sym, ap, ◌∙◌, subst, arith, take, drop, length, map}
 use Rattle.std.specs.Prelude.{◌==◌, All, flat_map, codes, decimal}
 use Rattle.std.proofs.lemmas.List.{length-drop}
 use Rattle.std.proofs.lemmas.List.Elements.{All-take, All-drop}
@@ -11,10 +11,6 @@ use Rattle.rbc_model.specs.Trains.{Train}
 use Rattle.rbc_model.specs.SceneLines.{in_front, pieces_of, train_line, way_lines}
 use Rattle.rbc_model.specs.SessionReply.{leg_word}
 use Rattle.rbc_model.specs.Words.{line_of}
-use Rattle.rbc_words.specs.LineWords.{word_text}
-use Rattle.rbc_words.specs.PriceText.{spaced}
-use Rattle.rbc_words.specs.declared.line_words.Word.{Word}
-use Rattle.rbc_words.proofs.SpacedLemmas.{spaced-next}
 use Rattle.rbc_lines.specs.Pieces.{later_pieces, later_lines}
 
 -- a line's pieces are as many legs as there is room for, and the pieces of the legs behind them
@@ -23,15 +19,6 @@ pieces_of-cut zero [] = refl
 pieces_of-cut (suc room) [] = refl
 pieces_of-cut zero (leg ∷ legs) = refl
 pieces_of-cut (suc room) (leg ∷ legs) = ap (in_front leg) (pieces_of-cut room legs)
-
--- the first of the legs that are left, behind a space, and those behind it
-pub legs-next : (track : Track) (legs : Line) (index : ℕ) (leg : Leg) (word : Word) → index < length legs → leg ≡ get_or legs index leg → word_text word ≡ leg_word track leg
-    → spaced (map (leg_word track) (drop index legs)) ≡ spaced (map word_text (word ∷ [])) ++ spaced (map (leg_word track) (drop (index + 1) legs))
-legs-next track legs index leg word inside same says =
-    let rest = spaced (map (leg_word track) (drop (index + 1) legs)) in
-    spaced-next (leg_word track) legs index leg inside same
-    ∙ ap (λ w. (32 ∷ w) ++ rest) (sym says)
-    ∙ ap (λ w. (32 ∷ w) ++ rest) (sym (append-nil (word_text word)))
 
 -- the line of a train's legs, by their first piece
 abbrev pub along_line : Track → Train → Line → List ℕ

@@ -4,9 +4,10 @@ ghost use Rattle.std.specs.Prelude.{◌≡◌, ◌<◌, ◌∷◌, ◌++◌, [],
 ghost use Rattle.rbc_model.specs.HistoryText.{route_word};
 ghost use Rattle.rbc_model.specs.SceneLines.{locked_line, locked_lines, row_lines, scene_lines, train_lines};
 ghost use Rattle.rbc_model.specs.Rows.{leg_or_none, rows_text};
-ghost use Rattle.rbc_model.specs.Sessions.{Prints, WritesText};
+ghost use Rattle.rbc_model.specs.Sessions.{WritesText};
 ghost use Rattle.rbc_model.specs.TrackLines.{named_leg};
 ghost use Rattle.rbc_model.specs.Words.{line_of};
+ghost use Rattle.rbc_streams.specs.Emitting.{Emits};
 ghost use Rattle.rbc_words.specs.LineWords.{word_text};
 ghost use Rattle.rbc_scene_laws.specs.Good.{IsGoodLocks};
 ghost use Rattle.rbc_lines.specs.Faults.{session_fault};
@@ -14,12 +15,12 @@ ghost use Rattle.rbc_lines.specs.Nexts.{next_of};
 ghost use Rattle.rbc_lines.specs.declared.scene.LinesFault.TheVariants.{Memory as NoMemory, Write as NoWrite};
 
 use crate::next::{Next, nexts_of};
-use crate::train::print_train;
+use crate::train::emit_train;
 use rbc_model::{Leg, Lock, Memory, RouteId, SectionId};
 use rbc_scene::{Locks, Scene};
-use rbc_streams::{SessionFault, Sink, WriteFailed, put};
+use rbc_streams::{SessionFault, Sink, WriteFailed, emit, outcome};
 use rbc_track::Track;
-use rbc_words::{Word, leg_word, print_line};
+use rbc_words::{Word, emit_line, leg_word};
 use std::alloc::Global;
 
 /// Why a scene is not written to its end.
@@ -81,17 +82,11 @@ fn leg_or_none<'line>(track: &Track, leg: Option<Leg>) -> Word<'line>
 }
 
 /// Writes a locked section.
-fn print_locked<W: Sink>(
-    track: &Track,
-    section: SectionId,
-    lock: &Lock,
-    writer: &mut W,
-) -> Result<(), WriteFailed>
-    requires going { W.failed writer.old ≡ false }
+fn emit_locked<W: Sink>(track: &Track, section: SectionId, lock: &Lock, writer: &mut W)
     requires section { section < length track.now.sections }
     requires before { IfSome lock.now.before (λ leg. leg.section < length track.now.sections) }
-    ensures { Prints (W.written writer.old) (W.written writer.new) (W.failed writer.new)
-        (line_of (locked_line track.now section lock.now)) result }
+    ensures { Emits W.written W.failed writer.old writer.new
+        (line_of (locked_line track.now section lock.now)) }
 {
     let leg = Leg {
         section,
@@ -102,41 +97,33 @@ fn print_locked<W: Sink>(
         route_word(track, lock.route),
         leg_or_none(track, lock.before),
     ];
-    print_line(b"locked", &words, writer)
+    emit_line(b"locked", &words, writer);
 }
 
 /// Writes the row of a section, if it has one.
-fn print_row<W: Sink>(
-    track: &Track,
-    section: SectionId,
-    row: Option<Lock>,
-    writer: &mut W,
-) -> Result<(), WriteFailed>
-    requires going { W.failed writer.old ≡ false }
+fn emit_row<W: Sink>(track: &Track, section: SectionId, row: Option<Lock>, writer: &mut W)
     requires section { section < length track.now.sections }
     requires before { IfSome row (λ lock. IfSome lock.before (λ leg. leg.section < length track.now.sections)) }
-    ensures { Prints (W.written writer.old) (W.written writer.new) (W.failed writer.new)
-        (rows_text (row_lines track.now section row)) result }
+    ensures { Emits W.written W.failed writer.old writer.new
+        (rows_text (row_lines track.now section row)) }
 {
     match row {
-        Some(lock) => print_locked(track, section, &lock, writer),
-        None => Ok(()),
+        Some(lock) => emit_locked(track, section, &lock, writer),
+        None => {}
     }
 }
 
 /// Writes the locked sections in the order of the track.
-fn print_locks<W: Sink>(track: &Track, locks: &Locks, writer: &mut W) -> Result<(), WriteFailed>
-    requires going { W.failed writer.old ≡ false }
+fn emit_locks<W: Sink>(track: &Track, locks: &Locks, writer: &mut W)
     requires good { IsGoodLocks track.now locks.now }
-    ensures { Prints (W.written writer.old) (W.written writer.new) (W.failed writer.new)
-        (rows_text (locked_lines track.now 0 locks.now)) result }
+    ensures { Emits W.written W.failed writer.old writer.new
+        (rows_text (locked_lines track.now 0 locks.now)) }
 {
     track.known();
     for index in 0..locks.section_count() {
         let section = SectionId::new(index);
-        print_row(track, section, locks.row(section), writer)?;
+        emit_row(track, section, locks.row(section), writer);
     }
-    Ok(())
 }
 
 /// The first of these, and those behind it.
@@ -148,48 +135,34 @@ fn first_and_rest(nexts: &[Next]) -> (&Next, &[Next])
 }
 
 /// Writes the trains in order of arrival, of which it is known what each would be granted now.
-fn print_trains<W: Sink>(
-    track: &Track,
-    scene: &Scene,
-    nexts: &[Next],
-    writer: &mut W,
-) -> Result<(), WriteFailed>
-    requires going { W.failed writer.old ≡ false }
+fn emit_trains<W: Sink>(track: &Track, scene: &Scene, nexts: &[Next], writer: &mut W)
     requires track { track.now ≡ scene.now.track }
     requires nexts { nexts.now ≡ map (next_of scene.now.track scene.now.scene) scene.now.scene.trains }
-    ensures { Prints (W.written writer.old) (W.written writer.new) (W.failed writer.new)
-        (rows_text (flat_map (train_lines track.now scene.now.scene) scene.now.scene.trains)) result }
+    ensures { Emits W.written W.failed writer.old writer.new
+        (rows_text (flat_map (train_lines track.now scene.now.scene) scene.now.scene.trains)) }
 {
     scene.known();
     let mut rest = nexts;
     for train in scene.book().trains() {
         train.known();
         let (next, more) = first_and_rest(rest);
-        print_train(track, train, next, writer)?;
+        emit_train(track, train, next, writer);
         rest = more;
     }
-    Ok(())
 }
 
 /// Writes the lines of a scene, of which it is known what each train would be granted now.
-fn print_all<W: Sink>(
-    track: &Track,
-    version: u64,
-    scene: &Scene,
-    nexts: &[Next],
-    writer: &mut W,
-) -> Result<(), WriteFailed>
-    requires going { W.failed writer.old ≡ false }
+fn emit_all<W: Sink>(track: &Track, version: u64, scene: &Scene, nexts: &[Next], writer: &mut W)
     requires track { track.now ≡ scene.now.track }
     requires nexts { nexts.now ≡ map (next_of scene.now.track scene.now.scene) scene.now.scene.trains }
-    ensures { Prints (W.written writer.old) (W.written writer.new) (W.failed writer.new)
-        (scene_lines track.now version scene.now.scene) result }
+    ensures { Emits W.written W.failed writer.old writer.new
+        (scene_lines track.now version scene.now.scene) }
 {
     scene.known();
-    print_line(b"scene", &[Word::Count(version)], writer)?;
-    print_locks(track, scene.locks(), writer)?;
-    print_trains(track, scene, nexts, writer)?;
-    put(writer, b"done\n")
+    emit_line(b"scene", &[Word::Count(version)], writer);
+    emit_locks(track, scene.locks(), writer);
+    emit_trains(track, scene, nexts, writer);
+    emit(writer, b"done\n");
 }
 
 /// Writes the lines of a scene: its version, the locked sections, and the trains, each with what it would be granted now. Each
@@ -215,6 +188,7 @@ pub fn print_scene<W: Sink>(
     ensures going { OnOk result (W.failed writer.new ≡ false) }
 {
     let nexts = nexts_of(alloc, scene)?;
-    print_all(scene.track(), version, scene, nexts.as_slice(), writer)?;
+    emit_all(scene.track(), version, scene, nexts.as_slice(), writer);
+    outcome(writer)?;
     Ok(())
 }

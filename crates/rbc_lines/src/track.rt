@@ -9,6 +9,7 @@ ghost use Rattle.rbc_model.specs.Sessions.{Prints};
 ghost use Rattle.rbc_model.specs.StepsReply.{run_words};
 ghost use Rattle.rbc_model.specs.TrackLines.{format_number, track_row, named_leg, track_lines, read_track_lines};
 ghost use Rattle.rbc_model.specs.Words.{line_of};
+ghost use Rattle.rbc_streams.specs.Emitting.{Emits};
 ghost use Rattle.rbc_words.specs.LineWords.{word_text};
 ghost use Rattle.rbc_words.specs.PriceText.{spaced};
 ghost use Rattle.rbc_lines.specs.TrackLaws.{TrackLinesAreReadBack, ReadLinesAreOfTracks};
@@ -17,9 +18,9 @@ ghost use Rattle.rbc_lines.specs.TrackText.{LinkIsOfTrack, RouteIsOfTrack, Entry
 
 use rbc_model::{BaliseGroup, Format, Leg, Link};
 use rbc_steps::{Grade, Speed};
-use rbc_streams::{Sink, WriteFailed, put};
+use rbc_streams::{Sink, WriteFailed, emit, outcome};
 use rbc_track::{Name, Route, Section, Track};
-use rbc_words::{Spelled, Word, leg_word, print_line, print_runs, print_words};
+use rbc_words::{Spelled, Word, emit_line, emit_runs, emit_words, leg_word};
 
 /// What the lines of a track tell: each sound track whose names are names is read back from its lines, and what is read
 /// is a sound track, from its own lines and no other text.
@@ -74,13 +75,21 @@ pub fn print_track<W: Sink>(track: &Track, writer: &mut W) -> Result<(), WriteFa
     ensures { Prints (W.written writer.old) (W.written writer.new) (W.failed writer.new)
         (track_lines track.now) result }
 {
+    emit_track(track, writer);
+    outcome(writer)
+}
+
+fn emit_track<W: Sink>(track: &Track, writer: &mut W)
+    ensures { Emits W.written W.failed writer.old writer.new
+        (track_lines track.now) }
+{
     let sections = track.sections();
-    print_head(track, writer)?;
-    print_sections(sections, writer)?;
-    print_links(track, writer)?;
-    print_groups(track, writer)?;
-    print_routes(track, writer)?;
-    put(writer, b"done\n")
+    emit_head(track, writer);
+    emit_sections(sections, writer);
+    emit_links(track, writer);
+    emit_groups(track, writer);
+    emit_routes(track, writer);
+    emit(writer, b"done\n");
 }
 
 /// The number of a format in a track file.
@@ -94,113 +103,93 @@ fn format_number(format: Format) -> u32
 }
 
 /// Writes the first line: the format, and how many steps the profiles may have.
-fn print_head<W: Sink>(track: &Track, writer: &mut W) -> Result<(), WriteFailed>
-    requires { W.failed writer.old ≡ false }
-    ensures { Prints (W.written writer.old) (W.written writer.new) (W.failed writer.new)
-        (line_of (track_row track.now.format track.now.speed_steps track.now.grade_steps)) result }
+fn emit_head<W: Sink>(track: &Track, writer: &mut W)
+    ensures { Emits W.written W.failed writer.old writer.new
+        (line_of (track_row track.now.format track.now.speed_steps track.now.grade_steps)) }
 {
     let words = [
         Word::Number(format_number(track.format())),
         Word::Count(track.speed_steps() as u64),
         Word::Count(track.grade_steps() as u64),
     ];
-    print_line(b"track", &words, writer)
+    emit_line(b"track", &words, writer);
 }
 
 /// Writes the lines of sections.
-fn print_sections<W: Sink>(sections: &[Section], writer: &mut W) -> Result<(), WriteFailed>
-    requires { W.failed writer.old ≡ false }
-    ensures { Prints (W.written writer.old) (W.written writer.new) (W.failed writer.new)
-        (flat_map section_text sections.now) result }
+fn emit_sections<W: Sink>(sections: &[Section], writer: &mut W)
+    ensures { Emits W.written W.failed writer.old writer.new
+        (flat_map section_text sections.now) }
 {
     for section in sections {
-        print_section(section, writer)?;
+        emit_section(section, writer);
     }
-    Ok(())
 }
 
 /// Writes the lines of a section: its length in metres, its speeds in km/h, and its gradients in per mille.
-fn print_section<W: Sink>(section: &Section, writer: &mut W) -> Result<(), WriteFailed>
-    requires { W.failed writer.old ≡ false }
-    ensures { Prints (W.written writer.old) (W.written writer.new) (W.failed writer.new)
-        (section_text section.now) result }
+fn emit_section<W: Sink>(section: &Section, writer: &mut W)
+    ensures { Emits W.written W.failed writer.old writer.new
+        (section_text section.now) }
 {
     let name = section.name();
     let speeds: &[(u32, Speed)] = section.speeds().runs();
     let grades: &[(u32, Grade)] = section.grades().runs();
     let words = [Word::Name(name), Word::Number(section.length())];
-    print_line(b"section", &words, writer)?;
-    print_level_line(b"speeds", name, speeds, writer)?;
-    print_level_line(b"grades", name, grades, writer)
+    emit_line(b"section", &words, writer);
+    emit_level_line(b"speeds", name, speeds, writer);
+    emit_level_line(b"grades", name, grades, writer);
 }
 
 /// Writes the line of a section's speeds or of its gradients: the first word, the section's name, and the runs.
-fn print_level_line<V: Spelled, W: Sink>(
-    first: &[u8],
-    name: Name,
-    runs: &[(u32, V)],
-    writer: &mut W,
-) -> Result<(), WriteFailed>
-    requires { W.failed writer.old ≡ false }
-    ensures { Prints (W.written writer.old) (W.written writer.new) (W.failed writer.new)
-        (line_of (first.now ∷ name ∷ run_words V.kind runs.now)) result }
+fn emit_level_line<V: Spelled, W: Sink>(first: &[u8], name: Name, runs: &[(u32, V)], writer: &mut W)
+    ensures { Emits W.written W.failed writer.old writer.new
+        (line_of (first.now ∷ name ∷ run_words V.kind runs.now)) }
 {
-    put(writer, first)?;
-    print_words(&[Word::Name(name)], writer)?;
-    print_runs(runs, writer)?;
-    put(writer, b"\n")
+    emit(writer, first);
+    emit_words(&[Word::Name(name)], writer);
+    emit_runs(runs, writer);
+    emit(writer, b"\n");
 }
 
 /// Writes the lines of the links.
-fn print_links<W: Sink>(track: &Track, writer: &mut W) -> Result<(), WriteFailed>
-    requires { W.failed writer.old ≡ false }
-    ensures { Prints (W.written writer.old) (W.written writer.new) (W.failed writer.new)
-        (flat_map (link_text track.now) track.now.links) result }
+fn emit_links<W: Sink>(track: &Track, writer: &mut W)
+    ensures { Emits W.written W.failed writer.old writer.new
+        (flat_map (link_text track.now) track.now.links) }
 {
     // A track's links are between legs of its sections.
     track.known();
     let links = track.links();
     for link in links {
-        print_link(track, link, writer)?;
+        emit_link(track, link, writer);
     }
-    Ok(())
 }
 
-fn print_link<W: Sink>(track: &Track, link: &Link, writer: &mut W) -> Result<(), WriteFailed>
-    requires going { W.failed writer.old ≡ false }
+fn emit_link<W: Sink>(track: &Track, link: &Link, writer: &mut W)
     requires of_track { LinkIsOfTrack track.now link.now }
-    ensures { Prints (W.written writer.old) (W.written writer.new) (W.failed writer.new)
-        (link_text track.now link.now) result }
+    ensures { Emits W.written W.failed writer.old writer.new
+        (link_text track.now link.now) }
 {
     let words = [leg_word(track, link.from), leg_word(track, link.to)];
-    print_line(b"link", &words, writer)
+    emit_line(b"link", &words, writer);
 }
 
 /// Writes the lines of the balise groups.
-fn print_groups<W: Sink>(track: &Track, writer: &mut W) -> Result<(), WriteFailed>
-    requires { W.failed writer.old ≡ false }
-    ensures { Prints (W.written writer.old) (W.written writer.new) (W.failed writer.new)
-        (flat_map (group_text track.now) track.now.groups) result }
+fn emit_groups<W: Sink>(track: &Track, writer: &mut W)
+    ensures { Emits W.written W.failed writer.old writer.new
+        (flat_map (group_text track.now) track.now.groups) }
 {
     // A track's groups stand on its sections.
     track.known();
     let groups = track.groups();
     for group in groups {
-        print_group(track, group, writer)?;
+        emit_group(track, group, writer);
     }
-    Ok(())
 }
 
 /// Writes the line of a balise group: its identity, the leg of its nominal direction, and its offset in metres.
-fn print_group<W: Sink>(
-    track: &Track,
-    group: &BaliseGroup,
-    writer: &mut W,
-) -> Result<(), WriteFailed>
-    requires going { W.failed writer.old ≡ false }
+fn emit_group<W: Sink>(track: &Track, group: &BaliseGroup, writer: &mut W)
     requires of_track { group.now.section < length track.now.sections }
-    ensures { Prints (W.written writer.old) (W.written writer.new) (W.failed writer.new)
-        (group_text track.now group.now) result }
+    ensures { Emits W.written W.failed writer.old writer.new
+        (group_text track.now group.now) }
 {
     let leg = Leg {
         section: group.section,
@@ -211,37 +200,34 @@ fn print_group<W: Sink>(
         leg_word(track, leg),
         Word::Number(group.offset),
     ];
-    print_line(b"group", &words, writer)
+    emit_line(b"group", &words, writer);
 }
 
 /// Writes the lines of the routes.
-fn print_routes<W: Sink>(track: &Track, writer: &mut W) -> Result<(), WriteFailed>
-    requires { W.failed writer.old ≡ false }
-    ensures { Prints (W.written writer.old) (W.written writer.new) (W.failed writer.new)
-        (flat_map (route_text track.now) track.now.routes) result }
+fn emit_routes<W: Sink>(track: &Track, writer: &mut W)
+    ensures { Emits W.written W.failed writer.old writer.new
+        (flat_map (route_text track.now) track.now.routes) }
 {
     // A track's routes are of legs of its sections.
     track.known();
     let routes = track.routes();
     for route in routes {
-        print_route(track, route, writer)?;
+        emit_route(track, route, writer);
     }
-    Ok(())
 }
 
 /// Writes the line of a route: its name, the leg that it is entered from or `-`, and its legs.
-fn print_route<W: Sink>(track: &Track, route: &Route, writer: &mut W) -> Result<(), WriteFailed>
-    requires going { W.failed writer.old ≡ false }
+fn emit_route<W: Sink>(track: &Track, route: &Route, writer: &mut W)
     requires of_track { RouteIsOfTrack track.now route.now }
-    ensures { Prints (W.written writer.old) (W.written writer.new) (W.failed writer.new)
-        (route_text track.now route.now) result }
+    ensures { Emits W.written W.failed writer.old writer.new
+        (route_text track.now route.now) }
 {
     let words = [Word::Name(route.name()), entry_word(track, route.after())];
     let legs = route.legs();
-    put(writer, b"route")?;
-    print_words(&words, writer)?;
-    print_legs(track, legs, writer)?;
-    put(writer, b"\n")
+    emit(writer, b"route");
+    emit_words(&words, writer);
+    emit_legs(track, legs, writer);
+    emit(writer, b"\n");
 }
 
 /// The leg that a route is entered from as a word: `-` if there is none.
@@ -256,14 +242,12 @@ fn entry_word<'line>(track: &Track, entry: Option<Leg>) -> Word<'line>
 }
 
 /// Writes legs, each behind a space.
-fn print_legs<W: Sink>(track: &Track, legs: &[Leg], writer: &mut W) -> Result<(), WriteFailed>
-    requires going { W.failed writer.old ≡ false }
+pub(crate) fn emit_legs<W: Sink>(track: &Track, legs: &[Leg], writer: &mut W)
     requires of_track { LegsAreOfTrack track.now legs.now }
-    ensures { Prints (W.written writer.old) (W.written writer.new) (W.failed writer.new)
-        (spaced (map (leg_word track.now) legs.now)) result }
+    ensures { Emits W.written W.failed writer.old writer.new
+        (spaced (map (leg_word track.now) legs.now)) }
 {
     for leg in legs {
-        print_words(&[leg_word(track, *leg)], writer)?;
+        emit_words(&[leg_word(track, *leg)], writer);
     }
-    Ok(())
 }

@@ -9,9 +9,9 @@ ghost use Rattle.rbc_server.specs.Serving.{TellsAll, TellsAnswer, TellsGrant, An
 
 use rbc_model::TrainId;
 use rbc_sessions::replies::{SessionRefusal, SessionReply, print};
-use rbc_sessions::words::print_number;
+use rbc_sessions::words::emit_number;
 use rbc_sessions::{Answer, Granted, Outcome, Track, told_of};
-use rbc_streams::{Sink, WriteFailed, put};
+use rbc_streams::{Sink, WriteFailed, emit, outcome};
 
 /// Prints what the trains of a sweep were answered, in order, and hands it on.
 ///
@@ -98,7 +98,8 @@ fn print_count<W: Sink>(word: &[u8], number: u64, writer: &mut W) -> Result<(), 
     ensures { Prints (W.written writer.old) (W.written writer.new) (W.failed writer.new)
         (word.now ++ (decimal number ++ 10 ∷ [])) result }
 {
-    put(writer, word)?;
-    print_number(number, writer)?;
-    put(writer, b"\n")
+    emit(writer, word);
+    emit_number(number, writer);
+    emit(writer, b"\n");
+    outcome(writer)
 }

@@ -7,11 +7,12 @@ ghost use Rattle.rbc_model.specs.HistoryText.{entry_request, history_text};
 ghost use Rattle.rbc_model.specs.SessionText.{said_words};
 ghost use Rattle.rbc_model.specs.Sessions.{Prints};
 ghost use Rattle.rbc_model.specs.Words.{line_of};
+ghost use Rattle.rbc_streams.specs.Emitting.{Emits};
 ghost use Rattle.rbc_sweep.specs.Entries.{entry_of};
 ghost use Rattle.rbc_session_laws.specs.Retelling.{IsEntryOfTrack, IsItsSession, IsRetold};
 
-use rbc_replies::words::{Request, print_request, told_request};
-use rbc_streams::{Sink, WriteFailed};
+use rbc_replies::words::{Request, emit_request, told_request};
+use rbc_streams::{Sink, WriteFailed, outcome};
 use rbc_sweep::{Entry, Record, Track};
 
 /// Writes the history of a record as lines: what was told as it is told, and for what was granted the request for it.
@@ -28,37 +29,31 @@ pub fn print_history<W: Sink>(history: &Record, writer: &mut W) -> Result<(), Wr
     ensures again { IsItsSession (begin_of history.now) history.now.entries }
     ensures handed_on { OnOk result (W.held_back writer.new ≡ []) }
 {
-    print_entries(history.track(), history.entries(), writer)?;
+    emit_entries(history.track(), history.entries(), writer);
+    outcome(writer)?;
     writer.flush()
 }
 
 /// Writes the lines of entries, in order.
-fn print_entries<W: Sink>(
-    track: &Track,
-    entries: &[Entry],
-    writer: &mut W,
-) -> Result<(), WriteFailed>
-    requires going { W.failed writer.old ≡ false }
+fn emit_entries<W: Sink>(track: &Track, entries: &[Entry], writer: &mut W)
     requires of_track { (place : ℕ) (entry : EntryTold) → slice_get (map entry_of entries.now) place ≡ Some entry
         → IsEntryOfTrack track.now entry }
-    ensures { Prints (W.written writer.old) (W.written writer.new) (W.failed writer.new)
-        (history_text track.now (map entry_of entries.now)) result }
+    ensures { Emits W.written W.failed writer.old writer.new
+        (history_text track.now (map entry_of entries.now)) }
 {
     for entry in entries {
-        print_entry(track, entry, writer)?;
+        emit_entry(track, entry, writer);
     }
-    Ok(())
 }
 
 /// Writes the line that leads to an entry.
-fn print_entry<W: Sink>(track: &Track, entry: &Entry, writer: &mut W) -> Result<(), WriteFailed>
-    requires going { W.failed writer.old ≡ false }
+fn emit_entry<W: Sink>(track: &Track, entry: &Entry, writer: &mut W)
     requires of_track { IsEntryOfTrack track.now (entry_of entry.now) }
-    ensures { Prints (W.written writer.old) (W.written writer.new) (W.failed writer.new)
-        (line_of (said_words (entry_request track.now (entry_of entry.now)))) result }
+    ensures { Emits W.written W.failed writer.old writer.new
+        (line_of (said_words (entry_request track.now (entry_of entry.now)))) }
 {
     match entry {
-        Entry::Heard(told) => print_request(&told_request(track, told), writer),
-        Entry::Granted(grant) => print_request(&Request::Ask(grant.train()), writer),
+        Entry::Heard(told) => emit_request(&told_request(track, told), writer),
+        Entry::Granted(grant) => emit_request(&Request::Ask(grant.train()), writer),
     }
 }

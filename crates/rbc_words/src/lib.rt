@@ -12,15 +12,15 @@ mod steps_request;
 mod tail_buffer;
 mod words;
 
-pub use line_words::{Word, leg_word, print_line, print_words, section_word};
-pub use printing::{print_hex, print_number, print_signed};
+pub use line_words::{Word, emit_line, emit_words, leg_word, print_line, section_word};
+pub use printing::{emit_hex, emit_number, emit_signed};
 pub use rbc_model::{LineFault, OrMemory, StepsRefusal};
 pub use rbc_streams::{Advance, LineReader, SessionFault, Sink, Source, Stream, WriteFailed};
-pub use session_line::{print_report, print_request, told_request};
+pub use session_line::{emit_report, emit_request, print_request, told_request};
 pub use session_request::{Request, parse, report_in};
 pub use spelled::Spelled;
 pub use steps_reply::{
-    Basis, print_certificate, print_certified, print_last, print_refusal, print_runs,
+    Basis, emit_certificate, emit_certified, emit_last, emit_refusal, emit_runs,
 };
 pub use steps_request::{StepsLine, StepsRequest, parse_steps, request_in};
 pub use tail_buffer::TailBuffer;

@@ -1,17 +1,18 @@
 //! Words of a line that is printed.
 
-ghost use Rattle.std.specs.Prelude.{◌≡◌, ◌<◌, ◌∷◌, false, length, map, decimal};
+ghost use Rattle.std.specs.Prelude.{◌≡◌, false, ◌<◌, ◌∷◌, length, map, decimal};
 ghost use Rattle.rbc_model.specs.Names.{direction_text, leg_text};
 ghost use Rattle.rbc_model.specs.SessionReply.{section_word, leg_word};
 ghost use Rattle.rbc_model.specs.SessionText.{group_word};
 ghost use Rattle.rbc_model.specs.Sessions.{Prints};
+ghost use Rattle.rbc_streams.specs.Emitting.{Emits};
 ghost use Rattle.rbc_model.specs.Words.{line_of};
 ghost use Rattle.rbc_words.specs.LineWords.{word_text};
 ghost use Rattle.rbc_words.specs.PriceText.{spaced};
 
-use crate::{print_number, print_signed};
+use crate::{emit_number, emit_signed};
 use rbc_model::{Direction, GroupName, Leg, SectionId};
-use rbc_streams::{Sink, WriteFailed, put};
+use rbc_streams::{Sink, WriteFailed, emit, outcome};
 use rbc_track::{LegName, Name, Track};
 
 /// A word of a line that is printed.
@@ -59,61 +60,61 @@ pub fn print_line<W: Sink>(first: &[u8], others: &[Word], writer: &mut W) -> Res
     ensures { Prints (W.written writer.old) (W.written writer.new) (W.failed writer.new)
         (line_of (first.now ∷ map word_text others.now)) result }
 {
-    put(writer, first)?;
-    print_words(others, writer)?;
-    put(writer, b"\n")
+    emit_line(first, others, writer);
+    outcome(writer)
+}
+
+/// Writes a line: its first word, and others behind it.
+pub fn emit_line<W: Sink>(first: &[u8], others: &[Word], writer: &mut W)
+    ensures { Emits W.written W.failed writer.old writer.new
+        (line_of (first.now ∷ map word_text others.now)) }
+{
+    emit(writer, first);
+    emit_words(others, writer);
+    emit(writer, b"\n");
 }
 
 /// Writes words, each behind a space.
-///
-/// # Errors
-///
-/// `WriteFailed`, where the writer fails. Then a part of the words stands, from their start.
-pub fn print_words<W: Sink>(words: &[Word], writer: &mut W) -> Result<(), WriteFailed>
-    requires { W.failed writer.old ≡ false }
-    ensures { Prints (W.written writer.old) (W.written writer.new) (W.failed writer.new)
-        (spaced (map word_text words.now)) result }
+pub fn emit_words<W: Sink>(words: &[Word], writer: &mut W)
+    ensures { Emits W.written W.failed writer.old writer.new
+        (spaced (map word_text words.now)) }
 {
     for word in words {
-        print_spaced(word, writer)?;
+        emit_spaced(word, writer);
     }
-    Ok(())
 }
 
 /// Writes a space and a word.
-fn print_spaced<W: Sink>(word: &Word, writer: &mut W) -> Result<(), WriteFailed>
-    requires { W.failed writer.old ≡ false }
-    ensures { Prints (W.written writer.old) (W.written writer.new) (W.failed writer.new)
-        (32 ∷ word_text word.now) result }
+fn emit_spaced<W: Sink>(word: &Word, writer: &mut W)
+    ensures { Emits W.written W.failed writer.old writer.new
+        (32 ∷ word_text word.now) }
 {
-    put(writer, b" ")?;
-    print_word(word, writer)
+    emit(writer, b" ");
+    emit_word(word, writer);
 }
 
-fn print_word<W: Sink>(word: &Word, writer: &mut W) -> Result<(), WriteFailed>
-    requires { W.failed writer.old ≡ false }
-    ensures { Prints (W.written writer.old) (W.written writer.new) (W.failed writer.new)
-        (word_text word.now) result }
+fn emit_word<W: Sink>(word: &Word, writer: &mut W)
+    ensures { Emits W.written W.failed writer.old writer.new
+        (word_text word.now) }
 {
     match word {
-        Word::Text(text) => put(writer, text),
-        Word::Number(number) => print_number(u64::from(*number), writer),
-        Word::Count(count) => print_number(*count, writer),
-        Word::Distance(metres) => print_signed(*metres, writer),
-        Word::Name(name) => put(writer, name.text()),
-        Word::Leg(leg) => print_leg(leg, writer),
-        Word::Group(group) => print_group(*group, writer),
+        Word::Text(text) => emit(writer, text),
+        Word::Number(number) => emit_number(u64::from(*number), writer),
+        Word::Count(count) => emit_number(*count, writer),
+        Word::Distance(metres) => emit_signed(*metres, writer),
+        Word::Name(name) => emit(writer, name.text()),
+        Word::Leg(leg) => emit_leg(leg, writer),
+        Word::Group(group) => emit_group(*group, writer),
     }
 }
 
 /// Writes a leg: its section's name, and `+` if its offsets rise or `-` if they fall.
-fn print_leg<W: Sink>(leg: &LegName, writer: &mut W) -> Result<(), WriteFailed>
-    requires { W.failed writer.old ≡ false }
-    ensures { Prints (W.written writer.old) (W.written writer.new) (W.failed writer.new)
-        (leg_text leg.now) result }
+fn emit_leg<W: Sink>(leg: &LegName, writer: &mut W)
+    ensures { Emits W.written W.failed writer.old writer.new
+        (leg_text leg.now) }
 {
-    put(writer, leg.section().text())?;
-    put(writer, direction_text(leg.direction()))
+    emit(writer, leg.section().text());
+    emit(writer, direction_text(leg.direction()));
 }
 
 fn direction_text(direction: Direction) -> &'static [u8]
@@ -126,20 +127,18 @@ fn direction_text(direction: Direction) -> &'static [u8]
 }
 
 /// Writes a balise group: its country, a slash, and its number there.
-fn print_group<W: Sink>(group: GroupName, writer: &mut W) -> Result<(), WriteFailed>
-    requires { W.failed writer.old ≡ false }
-    ensures { Prints (W.written writer.old) (W.written writer.new) (W.failed writer.new)
-        (group_word group) result }
+fn emit_group<W: Sink>(group: GroupName, writer: &mut W)
+    ensures { Emits W.written W.failed writer.old writer.new
+        (group_word group) }
 {
-    print_number(u64::from(group.country()), writer)?;
-    print_behind_slash(group.number(), writer)
+    emit_number(u64::from(group.country()), writer);
+    emit_behind_slash(group.number(), writer);
 }
 
-fn print_behind_slash<W: Sink>(number: u16, writer: &mut W) -> Result<(), WriteFailed>
-    requires { W.failed writer.old ≡ false }
-    ensures { Prints (W.written writer.old) (W.written writer.new) (W.failed writer.new)
-        (47 ∷ decimal number) result }
+fn emit_behind_slash<W: Sink>(number: u16, writer: &mut W)
+    ensures { Emits W.written W.failed writer.old writer.new
+        (47 ∷ decimal number) }
 {
-    put(writer, b"/")?;
-    print_number(u64::from(number), writer)
+    emit(writer, b"/");
+    emit_number(u64::from(number), writer);
 }

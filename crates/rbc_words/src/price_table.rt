@@ -1,44 +1,42 @@
 //! Tables of prices, printed.
 
-ghost use Rattle.std.specs.Prelude.{◌≡◌, ◌+◌, ◌*◌, ◌≤◌, false, ◌∷◌, ◌++◌, map, codes, decimal, length};
-ghost use Rattle.rbc_model.specs.Sessions.{Prints};
+ghost use Rattle.std.specs.Prelude.{◌≡◌, ◌+◌, ◌*◌, ◌≤◌, ◌∷◌, ◌++◌, map, codes, decimal, length};
+ghost use Rattle.rbc_streams.specs.Emitting.{Emits};
 ghost use Rattle.rbc_model.specs.Words.{line_of};
 ghost use Rattle.rbc_words.specs.PriceText.{spaced, prices_text};
 
 use crate::tail_buffer::TailBuffer;
-use rbc_streams::{Sink, WriteFailed, put};
+use rbc_streams::{Sink, emit};
 
 /// Writes a table of prices, a line for each row, counted from 1.
-pub(crate) fn print_table<W: Sink>(rows: &[Vec<u64>], writer: &mut W) -> Result<(), WriteFailed>
-    requires { W.failed writer.old ≡ false }
-    ensures { Prints (W.written writer.old) (W.written writer.new) (W.failed writer.new)
-        (prices_text rows.now) result }
+pub(crate) fn emit_table<W: Sink>(rows: &[Vec<u64>], writer: &mut W)
+    ensures { Emits W.written W.failed writer.old writer.new
+        (prices_text rows.now) }
 {
     let mut number = 0;
     for row in rows {
         number += 1;
-        print_row(number, row.as_slice(), writer)?;
+        emit_row(number, row.as_slice(), writer);
     }
-    Ok(())
 }
 
 /// Writes the line of a row: its number, and its prices.
-fn print_row<W: Sink>(number: u64, row: &[u64], writer: &mut W) -> Result<(), WriteFailed>
-    requires { W.failed writer.old ≡ false }
-    ensures { Prints (W.written writer.old) (W.written writer.new) (W.failed writer.new)
-        (line_of (codes "prices" ∷ decimal number ∷ map decimal row.now)) result }
+fn emit_row<W: Sink>(number: u64, row: &[u64], writer: &mut W)
+    ensures { Emits W.written W.failed writer.old writer.new
+        (line_of (codes "prices" ∷ decimal number ∷ map decimal row.now)) }
 {
     let mut text = TailBuffer::new();
     if row.len() > SHORT {
         gather_head(number, &mut text);
-        put(writer, text.bytes())?;
-        print_prices(row, writer)?;
-        return put(writer, b"\n");
+        emit(writer, text.bytes());
+        emit_prices(row, writer);
+        emit(writer, b"\n");
+        return;
     }
     text.byte(b'\n');
     gather_prices(row, &mut text);
     gather_head(number, &mut text);
-    put(writer, text.bytes())
+    emit(writer, text.bytes());
 }
 
 /// How many prices a row has at most whose line is written at once.
@@ -58,30 +56,27 @@ fn gather_head(number: u64, text: &mut TailBuffer)
 const PIECE: usize = 12;
 
 /// Writes prices, each behind a space.
-fn print_prices<W: Sink>(prices: &[u64], writer: &mut W) -> Result<(), WriteFailed>
-    requires { W.failed writer.old ≡ false }
-    ensures { Prints (W.written writer.old) (W.written writer.new) (W.failed writer.new)
-        (spaced (map decimal prices.now)) result }
+fn emit_prices<W: Sink>(prices: &[u64], writer: &mut W)
+    ensures { Emits W.written W.failed writer.old writer.new
+        (spaced (map decimal prices.now)) }
 {
     let mut rest = prices;
     while !rest.is_empty() {
         let (piece, more) = rest.split_at(rest.len().min(PIECE));
-        print_piece(piece, writer)?;
+        emit_piece(piece, writer);
         rest = more;
     }
-    Ok(())
 }
 
 /// Writes a few prices, each behind a space.
-fn print_piece<W: Sink>(piece: &[u64], writer: &mut W) -> Result<(), WriteFailed>
-    requires going { W.failed writer.old ≡ false }
+fn emit_piece<W: Sink>(piece: &[u64], writer: &mut W)
     requires few { length piece.now ≤ 12 }
-    ensures { Prints (W.written writer.old) (W.written writer.new) (W.failed writer.new)
-        (spaced (map decimal piece.now)) result }
+    ensures { Emits W.written W.failed writer.old writer.new
+        (spaced (map decimal piece.now)) }
 {
     let mut text = TailBuffer::new();
     gather_prices(piece, &mut text);
-    put(writer, text.bytes())
+    emit(writer, text.bytes());
 }
 
 /// Puts prices, each behind a space, before a text.

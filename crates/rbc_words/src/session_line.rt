@@ -5,13 +5,14 @@ ghost use Rattle.rbc_model.specs.HistoryText.{told_request, IsToldOfTrack};
 ghost use Rattle.rbc_model.specs.SceneLines.{report_words};
 ghost use Rattle.rbc_model.specs.SessionText.{inquiry_word, nominal_word, parse_session, said_line, said_words, IsSayable};
 ghost use Rattle.rbc_model.specs.Sessions.{Prints};
+ghost use Rattle.rbc_streams.specs.Emitting.{Emits};
 ghost use Rattle.rbc_model.specs.Words.{line_of};
 ghost use Rattle.rbc_words.specs.SessionLines.{request_view};
 
 use crate::Request;
-use crate::line_words::{Word, print_line};
+use crate::line_words::{Word, emit_line};
 use rbc_model::{Inquiry, Report, Told};
-use rbc_streams::{Sink, WriteFailed, put};
+use rbc_streams::{Sink, WriteFailed, emit, outcome};
 use rbc_track::Track;
 
 /// The request that tells this, its route or section by the name that the track gives it.
@@ -40,37 +41,37 @@ pub fn print_request<W: Sink>(request: &Request, writer: &mut W) -> Result<(), W
     ensures read_back { IsSayable (request_view request.now)
         → parse_session (said_line (request_view request.now)) ≡ Ok (request_view request.now) }
 {
+    emit_request(request, writer);
+    outcome(writer)
+}
+
+/// Writes a request as a line. It takes no memory.
+pub fn emit_request<W: Sink>(request: &Request, writer: &mut W)
+    ensures { Emits W.written W.failed writer.old writer.new
+        (line_of (said_words (request_view request.now))) }
+{
     match request {
-        Request::Blank => put(writer, b"\n"),
-        Request::Report(report) => print_report(b"report", report, writer),
-        Request::Lock(name) => print_line(b"lock", &[Word::Name(*name)], writer),
-        Request::Free(name) => print_line(b"free", &[Word::Name(*name)], writer),
-        Request::Leave(train) => print_line(b"leave", &[Word::Number(train.number())], writer),
+        Request::Blank => emit(writer, b"\n"),
+        Request::Report(report) => emit_report(b"report", report, writer),
+        Request::Lock(name) => emit_line(b"lock", &[Word::Name(*name)], writer),
+        Request::Free(name) => emit_line(b"free", &[Word::Name(*name)], writer),
+        Request::Leave(train) => emit_line(b"leave", &[Word::Number(train.number())], writer),
         Request::GiveBack(train, end) => {
-            print_line(
+            emit_line(
                 b"yield",
                 &[Word::Number(train.number()), Word::Number(end.metres())],
                 writer,
             )
         }
-        Request::Ask(train) => print_line(b"ask", &[Word::Number(train.number())], writer),
-        Request::Inquire(inquiry) => print_line(inquiry_word(*inquiry), &[], writer),
+        Request::Ask(train) => emit_line(b"ask", &[Word::Number(train.number())], writer),
+        Request::Inquire(inquiry) => emit_line(inquiry_word(*inquiry), &[], writer),
     }
 }
 
 /// Writes a line that tells a report: its first word, and the words of the report behind it. It takes no memory.
-///
-/// # Errors
-///
-/// `WriteFailed`, where the writer fails. Then a part of the line stands, from its start.
-pub fn print_report<W: Sink>(
-    first: &[u8],
-    report: &Report,
-    writer: &mut W,
-) -> Result<(), WriteFailed>
-    requires { W.failed writer.old ≡ false }
-    ensures { Prints (W.written writer.old) (W.written writer.new) (W.failed writer.new)
-        (line_of (first.now ∷ report_words report.now)) result }
+pub fn emit_report<W: Sink>(first: &[u8], report: &Report, writer: &mut W)
+    ensures { Emits W.written W.failed writer.old writer.new
+        (line_of (first.now ∷ report_words report.now)) }
 {
     let words = [
         Word::Number(report.train().number()),
@@ -82,7 +83,7 @@ pub fn print_report<W: Sink>(
         Word::Number(u32::from(report.length())),
         Word::Number(report.time()),
     ];
-    print_line(first, &words, writer)
+    emit_line(first, &words, writer);
 }
 
 /// What is asked to be shown, as a word.

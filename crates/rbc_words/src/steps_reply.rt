@@ -1,58 +1,51 @@
 //! The replies of `rbc steps`, printed: a refusal, or a certificate with its packet.
 
-ghost use Rattle.std.specs.Prelude.{◌≡◌, ◌+◌, ◌*◌, ◌≤◌, false, ℕ, List, [], ◌∷◌, ◌++◌, decimal, codes, length};
-ghost use Rattle.rbc_model.specs.Sessions.{Prints};
+ghost use Rattle.std.specs.Prelude.{◌≡◌, ◌+◌, ◌*◌, ◌≤◌, ℕ, List, [], ◌∷◌, ◌++◌, decimal, codes, length};
+ghost use Rattle.rbc_streams.specs.Emitting.{Emits};
 ghost use Rattle.rbc_model.specs.Words.{line_of};
 ghost use Rattle.rbc_model.specs.StepsReply.{fault_words, refusal_words, refusal_reply};
 ghost use Rattle.rbc_model.specs.StepsReply.{profile_line, packet_lines};
 ghost use Rattle.rbc_words.specs.Replies.{runs_text, track_text, certificate_lines, certified_text};
 
-use crate::price_table::print_table;
+use crate::price_table::emit_table;
 use crate::tail_buffer::TailBuffer;
-use crate::{Spelled, print_hex};
+use crate::{Spelled, emit_hex};
 use rbc_model::{LineFault, StepsRefusal};
 use rbc_steps::{Profile, Runs};
-use rbc_streams::{Sink, WriteFailed, put};
+use rbc_streams::{Sink, emit};
 
 /// Writes the reply to a line that is refused.
-///
-/// # Errors
-///
-/// `WriteFailed`, where the writer fails. Then a part of the text stands, from its start.
-pub fn print_refusal<W: Sink>(refusal: StepsRefusal, writer: &mut W) -> Result<(), WriteFailed>
-    requires { W.failed writer.old ≡ false }
-    ensures { Prints (W.written writer.old) (W.written writer.new) (W.failed writer.new)
-        (refusal_reply refusal) result }
+pub fn emit_refusal<W: Sink>(refusal: StepsRefusal, writer: &mut W)
+    ensures { Emits W.written W.failed writer.old writer.new
+        (refusal_reply refusal) }
 {
-    put(writer, b"refused ")?;
-    print_cause(refusal, writer)
+    emit(writer, b"refused ");
+    emit_cause(refusal, writer);
 }
 
-fn print_cause<W: Sink>(refusal: StepsRefusal, writer: &mut W) -> Result<(), WriteFailed>
-    requires { W.failed writer.old ≡ false }
-    ensures { Prints (W.written writer.old) (W.written writer.new) (W.failed writer.new)
-        (line_of (refusal_words refusal)) result }
+fn emit_cause<W: Sink>(refusal: StepsRefusal, writer: &mut W)
+    ensures { Emits W.written W.failed writer.old writer.new
+        (line_of (refusal_words refusal)) }
 {
     match refusal {
-        StepsRefusal::BadLine(fault) => print_fault(fault, writer),
-        StepsRefusal::NotRising => put(writer, b"NotRising\n"),
-        StepsRefusal::OutOfRange => put(writer, b"OutOfRange\n"),
-        StepsRefusal::Memory => put(writer, b"Memory\n"),
+        StepsRefusal::BadLine(fault) => emit_fault(fault, writer),
+        StepsRefusal::NotRising => emit(writer, b"NotRising\n"),
+        StepsRefusal::OutOfRange => emit(writer, b"OutOfRange\n"),
+        StepsRefusal::Memory => emit(writer, b"Memory\n"),
     }
 }
 
-fn print_fault<W: Sink>(fault: LineFault, writer: &mut W) -> Result<(), WriteFailed>
-    requires { W.failed writer.old ≡ false }
-    ensures { Prints (W.written writer.old) (W.written writer.new) (W.failed writer.new)
-        (line_of (fault_words fault)) result }
+fn emit_fault<W: Sink>(fault: LineFault, writer: &mut W)
+    ensures { Emits W.written W.failed writer.old writer.new
+        (line_of (fault_words fault)) }
 {
     match fault {
-        LineFault::Overlong => put(writer, b"Overlong\n"),
-        LineFault::NotText => put(writer, b"NotText\n"),
-        LineFault::Command => put(writer, b"Command\n"),
-        LineFault::Words => put(writer, b"Words\n"),
-        LineFault::Number(word) => print_last(b"Number ", word as u64, writer),
-        LineFault::Name(word) => print_last(b"Name ", word as u64, writer),
+        LineFault::Overlong => emit(writer, b"Overlong\n"),
+        LineFault::NotText => emit(writer, b"NotText\n"),
+        LineFault::Command => emit(writer, b"Command\n"),
+        LineFault::Words => emit(writer, b"Words\n"),
+        LineFault::Number(word) => emit_last(b"Number ", word as u64, writer),
+        LineFault::Name(word) => emit_last(b"Name ", word as u64, writer),
     }
 }
 
@@ -60,24 +53,20 @@ fn print_fault<W: Sink>(fault: LineFault, writer: &mut W) -> Result<(), WriteFai
 const LONGEST_NAME: usize = 64;
 
 /// Writes the number at the end of a line, behind what it is.
-///
-/// # Errors
-///
-/// `WriteFailed`, where the writer fails. Then a part of the text stands, from its start.
-pub fn print_last<W: Sink>(name: &[u8], number: u64, writer: &mut W) -> Result<(), WriteFailed>
-    requires { W.failed writer.old ≡ false }
-    ensures { Prints (W.written writer.old) (W.written writer.new) (W.failed writer.new)
-        (name.now ++ (decimal number ++ 10 ∷ [])) result }
+pub fn emit_last<W: Sink>(name: &[u8], number: u64, writer: &mut W)
+    ensures { Emits W.written W.failed writer.old writer.new
+        (name.now ++ (decimal number ++ 10 ∷ [])) }
 {
     let mut text = TailBuffer::new();
     text.byte(b'\n');
     text.number(number);
     if name.len() > LONGEST_NAME {
-        put(writer, name)?;
-        return put(writer, text.bytes());
+        emit(writer, name);
+        emit(writer, text.bytes());
+        return;
     }
     text.text(name);
-    put(writer, text.bytes())
+    emit(writer, text.bytes());
 }
 
 /// What a profile was chosen for, and the table that shows that none loses less.
@@ -93,79 +82,64 @@ pub struct Basis<'reply, V: Spelled> {
 
 /// Writes the certificate of a profile: its track, the profile with what it loses, summed over all metres (km/h, or per
 /// mille), and the prices.
-///
-/// # Errors
-///
-/// `WriteFailed`, where the writer fails. Then a part of the text stands, from its start.
-pub fn print_certificate<V: Spelled, W: Sink>(
+pub fn emit_certificate<V: Spelled, W: Sink>(
     profile: &Profile<V>,
     loss: u64,
     basis: &Basis<V>,
     writer: &mut W,
-) -> Result<(), WriteFailed>
-    requires { W.failed writer.old ≡ false }
-    ensures { Prints (W.written writer.old) (W.written writer.new) (W.failed writer.new)
-        (certificate_lines V.kind profile.now loss basis.now) result }
+)
+    ensures { Emits W.written W.failed writer.old writer.new
+        (certificate_lines V.kind profile.now loss basis.now) }
 {
-    print_track(basis.limit, basis.track, writer)?;
-    print_profile(profile, loss, writer)?;
-    print_table(basis.prices, writer)
+    emit_track(basis.limit, basis.track, writer);
+    emit_profile(profile, loss, writer);
+    emit_table(basis.prices, writer);
 }
 
 /// Writes the certificate of a profile, and the packet that holds the profile.
-///
-/// # Errors
-///
-/// `WriteFailed`, where the writer fails. Then a part of the text stands, from its start.
-pub fn print_certified<V: Spelled, W: Sink>(
+pub fn emit_certified<V: Spelled, W: Sink>(
     profile: &Profile<V>,
     loss: u64,
     basis: &Basis<V>,
     packet: &[u8],
     writer: &mut W,
-) -> Result<(), WriteFailed>
-    requires { W.failed writer.old ≡ false }
-    ensures { Prints (W.written writer.old) (W.written writer.new) (W.failed writer.new)
-        (certified_text V.kind profile.now loss basis.now packet.now) result }
+)
+    ensures { Emits W.written W.failed writer.old writer.new
+        (certified_text V.kind profile.now loss basis.now packet.now) }
 {
-    print_certificate(profile, loss, basis, writer)?;
-    print_packet(packet, writer)
+    emit_certificate(profile, loss, basis, writer);
+    emit_packet(packet, writer);
 }
 
 /// Writes the line of a track, with the limit of steps.
-fn print_track<V: Spelled, W: Sink>(
-    limit: usize,
-    track: &Runs<V>,
-    writer: &mut W,
-) -> Result<(), WriteFailed>
-    requires { W.failed writer.old ≡ false }
-    ensures { Prints (W.written writer.old) (W.written writer.new) (W.failed writer.new)
-        (track_text V.kind limit track.now) result }
+fn emit_track<V: Spelled, W: Sink>(limit: usize, track: &Runs<V>, writer: &mut W)
+    ensures { Emits W.written W.failed writer.old writer.new
+        (track_text V.kind limit track.now) }
 {
     let runs = track.runs();
     let end = u64::from(track.end());
     if runs.len() > SHORT {
-        print_command::<V, W>(limit, writer)?;
-        return print_line_end(runs, b" end ", end, writer);
+        emit_command::<V, W>(limit, writer);
+        emit_line_end(runs, b" end ", end, writer);
+        return;
     }
     let mut text = TailBuffer::new();
     gather_line_end(runs, b" end ", end, &mut text);
     gather_command::<V>(limit, &mut text);
-    put(writer, text.bytes())
+    emit(writer, text.bytes());
 }
 
 /// How many runs or steps a line has at most that is written at once.
 const SHORT: usize = 4;
 
 /// Writes the command for such levels, and the limit of steps behind it.
-fn print_command<V: Spelled, W: Sink>(limit: usize, writer: &mut W) -> Result<(), WriteFailed>
-    requires { W.failed writer.old ≡ false }
-    ensures { Prints (W.written writer.old) (W.written writer.new) (W.failed writer.new)
-        (V.kind.command ++ (32 ∷ decimal limit)) result }
+fn emit_command<V: Spelled, W: Sink>(limit: usize, writer: &mut W)
+    ensures { Emits W.written W.failed writer.old writer.new
+        (V.kind.command ++ (32 ∷ decimal limit)) }
 {
     let mut text = TailBuffer::new();
     gather_command::<V>(limit, &mut text);
-    put(writer, text.bytes())
+    emit(writer, text.bytes());
 }
 
 /// Puts the command for such levels, and the limit of steps behind it, before a text.
@@ -180,39 +154,29 @@ fn gather_command<V: Spelled>(limit: usize, text: &mut TailBuffer)
 }
 
 /// Writes the line of a profile, with what it loses.
-fn print_profile<V: Spelled, W: Sink>(
-    profile: &Profile<V>,
-    loss: u64,
-    writer: &mut W,
-) -> Result<(), WriteFailed>
-    requires { W.failed writer.old ≡ false }
-    ensures { Prints (W.written writer.old) (W.written writer.new) (W.failed writer.new)
-        (profile_line V.kind profile.now.steps loss) result }
+fn emit_profile<V: Spelled, W: Sink>(profile: &Profile<V>, loss: u64, writer: &mut W)
+    ensures { Emits W.written W.failed writer.old writer.new
+        (profile_line V.kind profile.now.steps loss) }
 {
     let steps = profile.steps();
     if steps.len() > SHORT {
-        put(writer, b"steps")?;
-        return print_line_end(steps, b" loss ", loss, writer);
+        emit(writer, b"steps");
+        emit_line_end(steps, b" loss ", loss, writer);
+        return;
     }
     let mut text = TailBuffer::new();
     gather_line_end(steps, b" loss ", loss, &mut text);
     text.text(b"steps");
-    put(writer, text.bytes())
+    emit(writer, text.bytes());
 }
 
 /// Writes the end of a line: runs or steps, and the number at its end behind what it is.
-fn print_line_end<V: Spelled, W: Sink>(
-    runs: &[(u32, V)],
-    name: &[u8],
-    number: u64,
-    writer: &mut W,
-) -> Result<(), WriteFailed>
-    requires { W.failed writer.old ≡ false }
-    ensures { Prints (W.written writer.old) (W.written writer.new) (W.failed writer.new)
-        (runs_text V.kind runs.now ++ (name.now ++ (decimal number ++ 10 ∷ []))) result }
+fn emit_line_end<V: Spelled, W: Sink>(runs: &[(u32, V)], name: &[u8], number: u64, writer: &mut W)
+    ensures { Emits W.written W.failed writer.old writer.new
+        (runs_text V.kind runs.now ++ (name.now ++ (decimal number ++ 10 ∷ []))) }
 {
-    print_runs(runs, writer)?;
-    print_last(name, number, writer)
+    emit_runs(runs, writer);
+    emit_last(name, number, writer);
 }
 
 /// Puts the end of a line before a text: runs or steps, and the number at its end behind what it is.
@@ -232,55 +196,48 @@ fn gather_line_end<V: Spelled>(runs: &[(u32, V)], name: &[u8], number: u64, text
 const SHORT_PACKET: usize = 120;
 
 /// Writes the line of a packet, and the last line of a reply.
-fn print_packet<W: Sink>(packet: &[u8], writer: &mut W) -> Result<(), WriteFailed>
-    requires { W.failed writer.old ≡ false }
-    ensures { Prints (W.written writer.old) (W.written writer.new) (W.failed writer.new)
-        (packet_lines packet.now) result }
+fn emit_packet<W: Sink>(packet: &[u8], writer: &mut W)
+    ensures { Emits W.written W.failed writer.old writer.new
+        (packet_lines packet.now) }
 {
     if packet.len() > SHORT_PACKET {
-        put(writer, b"packet ")?;
-        print_hex(packet, writer)?;
-        return put(writer, b"\ndone\n");
+        emit(writer, b"packet ");
+        emit_hex(packet, writer);
+        emit(writer, b"\ndone\n");
+        return;
     }
     let mut text = TailBuffer::new();
     text.text(b"\ndone\n");
     text.hex(packet);
     text.text(b"packet ");
-    put(writer, text.bytes())
+    emit(writer, text.bytes());
 }
 
 /// How many runs or steps of a longer line are written at once.
 const PIECE: usize = 5;
 
 /// Writes runs or steps (start, value), each behind a space.
-///
-/// # Errors
-///
-/// `WriteFailed`, where the writer fails. Then a part of the text stands, from its start.
-pub fn print_runs<V: Spelled, W: Sink>(runs: &[(u32, V)], writer: &mut W) -> Result<(), WriteFailed>
-    requires { W.failed writer.old ≡ false }
-    ensures { Prints (W.written writer.old) (W.written writer.new) (W.failed writer.new)
-        (runs_text V.kind runs.now) result }
+pub fn emit_runs<V: Spelled, W: Sink>(runs: &[(u32, V)], writer: &mut W)
+    ensures { Emits W.written W.failed writer.old writer.new
+        (runs_text V.kind runs.now) }
 {
     let mut rest = runs;
     while !rest.is_empty() {
         let (piece, more) = rest.split_at(rest.len().min(PIECE));
-        print_piece(piece, writer)?;
+        emit_piece(piece, writer);
         rest = more;
     }
-    Ok(())
 }
 
 /// Writes a few runs or steps, each behind a space.
-fn print_piece<V: Spelled, W: Sink>(piece: &[(u32, V)], writer: &mut W) -> Result<(), WriteFailed>
-    requires going { W.failed writer.old ≡ false }
+fn emit_piece<V: Spelled, W: Sink>(piece: &[(u32, V)], writer: &mut W)
     requires few { length piece.now ≤ 5 }
-    ensures { Prints (W.written writer.old) (W.written writer.new) (W.failed writer.new)
-        (runs_text V.kind piece.now) result }
+    ensures { Emits W.written W.failed writer.old writer.new
+        (runs_text V.kind piece.now) }
 {
     let mut text = TailBuffer::new();
     gather_runs(piece, &mut text);
-    put(writer, text.bytes())
+    emit(writer, text.bytes());
 }
 
 /// Puts runs or steps, each behind a space, before a text.

@@ -1,4 +1,4 @@
 use Rattle.rbc_replies.proofs.printing.print.Goals as goal
 
-pub returns-in-Granted : goal.returns-in-Granted
-returns-in-Granted g c = rw c.in-Granted.is c.print_granted.ensures
+pub returns : goal.returns
+returns g c = c.outcome.ensures.printed _ _ c.requires.going c.emit_reply.ensures

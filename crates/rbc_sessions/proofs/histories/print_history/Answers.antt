@@ -8,16 +8,18 @@ use Rattle.rbc_session_laws.proofs.OfTrackLemmas.{retold_entries_are_of_track}
 use Rattle.rbc_session_laws.proofs.RetellingLemmas.{retold_histories_are_sessions}
 use Rattle.rbc_sessions.proofs.histories.print_history.Goals as goal
 
-pub print_entries-requires-clause-of_track : goal.print_entries-requires-clause-of_track
-print_entries-requires-clause-of_track g c =
+pub emit_entries-requires : goal.emit_entries-requires
+emit_entries-requires g c =
     let history = c.args.history.now in
     let of_track = retold_entries_are_of_track (begin_of history) history.entries c.requires.retold in
-    λ place entry here.
-    subst (λ (t : Track). IsEntryOfTrack t entry) (sym (c.deref.ensures ∙ c.track.ensures))
-    (of_track place entry (subst (λ (es : List Entry). slice_get es place ≡ Some entry) c.entries.ensures here))
+    record {
+      of_track = λ place entry here.
+          subst (λ (t : Track). IsEntryOfTrack t entry) (sym (c.deref.ensures ∙ c.track.ensures))
+          (of_track place entry (subst (λ (es : List Entry). slice_get es place ≡ Some entry) c.entries.ensures here));
+    }
 
-pub returns-in_err-print_entries-clause-again : goal.returns-in_err-print_entries-clause-again
-returns-in_err-print_entries-clause-again g c = retold_histories_are_sessions (begin_of c.args.history.now) c.args.history.now.entries c.requires.retold
+pub returns-in_err-outcome-clause-again : goal.returns-in_err-outcome-clause-again
+returns-in_err-outcome-clause-again g c = retold_histories_are_sessions (begin_of c.args.history.now) c.args.history.now.entries c.requires.retold
 
 pub returns-clause-again : goal.returns-clause-again
 returns-clause-again g c = retold_histories_are_sessions (begin_of c.args.history.now) c.args.history.now.entries c.requires.retold

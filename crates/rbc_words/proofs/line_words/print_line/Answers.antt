@@ -1,24 +1,4 @@
-use Rattle.std.proofs.Common.{refl, map}
-use Rattle.rbc_words.specs.LineWords.{word_text}
-use Rattle.rbc_words.proofs.SpacedLemmas.{line_of-spaced}
-use Rattle.rbc_words.proofs.PrintingLemmas.{prints_then, prints_stopped}
 use Rattle.rbc_words.proofs.line_words.print_line.Goals as goal
 
-pub returns-in_err-put : goal.returns-in_err-put
-returns-in_err-put g c =
-    let put = c.in_err-put.ensures in
-    let whole = line_of-spaced c.args.first.now (map word_text c.args.others.now) in
-    prints_stopped _ _ _ _ _ _ _ put.text put.failed whole c.from_residual.ensures.0
-
-pub returns-in_err-print_words : goal.returns-in_err-print_words
-returns-in_err-print_words g c =
-    let words = c.in_err-print_words.ensures in
-    let whole = line_of-spaced c.args.first.now (map word_text c.args.others.now) in
-    prints_then _ _ _ _ _ _ _ _ c.in_ok-put.ensures.text whole
-    (prints_stopped _ _ _ _ _ _ _ words.text words.failed refl c.from_residual-in_err-print_words.ensures.0)
-
 pub returns : goal.returns
-returns g c =
-    let whole = line_of-spaced c.args.first.now (map word_text c.args.others.now) in
-    prints_then _ _ _ _ _ _ _ _ c.in_ok-put.ensures.text whole
-    (prints_then _ _ _ _ _ _ _ _ c.in_ok-print_words.ensures.text refl c.put-2.ensures)
+returns g c = c.outcome.ensures.printed _ _ c.requires c.emit_line.ensures

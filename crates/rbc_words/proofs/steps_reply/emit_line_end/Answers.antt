@@ -1,0 +1,5 @@
+use Rattle.rbc_streams.proofs.EmittingLemmas.{emits_then}
+use Rattle.rbc_words.proofs.steps_reply.emit_line_end.Goals as goal
+
+pub returns : goal.returns
+returns g c = emits_then c.emit_runs.ensures c.emit_last.ensures
