@@ -10,8 +10,8 @@ ghost use Rattle.rbc_certifier.specs.Answered.{AnswersAllSteps};
 use crate::answers::answer_line;
 use rbc_model::limits::LONGEST_LINE;
 use rbc_model::{LineFault, SessionFault, StepsRefusal};
-use rbc_streams::{LineHandler, Sink, Source, WriteFailed, serve_lines};
-use rbc_words::print_refusal;
+use rbc_streams::{LineHandler, Sink, Source, WriteFailed, outcome, serve_lines};
+use rbc_words::emit_refusal;
 use std::alloc::Global;
 use std::thread::Threads;
 
@@ -58,11 +58,13 @@ impl LineHandler<()> for Certifier {
         _more: bool,
         writer: &mut W,
     ) -> Result<(), WriteFailed> {
-        answer_line(rt, alloc, line, writer)
+        answer_line(rt, alloc, line, writer);
+        outcome(writer)
     }
 
     fn refuse<W: Sink>(&mut self, _help: &(), writer: &mut W) -> Result<(), WriteFailed> {
-        print_refusal(StepsRefusal::BadLine(LineFault::Overlong), writer)
+        emit_refusal(StepsRefusal::BadLine(LineFault::Overlong), writer);
+        outcome(writer)
     }
 }
 

@@ -5,17 +5,19 @@ ghost use Rattle.std.specs.Io.KnownBytes.{Consumes, IsAtEnd};
 ghost use Rattle.rbc_model.specs.declared.places.Format.TheVariants.{Far};
 ghost use Rattle.rbc_model.specs.declared.sessions.SessionFault.TheVariants.{Read, Write, Memory as NoMemory};
 ghost use Rattle.rbc_model.specs.CheckText.{AnswersBlock, AnswersShort, LeavesOpen, IsChecked, Checking, unchecked};
-ghost use Rattle.rbc_model.specs.Sessions.{Prints};
+ghost use Rattle.rbc_streams.specs.Emitting.{Emits};
 ghost use Rattle.rbc_checks.specs.Answered.{AnswersAllBlocks};
 ghost use Rattle.rbc_checks.specs.Verdicts.{said_text, is_bad};
 ghost use Rattle.rbc_checks.specs.Replies.{reply_text, lost_text, Keeps};
 
 use crate::block::{Block, is_head, part_read};
-use crate::verdict::{Verdict, judge, print_said};
+use crate::verdict::{Verdict, emit_said, judge, print_said};
 use crate::{CheckLine, Spare, parse_check};
 use rbc_model::Part;
 use rbc_model::limits::LONGEST_CHECK_LINE;
-use rbc_streams::{LineHandler, SessionFault, Sink, Source, WriteFailed, put, serve_lines};
+use rbc_streams::{
+    LineHandler, SessionFault, Sink, Source, WriteFailed, emit, outcome, serve_lines,
+};
 use std::alloc::Global;
 use std::marker::Model;
 use std::mem;
@@ -147,33 +149,32 @@ impl LineHandler<()> for Checker {
         if line.len() > LONGEST_CHECK_LINE {
             return self.refuse(help, writer);
         }
-        print_reply(self.read(line), writer)
+        emit_reply(self.read(line), writer);
+        outcome(writer)
     }
 
     fn refuse<W: Sink>(&mut self, _help: &(), writer: &mut W) -> Result<(), WriteFailed> {
-        print_said(self.close(), writer)?;
-        put(writer, b"refused Overlong\n")
+        emit_said(self.close(), writer);
+        emit(writer, b"refused Overlong\n");
+        outcome(writer)
     }
 }
 
 /// Writes a reply.
-fn print_reply<W: Sink>(reply: Reply, writer: &mut W) -> Result<(), WriteFailed>
-    requires { W.failed writer.old ≡ false }
-    ensures { Prints (W.written writer.old) (W.written writer.new) (W.failed writer.new) (reply_text reply) result }
+fn emit_reply<W: Sink>(reply: Reply, writer: &mut W)
+    ensures { Emits W.written W.failed writer.old writer.new (reply_text reply) }
 {
-    print_said(reply.said, writer)?;
-    print_lost(reply.lost, writer)
+    emit_said(reply.said, writer);
+    emit_lost(reply.lost, writer);
 }
 
 /// Writes that memory was refused for a block, if it was.
-fn print_lost<W: Sink>(lost: bool, writer: &mut W) -> Result<(), WriteFailed>
-    requires { W.failed writer.old ≡ false }
-    ensures { Prints (W.written writer.old) (W.written writer.new) (W.failed writer.new) (lost_text lost) result }
+fn emit_lost<W: Sink>(lost: bool, writer: &mut W)
+    ensures { Emits W.written W.failed writer.old writer.new (lost_text lost) }
 {
     if lost {
-        return put(writer, b"refused Memory\n");
+        emit(writer, b"refused Memory\n");
     }
-    Ok(())
 }
 
 /// Judges each block of certificates in the text that is read, and writes for each whether it is certified, or the

@@ -3,6 +3,7 @@
 ghost use Rattle.std.specs.Prelude.{◌≡◌, false};
 ghost use Rattle.rbc_model.specs.CheckText.{AnswersBlock, refusal_text};
 ghost use Rattle.rbc_model.specs.Sessions.{Prints};
+ghost use Rattle.rbc_streams.specs.Emitting.{Emits};
 ghost use Rattle.rbc_checks.specs.Blocks.{block_lines};
 ghost use Rattle.rbc_checks.specs.Verdicts.{verdict_line, said_text, is_refusal, is_bad, told_as, Judges};
 
@@ -11,8 +12,8 @@ use crate::certify::{certify_grades, certify_speeds};
 use crate::lines::ToldProfile;
 use crate::{CheckLine, Rows, Spare};
 use rbc_model::{OrMemory, Reason};
-use rbc_streams::{Sink, WriteFailed, put};
-use rbc_words::{print_last, print_number};
+use rbc_streams::{Sink, WriteFailed, emit, outcome};
+use rbc_words::{emit_last, emit_number};
 
 /// What is said of a block.
 #[derive(Clone, Copy, Debug, PartialEq, Eq)]
@@ -96,55 +97,55 @@ fn told_as(checked: Result<(), OrMemory<Reason>>, certified: Verdict) -> Verdict
 /// # Errors
 ///
 /// `WriteFailed`, where the writer fails. Then a part of the text stands, from its start.
-#[inline(always)]
 pub fn print_said<W: Sink>(said: Option<Verdict>, writer: &mut W) -> Result<(), WriteFailed>
     requires { W.failed writer.old ≡ false }
     ensures { Prints (W.written writer.old) (W.written writer.new) (W.failed writer.new) (said_text said) result }
 {
+    emit_said(said, writer);
+    outcome(writer)
+}
+
+/// Writes what is said of a block; nothing, if none is open. A fault of the writer is kept by it.
+#[inline(always)]
+pub(crate) fn emit_said<W: Sink>(said: Option<Verdict>, writer: &mut W)
+    ensures { Emits W.written W.failed writer.old writer.new (said_text said) }
+{
     match said {
-        Some(verdict) => print_verdict(verdict, writer),
-        None => Ok(()),
+        Some(verdict) => emit_verdict(verdict, writer),
+        None => {}
     }
 }
 
-fn print_verdict<W: Sink>(verdict: Verdict, writer: &mut W) -> Result<(), WriteFailed>
-    requires { W.failed writer.old ≡ false }
-    ensures { Prints (W.written writer.old) (W.written writer.new) (W.failed writer.new) (verdict_line verdict) result }
+fn emit_verdict<W: Sink>(verdict: Verdict, writer: &mut W)
+    ensures { Emits W.written W.failed writer.old writer.new (verdict_line verdict) }
 {
     match verdict {
-        Verdict::Speed(loss) => print_last(b"certified speed ", loss, writer),
-        Verdict::Grade(loss) => print_last(b"certified grade ", loss, writer),
-        Verdict::Refused(reason) => print_reason(reason, writer),
-        Verdict::Memory => put(writer, b"refused Memory\n"),
+        Verdict::Speed(loss) => emit_last(b"certified speed ", loss, writer),
+        Verdict::Grade(loss) => emit_last(b"certified grade ", loss, writer),
+        Verdict::Refused(reason) => emit_reason(reason, writer),
+        Verdict::Memory => emit(writer, b"refused Memory\n"),
     }
 }
 
-fn print_reason<W: Sink>(reason: Reason, writer: &mut W) -> Result<(), WriteFailed>
-    requires { W.failed writer.old ≡ false }
-    ensures { Prints (W.written writer.old) (W.written writer.new) (W.failed writer.new) (refusal_text reason) result }
+fn emit_reason<W: Sink>(reason: Reason, writer: &mut W)
+    ensures { Emits W.written W.failed writer.old writer.new (refusal_text reason) }
 {
     match reason {
-        Reason::Shape => put(writer, b"refused Shape\n"),
-        Reason::Above(metre) => print_last(b"refused Above ", u64::from(metre), writer),
-        Reason::Inequality(row, from, to) => print_inequality(row as u64, from, to, writer),
-        Reason::NotAttained => put(writer, b"refused NotAttained\n"),
-        Reason::Steps => put(writer, b"refused Steps\n"),
+        Reason::Shape => emit(writer, b"refused Shape\n"),
+        Reason::Above(metre) => emit_last(b"refused Above ", u64::from(metre), writer),
+        Reason::Inequality(row, from, to) => emit_inequality(row as u64, from, to, writer),
+        Reason::NotAttained => emit(writer, b"refused NotAttained\n"),
+        Reason::Steps => emit(writer, b"refused Steps\n"),
     }
 }
 
-fn print_inequality<W: Sink>(
-    row: u64,
-    from: u32,
-    to: u32,
-    writer: &mut W,
-) -> Result<(), WriteFailed>
-    requires { W.failed writer.old ≡ false }
-    ensures { Prints (W.written writer.old) (W.written writer.new) (W.failed writer.new)
-        (refusal_text (Reason.Inequality row from to)) result }
+fn emit_inequality<W: Sink>(row: u64, from: u32, to: u32, writer: &mut W)
+    ensures { Emits W.written W.failed writer.old writer.new
+        (refusal_text (Reason.Inequality row from to)) }
 {
-    put(writer, b"refused Inequality ")?;
-    print_number(row, writer)?;
-    put(writer, b" ")?;
-    print_number(u64::from(from), writer)?;
-    print_last(b" ", u64::from(to), writer)
+    emit(writer, b"refused Inequality ");
+    emit_number(row, writer);
+    emit(writer, b" ");
+    emit_number(u64::from(from), writer);
+    emit_last(b" ", u64::from(to), writer);
 }

@@ -1,17 +1,12 @@
 -- What is printed of the fields one after another, as the texts of all say it.
-use Rattle.std.proofs.Common.{◌≡◌, ℕ, ◌||◌, Bool, true, false, List, [], ◌∷◌, ◌++◌, length, drop, drop-cons, get_or, ◌+◌, ◌<◌, ◌≤◌, add-one, Option, Some, None, Result, refl, sym, ap, ap₂, ◌∙◌, subst, append_assoc}
+use Rattle.std.proofs.Common.{◌≡◌, ℕ, ◌||◌, Bool, true, false, List, [], ◌∷◌, ◌++◌, length, drop, drop-cons, get_or, ◌+◌, ◌<◌, ◌≤◌, add-one, Option, Some, None, refl, sym, ap, ap₂, ◌∙◌, append_assoc}
 use Rattle.std.specs.List.{flat_map}
 use Rattle.std.proofs.lemmas.List.{at_drop_all}
-use Rattle.rbc_model.specs.Sessions.{Prints}
 use Rattle.rbc_decode.specs.declared.fields.Item.{Item}
 use Rattle.rbc_decode.specs.declared.said.Said.{Said}
 use Rattle.rbc_decode.specs.Parts.{parts_text, always}
 use Rattle.rbc_decode.specs.Said.{all_said, with_said, said_in}
 use Rattle.rbc_decode.specs.Texts.{said_line, said_text, words_text}
-
--- what prints a text prints every text that is equal to it
-pub prints_as : {E : Type 0} {a b : Option (List ℕ)} {failed : Bool} {x y : List ℕ} {r : Result (Unit {0}) E} → x ≡ y → Prints a b failed x r → Prints a b failed y r
-prints_as {E} {a} {b} {failed} {x} {y} {r} same p = subst (λ text. Prints a b failed text r) same p
 
 -- where nothing depends on those before
 pub parts_text-flat : (text : Item → List ℕ) (later : Bool) (items : List Item) → parts_text always (λ before. text) later items ≡ flat_map text items
@@ -40,17 +35,17 @@ parts_text-next told text later items index item inside =
     ∙ ap (λ i. text later first ++ parts_text told text (later || told first) (drop i items)) (sym (add-one index))
 
 -- what is gathered and what is left, where a part of it is handed on and the next one is gathered
-pub gathered_next : (told : Item → Bool) (text : Bool → Item → List ℕ) (later next : Bool) (items : List Item) (index : ℕ) (item : Item) (buffer part rest room new : List ℕ)
-    → index < length items → buffer ≡ part ++ rest → room ≡ rest
+pub gathered_next : (told : Item → Bool) (text : Bool → Item → List ℕ) (later next : Bool) (items : List Item) (index : ℕ) (item : Item) (buffer part room new : List ℕ)
+    → index < length items → buffer ≡ part ++ room
     → new ≡ room ++ text later (get_or items index item) → next ≡ (later || told (get_or items index item))
     → buffer ++ parts_text told text later (drop index items) ≡ part ++ (new ++ parts_text told text next (drop (index + 1) items))
-gathered_next told text later next items index item buffer part rest room new inside whole kept gathered is =
+gathered_next told text later next items index item buffer part room new inside whole gathered is =
     let first : List ℕ = text later (get_or items index item) in
     let left : Bool → List ℕ = λ b. parts_text told text b (drop (index + 1) items) in
     let behind : List ℕ = left (later || told (get_or items index item)) in
     ap₂ (λ a b. a ++ b) whole (parts_text-next told text later items index item inside)
-    ∙ append_assoc part rest (first ++ behind)
-    ∙ ap (λ l. part ++ l) (sym (append_assoc rest first behind) ∙ ap₂ (λ l b. l ++ left b) (sym (gathered ∙ ap (λ l. l ++ first) kept)) (sym is))
+    ∙ append_assoc part room (first ++ behind)
+    ∙ ap (λ l. part ++ l) (sym (append_assoc room first behind) ∙ ap₂ (λ l b. l ++ left b) (sym gathered) (sym is))
 
 -- none is left
 pub parts_text-end : (told : Item → Bool) (text : Bool → Item → List ℕ) (later : Bool) (items : List Item) (index : ℕ) → length items ≤ index

@@ -4,8 +4,8 @@ ghost use Rattle.std.specs.Prelude.{◌≡◌, ◌↔◌, ◌≤◌, ◌/◌, �
 ghost use Rattle.std.specs.Io.KnownBytes.{Consumes, IsAtEnd};
 ghost use Rattle.rbc_model.specs.declared.limits.TheConstants.{LONGEST_CHECK_LINE};
 ghost use Rattle.rbc_model.specs.declared.sessions.SessionFault.TheVariants.{Read, Write, Memory as NoMemory};
-ghost use Rattle.rbc_model.specs.Sessions.{Prints};
 ghost use Rattle.rbc_model.specs.Talks.{IsTalk};
+ghost use Rattle.rbc_streams.specs.Emitting.{Emits};
 ghost use Rattle.rbc_decode.specs.Readings.{read_as};
 ghost use Rattle.rbc_model.specs.Words.{words_of};
 ghost use Rattle.rbc_decode.specs.Spelling.{spelled};
@@ -15,13 +15,13 @@ ghost use Rattle.rbc_decode.specs.declared.decoding.Progress.{Progress};
 
 use crate::fields::{Found, Item};
 use crate::granted::{GrantedLine, granted_by};
-use crate::json_line::{print_json, print_wrong_json};
+use crate::json_line::{emit_json, emit_wrong_json};
 use crate::line::{Meant, meant_in};
 use crate::listing::{LIST, NO_FIELD, list_fields};
 use crate::spelling::{Octets, Wrong, spell};
-use crate::text::{print_told, print_wrong};
+use crate::text::{emit_told, emit_wrong};
 use rbc_model::limits::LONGEST_CHECK_LINE;
-use rbc_streams::{LineHandler, Sink, Source, WriteFailed, serve_lines};
+use rbc_streams::{LineHandler, Sink, Source, WriteFailed, outcome, serve_lines};
 use rbc_words::SessionFault;
 use std::alloc::Global;
 use std::thread::Threads;
@@ -43,28 +43,13 @@ pub trait Form {
     ghost printing: { Printing };
 
     /// Writes what was read under this heading: these fields, and the first fault that was found.
-    ///
-    /// # Errors
-    ///
-    /// `WriteFailed`, where the writer fails. Then a part of the text stands, from its start.
-    fn print_reading<W: Sink>(
-        heading: Heading,
-        items: &[Item],
-        found: Option<Found>,
-        writer: &mut W,
-    ) -> Result<(), WriteFailed>
-        requires { W.failed writer.old ≡ false }
-        ensures { Prints (W.written writer.old) (W.written writer.new) (W.failed writer.new)
-            (printing.told heading.line heading.granted heading.is_packet (read_as items.now found)) result };
+    fn emit_reading<W: Sink>(heading: Heading, items: &[Item], found: Option<Found>, writer: &mut W)
+        ensures { Emits W.written W.failed writer.old writer.new
+            (printing.told heading.line heading.granted heading.is_packet (read_as items.now found)) };
 
     /// Writes what is wrong with digits in the line of this number.
-    ///
-    /// # Errors
-    ///
-    /// `WriteFailed`, where the writer fails. Then a part of the text stands, from its start.
-    fn print_wrong<W: Sink>(line: u32, wrong: Wrong, writer: &mut W) -> Result<(), WriteFailed>
-        requires { W.failed writer.old ≡ false }
-        ensures { Prints (W.written writer.old) (W.written writer.new) (W.failed writer.new) (printing.wrong line wrong) result };
+    fn emit_wrong<W: Sink>(line: u32, wrong: Wrong, writer: &mut W)
+        ensures { Emits W.written W.failed writer.old writer.new (printing.wrong line wrong) };
 }
 
 /// Lines of fields, and of words.
@@ -75,17 +60,17 @@ impl Form for Plain {
 
     ghost printing = { plain };
 
-    fn print_reading<W: Sink>(
+    fn emit_reading<W: Sink>(
         heading: Heading,
         items: &[Item],
         found: Option<Found>,
         writer: &mut W,
-    ) -> Result<(), WriteFailed> {
-        print_told(heading.line, items, found, writer)
+    ) {
+        emit_told(heading.line, items, found, writer);
     }
 
-    fn print_wrong<W: Sink>(line: u32, wrong: Wrong, writer: &mut W) -> Result<(), WriteFailed> {
-        print_wrong(line, wrong, writer)
+    fn emit_wrong<W: Sink>(line: u32, wrong: Wrong, writer: &mut W) {
+        emit_wrong(line, wrong, writer);
     }
 }
 
@@ -97,17 +82,17 @@ impl Form for Json {
 
     ghost printing = { json };
 
-    fn print_reading<W: Sink>(
+    fn emit_reading<W: Sink>(
         heading: Heading,
         items: &[Item],
         found: Option<Found>,
         writer: &mut W,
-    ) -> Result<(), WriteFailed> {
-        print_json(heading, items, found, writer)
+    ) {
+        emit_json(heading, items, found, writer);
     }
 
-    fn print_wrong<W: Sink>(line: u32, wrong: Wrong, writer: &mut W) -> Result<(), WriteFailed> {
-        print_wrong_json(line, wrong, writer)
+    fn emit_wrong<W: Sink>(line: u32, wrong: Wrong, writer: &mut W) {
+        emit_wrong_json(line, wrong, writer);
     }
 }
 
@@ -156,16 +141,15 @@ impl Decoder {
     }
 
     /// Writes what the line of this number has told, behind a line that tells this.
-    fn print_told<F: Form, W: Sink>(
+    fn emit_told<F: Form, W: Sink>(
         &mut self,
         line: u32,
         granted: Option<GrantedLine>,
         told: Meant,
         writer: &mut W,
-    ) -> Result<(), WriteFailed>
-        requires { W.failed writer.old ≡ false }
-        ensures reply { Prints (W.written writer.old) (W.written writer.new) (W.failed writer.new)
-            (told_reply F.printing line granted (told_view told.entry)) result }
+    )
+        ensures reply { Emits W.written W.failed writer.old writer.new
+            (told_reply F.printing line granted (told_view told.entry)) }
         ensures refused { self.new.progress.refused ≡ (self.old.progress.refused || is_told_refused (told_view told.entry)) }
         ensures line { self.new.progress.line ≡ self.old.progress.line }
         ensures granted { self.new.progress.granted ≡ self.old.progress.granted }
@@ -177,7 +161,7 @@ impl Decoder {
                     granted,
                     is_packet: false,
                 };
-                self.print_spelled::<F, W>(heading, text, writer)
+                self.emit_spelled::<F, W>(heading, text, writer);
             }
             // A line `granted` tells of a message alone.
             Meant::Packet(text) => {
@@ -186,22 +170,16 @@ impl Decoder {
                     granted: None,
                     is_packet: true,
                 };
-                self.print_spelled::<F, W>(heading, text, writer)
+                self.emit_spelled::<F, W>(heading, text, writer);
             }
-            Meant::None => Ok(()),
+            Meant::None => {}
         }
     }
 
     /// Writes what the digits of a message tell, or of a packet alone, or what is wrong with them.
-    fn print_spelled<F: Form, W: Sink>(
-        &mut self,
-        heading: Heading,
-        text: &[u8],
-        writer: &mut W,
-    ) -> Result<(), WriteFailed>
-        requires { W.failed writer.old ≡ false }
-        ensures reply { Prints (W.written writer.old) (W.written writer.new) (W.failed writer.new)
-            (spelled_reply F.printing heading.line heading.granted heading.is_packet (spelled 0 (words_of text.now))) result }
+    fn emit_spelled<F: Form, W: Sink>(&mut self, heading: Heading, text: &[u8], writer: &mut W)
+        ensures reply { Emits W.written W.failed writer.old writer.new
+            (spelled_reply F.printing heading.line heading.granted heading.is_packet (spelled 0 (words_of text.now))) }
         ensures refused { self.new.progress.refused
             ≡ (self.old.progress.refused || are_refused heading.is_packet (spelled 0 (words_of text.now))) }
         ensures line { self.new.progress.line ≡ self.old.progress.line }
@@ -210,11 +188,12 @@ impl Decoder {
         let mut octets = Octets::new();
         if let Err(wrong) = spell(text, &mut octets) {
             self.progress.refused = true;
-            return F::print_wrong(heading.line, wrong, writer);
+            F::emit_wrong(heading.line, wrong, writer);
+            return;
         }
         let (count, found) = list_fields(heading.is_packet, octets.bytes(), &mut self.items);
         self.progress.refused = self.progress.refused || found.is_some();
-        F::print_reading(heading, &self.items[..count], found, writer)
+        F::emit_reading(heading, &self.items[..count], found, writer);
     }
 }
 
@@ -260,14 +239,16 @@ impl<F: Form> LineHandler<F> for Decoder {
         }
         let number = self.count();
         let granted = self.follow(granted_by(line));
-        self.print_told::<F, W>(number, granted, meant_in(line), writer)
+        self.emit_told::<F, W>(number, granted, meant_in(line), writer);
+        outcome(writer)
     }
 
     fn refuse<W: Sink>(&mut self, _help: &F, writer: &mut W) -> Result<(), WriteFailed> {
         let number = self.count();
         let _ = self.follow(None);
         self.progress.refused = true;
-        F::print_wrong(number, Wrong::Overlong, writer)
+        F::emit_wrong(number, Wrong::Overlong, writer);
+        outcome(writer)
     }
 }
 

@@ -2,7 +2,7 @@
 
 ghost use Rattle.std.specs.Prelude.{◌≡◌, ◌+◌, ◌^◌, ◌<◌, ◌≤◌, ◌++◌, ◌∷◌, ℕ, List, [], Bool, true, false, length, decimal, codes};
 ghost use Rattle.std.specs.Fmt.{signed_decimal};
-ghost use Rattle.rbc_model.specs.Sessions.{Prints};
+ghost use Rattle.rbc_streams.specs.Emitting.{Emits};
 ghost use Rattle.rbc_decode.specs.declared.parts.TheConstants.{LONGEST_PART};
 ghost use Rattle.rbc_decode.specs.declared.out_buffer.TheConstants.{ROOM};
 ghost use Rattle.rbc_decode.specs.declared.spelling.Wrong.TheVariants.{Digits, Overlong};
@@ -22,14 +22,14 @@ use crate::granted_member::granted_member;
 use crate::meaning::gather_meaning;
 use crate::names::name_members;
 use crate::out_buffer::OutBuffer;
-use crate::parts::{TextPart, print_parts};
+use crate::parts::{TextPart, emit_parts};
 use crate::row::{Row, packet_number};
 use crate::said::{Said, said_in};
 use crate::spelling::Wrong;
 use crate::text::{fault_text, measure_text, place_text};
 use rbc_model::FieldName;
-use rbc_streams::{Sink, WriteFailed, put};
-use rbc_words::print_number;
+use rbc_streams::{Sink, emit};
+use rbc_words::emit_number;
 
 /// A piece of a line.
 #[derive(Clone, Copy)]
@@ -41,40 +41,33 @@ pub(crate) enum Piece<'line> {
 }
 
 /// Writes what is wrong with digits in the line of this number.
-pub(crate) fn print_wrong_json<W: Sink>(
-    line: u32,
-    wrong: Wrong,
-    writer: &mut W,
-) -> Result<(), WriteFailed>
-    requires { W.failed writer.old ≡ false }
-    ensures { Prints (W.written writer.old) (W.written writer.new) (W.failed writer.new)
-        (wrong_json line wrong) result }
+pub(crate) fn emit_wrong_json<W: Sink>(line: u32, wrong: Wrong, writer: &mut W)
+    ensures { Emits W.written W.failed writer.old writer.new
+        (wrong_json line wrong) }
 {
     match wrong {
-        Wrong::Digits(place) => print_broken(line, place, writer),
-        Wrong::Overlong => print_overlong(line, writer),
+        Wrong::Digits(place) => emit_broken(line, place, writer),
+        Wrong::Overlong => emit_overlong(line, writer),
     }
 }
 
 /// Writes that there are too many digits, or that the line is too long.
-fn print_overlong<W: Sink>(line: u32, writer: &mut W) -> Result<(), WriteFailed>
-    requires { W.failed writer.old ≡ false }
-    ensures { Prints (W.written writer.old) (W.written writer.new) (W.failed writer.new)
-        (wrong_json line Overlong) result }
+fn emit_overlong<W: Sink>(line: u32, writer: &mut W)
+    ensures { Emits W.written W.failed writer.old writer.new
+        (wrong_json line Overlong) }
 {
     let pieces = [
         Piece::Text(b"{\"line\":"),
         Piece::Number(line),
         Piece::Text(b",\"refused\":{\"fault\":\"Overlong\"}}\n"),
     ];
-    print_pieces(&pieces, writer)
+    emit_pieces(&pieces, writer);
 }
 
 /// Writes at which place digits are wrong.
-fn print_broken<W: Sink>(line: u32, place: u32, writer: &mut W) -> Result<(), WriteFailed>
-    requires { W.failed writer.old ≡ false }
-    ensures { Prints (W.written writer.old) (W.written writer.new) (W.failed writer.new)
-        (wrong_json line (Digits place)) result }
+fn emit_broken<W: Sink>(line: u32, place: u32, writer: &mut W)
+    ensures { Emits W.written W.failed writer.old writer.new
+        (wrong_json line (Digits place)) }
 {
     let pieces = [
         Piece::Text(b"{\"line\":"),
@@ -83,29 +76,26 @@ fn print_broken<W: Sink>(line: u32, place: u32, writer: &mut W) -> Result<(), Wr
         Piece::Number(place),
         Piece::Text(b"}}\n"),
     ];
-    print_pieces(&pieces, writer)
+    emit_pieces(&pieces, writer);
 }
 
 /// Writes pieces, one behind another.
-fn print_pieces<W: Sink>(pieces: &[Piece], writer: &mut W) -> Result<(), WriteFailed>
-    requires { W.failed writer.old ≡ false }
-    ensures { Prints (W.written writer.old) (W.written writer.new) (W.failed writer.new)
-        (pieces_text pieces.now) result }
+fn emit_pieces<W: Sink>(pieces: &[Piece], writer: &mut W)
+    ensures { Emits W.written W.failed writer.old writer.new
+        (pieces_text pieces.now) }
 {
     for piece in pieces {
-        print_piece(piece, writer)?;
+        emit_piece(piece, writer);
     }
-    Ok(())
 }
 
-fn print_piece<W: Sink>(piece: &Piece, writer: &mut W) -> Result<(), WriteFailed>
-    requires { W.failed writer.old ≡ false }
-    ensures { Prints (W.written writer.old) (W.written writer.new) (W.failed writer.new)
-        (piece_text piece.now) result }
+fn emit_piece<W: Sink>(piece: &Piece, writer: &mut W)
+    ensures { Emits W.written W.failed writer.old writer.new
+        (piece_text piece.now) }
 {
     match piece {
-        Piece::Text(text) => put(writer, text),
-        Piece::Number(number) => print_number(u64::from(*number), writer),
+        Piece::Text(text) => emit(writer, text),
+        Piece::Number(number) => emit_number(u64::from(*number), writer),
     }
 }
 
@@ -334,36 +324,29 @@ fn gather_speed(later: bool, from: u64, kmh: u64, buffer: &mut OutBuffer)
 }
 
 /// Writes elements as an array, behind its name and up to its closing bracket.
-fn print_array<P: TextPart, W: Sink>(
-    name: &[u8],
-    items: &[Item],
-    writer: &mut W,
-) -> Result<(), WriteFailed>
-    requires { W.failed writer.old ≡ false }
-    ensures { Prints (W.written writer.old) (W.written writer.new) (W.failed writer.new)
-        (name.now ++ (parts_text P.told P.text false items.now ++ 93 ∷ [])) result }
+fn emit_array<P: TextPart, W: Sink>(name: &[u8], items: &[Item], writer: &mut W)
+    ensures { Emits W.written W.failed writer.old writer.new
+        (name.now ++ (parts_text P.told P.text false items.now ++ 93 ∷ [])) }
 {
-    put(writer, name)?;
-    print_parts::<P, W>(items, writer)?;
-    put(writer, b"]")
+    emit(writer, name);
+    emit_parts::<P, W>(items, writer);
+    emit(writer, b"]");
 }
 
 /// Writes the members of the words.
-fn print_words<W: Sink>(items: &[Item], writer: &mut W) -> Result<(), WriteFailed>
-    requires { W.failed writer.old ≡ false }
-    ensures { Prints (W.written writer.old) (W.written writer.new) (W.failed writer.new)
-        (words_part items.now) result }
+fn emit_words<W: Sink>(items: &[Item], writer: &mut W)
+    ensures { Emits W.written W.failed writer.old writer.new
+        (words_part items.now) }
 {
-    print_parts::<OtherMembers, W>(items, writer)?;
-    print_array::<GradeElements, W>(b",\"grades\":[", items, writer)?;
-    print_array::<SpeedElements, W>(b",\"speeds\":[", items, writer)
+    emit_parts::<OtherMembers, W>(items, writer);
+    emit_array::<GradeElements, W>(b",\"grades\":[", items, writer);
+    emit_array::<SpeedElements, W>(b",\"speeds\":[", items, writer);
 }
 
 /// Writes the first fault that was found, as a member.
-fn print_found<W: Sink>(found: &Found, writer: &mut W) -> Result<(), WriteFailed>
-    requires { W.failed writer.old ≡ false }
-    ensures { Prints (W.written writer.old) (W.written writer.new) (W.failed writer.new)
-        (member_part (codes "refused") (found_data found.now)) result }
+fn emit_found<W: Sink>(found: &Found, writer: &mut W)
+    ensures { Emits W.written W.failed writer.old writer.new
+        (member_part (codes "refused") (found_data found.now)) }
 {
     let pieces = [
         Piece::Text(b",\"refused\":{\"fault\":\""),
@@ -378,22 +361,17 @@ fn print_found<W: Sink>(found: &Found, writer: &mut W) -> Result<(), WriteFailed
         Piece::Number(found.value),
         Piece::Text(b"}"),
     ];
-    print_pieces(&pieces, writer)
+    emit_pieces(&pieces, writer);
 }
 
 /// Writes the members of the words, or of the first fault that was found.
-fn print_outcome<W: Sink>(
-    items: &[Item],
-    found: Option<Found>,
-    writer: &mut W,
-) -> Result<(), WriteFailed>
-    requires { W.failed writer.old ≡ false }
-    ensures { Prints (W.written writer.old) (W.written writer.new) (W.failed writer.new)
-        (outcome_part items.now found) result }
+fn emit_outcome<W: Sink>(items: &[Item], found: Option<Found>, writer: &mut W)
+    ensures { Emits W.written W.failed writer.old writer.new
+        (outcome_part items.now found) }
 {
     match found {
-        None => print_words(items, writer),
-        Some(found) => print_found(&found, writer),
+        None => emit_words(items, writer),
+        Some(found) => emit_found(&found, writer),
     }
 }
 
@@ -410,10 +388,9 @@ fn kind_member(is_packet: bool) -> &'static [u8]
 }
 
 /// Writes the number of the line, what the line `granted` before it tells, and the kind, the first members.
-fn print_start<W: Sink>(heading: Heading, writer: &mut W) -> Result<(), WriteFailed>
-    requires { W.failed writer.old ≡ false }
-    ensures { Prints (W.written writer.old) (W.written writer.new) (W.failed writer.new)
-        (start_text heading.line heading.granted heading.is_packet) result }
+fn emit_start<W: Sink>(heading: Heading, writer: &mut W)
+    ensures { Emits W.written W.failed writer.old writer.new
+        (start_text heading.line heading.granted heading.is_packet) }
 {
     let member = granted_member(heading.granted);
     let pieces = [
@@ -422,22 +399,21 @@ fn print_start<W: Sink>(heading: Heading, writer: &mut W) -> Result<(), WriteFai
         Piece::Text(member.bytes()),
         Piece::Text(kind_member(heading.is_packet)),
     ];
-    print_pieces(&pieces, writer)
+    emit_pieces(&pieces, writer);
 }
 
 /// Writes what was read as a line of JSON: these fields, and the first fault that was found.
-pub(crate) fn print_json<W: Sink>(
+pub(crate) fn emit_json<W: Sink>(
     heading: Heading,
     items: &[Item],
     found: Option<Found>,
     writer: &mut W,
-) -> Result<(), WriteFailed>
-    requires { W.failed writer.old ≡ false }
-    ensures { Prints (W.written writer.old) (W.written writer.new) (W.failed writer.new)
-        (json_text heading.line heading.granted heading.is_packet (read_as items.now found)) result }
+)
+    ensures { Emits W.written W.failed writer.old writer.new
+        (json_text heading.line heading.granted heading.is_packet (read_as items.now found)) }
 {
-    print_start(heading, writer)?;
-    print_outcome(items, found, writer)?;
-    print_array::<FieldElements, W>(b",\"fields\":[", items, writer)?;
-    put(writer, b"}\n")
+    emit_start(heading, writer);
+    emit_outcome(items, found, writer);
+    emit_array::<FieldElements, W>(b",\"fields\":[", items, writer);
+    emit(writer, b"}\n");
 }

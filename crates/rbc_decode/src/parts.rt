@@ -1,15 +1,15 @@
 //! The fields of a message, printed one after another.
 
-ghost use Rattle.std.specs.Prelude.{◌≡◌, ◌+◌, ◌≤◌, ◌++◌, ◌||◌, ℕ, List, Bool, false, length, OnOk};
-ghost use Rattle.rbc_model.specs.Sessions.{Prints};
+ghost use Rattle.std.specs.Prelude.{◌≡◌, ◌+◌, ◌≤◌, ◌++◌, ◌||◌, ℕ, List, Bool, false, length};
+ghost use Rattle.rbc_streams.specs.Emitting.{Emits};
 ghost use Rattle.rbc_decode.specs.declared.parts.TheConstants.{LONGEST_PART};
 ghost use Rattle.rbc_decode.specs.declared.out_buffer.TheConstants.{ROOM};
 ghost use Rattle.rbc_decode.specs.declared.fields.Item.{Item};
-ghost use Rattle.rbc_decode.specs.Parts.{parts_text, Hands};
+ghost use Rattle.rbc_decode.specs.Parts.{parts_text};
 
 use crate::fields::Item;
 use crate::out_buffer::{OutBuffer, ROOM};
-use rbc_streams::{Sink, WriteFailed, put};
+use rbc_streams::{Sink, emit};
 
 /// How many bytes may be printed of a field.
 pub(crate) const LONGEST_PART: usize = 256;
@@ -33,37 +33,30 @@ pub(crate) trait TextPart {
 }
 
 /// Writes of each field what is printed of it.
-pub(crate) fn print_parts<P: TextPart, W: Sink>(
-    items: &[Item],
-    writer: &mut W,
-) -> Result<(), WriteFailed>
-    requires { W.failed writer.old ≡ false }
-    ensures { Prints (W.written writer.old) (W.written writer.new) (W.failed writer.new)
-        (parts_text P.told P.text false items.now) result }
+pub(crate) fn emit_parts<P: TextPart, W: Sink>(items: &[Item], writer: &mut W)
+    ensures { Emits W.written W.failed writer.old writer.new
+        (parts_text P.told P.text false items.now) }
 {
     let mut later = false;
     let mut buffer = OutBuffer::new();
     for item in items {
-        make_room(&mut buffer, writer)?;
+        make_room(&mut buffer, writer);
         P::gather(item, later, &mut buffer);
         later = either(later, P::is_told(item));
     }
-    put(writer, buffer.bytes())
+    emit(writer, buffer.bytes());
 }
 
 /// Writes what was gathered, where there is no room for a further part.
 #[inline(always)]
-fn make_room<W: Sink>(buffer: &mut OutBuffer, writer: &mut W) -> Result<(), WriteFailed>
-    requires { W.failed writer.old ≡ false }
-    ensures room { OnOk result (length buffer.new + LONGEST_PART ≤ ROOM) }
-    ensures handed { Hands (W.written writer.old) (W.written writer.new) (W.failed writer.new)
-        buffer.old buffer.new result }
+fn make_room<W: Sink>(buffer: &mut OutBuffer, writer: &mut W)
+    ensures room { length buffer.new + LONGEST_PART ≤ ROOM }
+    ensures handed { (part : List ℕ) × Emits W.written W.failed writer.old writer.new part × (buffer.old ≡ part ++ buffer.new) }
 {
     if buffer.len() > ROOM - LONGEST_PART {
-        put(writer, buffer.bytes())?;
+        emit(writer, buffer.bytes());
         buffer.clear();
     }
-    Ok(())
 }
 
 fn either(before: bool, now: bool) -> bool

@@ -1,7 +1,7 @@
 //! What is printed of the fields of a message.
 
-ghost use Rattle.std.specs.Prelude.{◌≡◌, ◌+◌, ◌≤◌, ◌++◌, ◌∷◌, ◌&&◌, ◌==◌, [], false, decimal, codes, length};
-ghost use Rattle.rbc_model.specs.Sessions.{Prints};
+ghost use Rattle.std.specs.Prelude.{◌≡◌, ◌+◌, ◌≤◌, ◌++◌, ◌∷◌, ◌&&◌, ◌==◌, [], decimal, codes, length};
+ghost use Rattle.rbc_streams.specs.Emitting.{Emits};
 ghost use Rattle.rbc_decode.specs.declared.parts.TheConstants.{LONGEST_PART};
 ghost use Rattle.rbc_decode.specs.declared.out_buffer.TheConstants.{ROOM};
 ghost use Rattle.rbc_decode.specs.declared.said.Said.TheVariants.{Nominal, Grade, Speed};
@@ -15,14 +15,14 @@ use crate::fields::{FieldPlace, Found, Item};
 use crate::meaning::gather_meaning;
 use crate::names::{field_start, name_text};
 use crate::out_buffer::OutBuffer;
-use crate::parts::{TextPart, print_parts};
+use crate::parts::{TextPart, emit_parts};
 use crate::row::Row;
 use crate::said::{Said, said_in};
 use crate::spelling::Wrong;
 use rbc_model::limits::{AUTHORITY_PACKET, GRADIENT_PACKET, SPEED_PACKET};
 use rbc_model::{Fault, FieldName};
-use rbc_streams::{Sink, WriteFailed, put};
-use rbc_words::{Word, print_line};
+use rbc_streams::{Sink, emit};
+use rbc_words::{Word, emit_line};
 
 /// The fields, a line each.
 struct FieldLines;
@@ -69,75 +69,53 @@ impl TextPart for Words {
 }
 
 /// Writes what stands behind the fields: their words, or the first fault that was found.
-fn print_outcome<W: Sink>(
-    items: &[Item],
-    found: Option<Found>,
-    writer: &mut W,
-) -> Result<(), WriteFailed>
-    requires { W.failed writer.old ≡ false }
-    ensures { Prints (W.written writer.old) (W.written writer.new) (W.failed writer.new)
-        (outcome_text items.now found) result }
+fn emit_outcome<W: Sink>(items: &[Item], found: Option<Found>, writer: &mut W)
+    ensures { Emits W.written W.failed writer.old writer.new
+        (outcome_text items.now found) }
 {
     match found {
         None => {
-            print_parts::<Words, W>(items, writer)?;
-            put(writer, b"done\n")
+            emit_parts::<Words, W>(items, writer);
+            emit(writer, b"done\n");
         }
-        Some(found) => print_found(&found, writer),
+        Some(found) => emit_found(&found, writer),
     }
 }
 
 /// Writes what was read: these fields, and the first fault that was found.
-fn print_reading<W: Sink>(
-    items: &[Item],
-    found: Option<Found>,
-    writer: &mut W,
-) -> Result<(), WriteFailed>
-    requires { W.failed writer.old ≡ false }
-    ensures { Prints (W.written writer.old) (W.written writer.new) (W.failed writer.new)
-        (reading_text (read_as items.now found)) result }
+fn emit_reading<W: Sink>(items: &[Item], found: Option<Found>, writer: &mut W)
+    ensures { Emits W.written W.failed writer.old writer.new
+        (reading_text (read_as items.now found)) }
 {
-    print_parts::<FieldLines, W>(items, writer)?;
-    print_outcome(items, found, writer)
+    emit_parts::<FieldLines, W>(items, writer);
+    emit_outcome(items, found, writer);
 }
 
 /// Writes which line of the input is answered, unless it is the first one.
-fn print_place<W: Sink>(line: u32, writer: &mut W) -> Result<(), WriteFailed>
-    requires { W.failed writer.old ≡ false }
-    ensures { Prints (W.written writer.old) (W.written writer.new) (W.failed writer.new) (line_text line) result }
+fn emit_place<W: Sink>(line: u32, writer: &mut W)
+    ensures { Emits W.written W.failed writer.old writer.new (line_text line) }
 {
     if line == 1 {
-        return Ok(());
+        return;
     }
-    print_line(b"line", &[Word::Number(line)], writer)
+    emit_line(b"line", &[Word::Number(line)], writer);
 }
 
 /// Writes what was read in the line of this number: these fields, and the first fault that was found.
-pub(crate) fn print_told<W: Sink>(
-    line: u32,
-    items: &[Item],
-    found: Option<Found>,
-    writer: &mut W,
-) -> Result<(), WriteFailed>
-    requires { W.failed writer.old ≡ false }
-    ensures { Prints (W.written writer.old) (W.written writer.new) (W.failed writer.new)
-        (told_text line (read_as items.now found)) result }
+pub(crate) fn emit_told<W: Sink>(line: u32, items: &[Item], found: Option<Found>, writer: &mut W)
+    ensures { Emits W.written W.failed writer.old writer.new
+        (told_text line (read_as items.now found)) }
 {
-    print_place(line, writer)?;
-    print_reading(items, found, writer)
+    emit_place(line, writer);
+    emit_reading(items, found, writer);
 }
 
 /// Writes what is wrong with digits in the line of this number.
-pub(crate) fn print_wrong<W: Sink>(
-    line: u32,
-    wrong: Wrong,
-    writer: &mut W,
-) -> Result<(), WriteFailed>
-    requires { W.failed writer.old ≡ false }
-    ensures { Prints (W.written writer.old) (W.written writer.new) (W.failed writer.new) (wrong_text line wrong) result }
+pub(crate) fn emit_wrong<W: Sink>(line: u32, wrong: Wrong, writer: &mut W)
+    ensures { Emits W.written W.failed writer.old writer.new (wrong_text line wrong) }
 {
-    print_place(line, writer)?;
-    print_wrong_line(wrong, writer)
+    emit_place(line, writer);
+    emit_wrong_line(wrong, writer);
 }
 
 /// Puts the line of the message or packet that begins with the field behind a text, if one does.
@@ -330,9 +308,8 @@ fn gather_speed(from: u64, kmh: u64, buffer: &mut OutBuffer)
 }
 
 /// Writes what was found where the fields ended.
-fn print_found<W: Sink>(found: &Found, writer: &mut W) -> Result<(), WriteFailed>
-    requires { W.failed writer.old ≡ false }
-    ensures { Prints (W.written writer.old) (W.written writer.new) (W.failed writer.new) (found_line found.now) result }
+fn emit_found<W: Sink>(found: &Found, writer: &mut W)
+    ensures { Emits W.written W.failed writer.old writer.new (found_line found.now) }
 {
     let words = [
         Word::Text(fault_text(found.fault)),
@@ -342,13 +319,12 @@ fn print_found<W: Sink>(found: &Found, writer: &mut W) -> Result<(), WriteFailed
         Word::Text(measure_text(found.place)),
         Word::Number(found.value),
     ];
-    print_line(b"refused", &words, writer)
+    emit_line(b"refused", &words, writer);
 }
 
 /// Writes what is wrong with digits.
-fn print_wrong_line<W: Sink>(wrong: Wrong, writer: &mut W) -> Result<(), WriteFailed>
-    requires { W.failed writer.old ≡ false }
-    ensures { Prints (W.written writer.old) (W.written writer.new) (W.failed writer.new) (wrong_line wrong) result }
+fn emit_wrong_line<W: Sink>(wrong: Wrong, writer: &mut W)
+    ensures { Emits W.written W.failed writer.old writer.new (wrong_line wrong) }
 {
     match wrong {
         Wrong::Digits(place) => {
@@ -357,9 +333,9 @@ fn print_wrong_line<W: Sink>(wrong: Wrong, writer: &mut W) -> Result<(), WriteFa
                 Word::Text(b"at"),
                 Word::Number(place),
             ];
-            print_line(b"refused", &words, writer)
+            emit_line(b"refused", &words, writer);
         }
-        Wrong::Overlong => put(writer, b"refused Overlong\n"),
+        Wrong::Overlong => emit(writer, b"refused Overlong\n"),
     }
 }
 

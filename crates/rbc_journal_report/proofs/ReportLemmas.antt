@@ -1,15 +1,9 @@
 -- Reports as texts.
-use Rattle.std.proofs.Common.{◌≡◌, ℕ, Bool, List, ◌++◌, Option, Result, sym, ap, subst}
+use Rattle.std.proofs.Common.{◌≡◌, ℕ, List, ◌++◌, Option, sym, ap}
 use Rattle.std.specs.Prelude.{codes}
-use Rattle.rbc_model.specs.Sessions.{Prints}
 use Rattle.rbc_journal.specs.Journal.{told_of}
 use Rattle.rbc_journal_report.specs.Telling.{named_in, head_text, first_begun, begins_text, counts_text, state_text, told_text}
 use Rattle.rbc_journal_report.specs.declared.telling.FileState.{FileState}
-
--- the same text
-pub prints_as : {E : Type 0} (a b : Option (List ℕ)) (failed : Bool) (text other : List ℕ) (r : Result (Unit {0}) E) → text ≡ other
-    → Prints a b failed other r → Prints a b failed text r
-prints_as a b failed text other r same printed = subst (λ (t : List ℕ). Prints a b failed t r) (sym same) printed
 
 -- a report in its parts
 pub told_text-is : (given own : Option (List ℕ)) (lines : List (List ℕ)) (state : FileState) → own ≡ named_in lines

@@ -9,9 +9,10 @@ ghost use Rattle.rbc_journal_report.specs.Following.{standing, go_on, shown_afte
 ghost use Rattle.rbc_journal_report.specs.Telling.{IsText, telling_beside, text_of};
 
 use crate::following::{Doubt, FollowFault};
-use crate::printing::print_text;
+use crate::printing::emit_text;
 use crate::telling::{FileState, tell_beside};
 use rbc_journal::ReadFault;
+use rbc_streams::outcome;
 use rbc_words::Sink;
 use std::alloc::Global;
 
@@ -91,7 +92,8 @@ impl Follower {
             return Ok(false);
         };
         self.shown.extend_from_slice(rest)?;
-        print_text(rest, writer)?;
+        emit_text(rest, writer);
+        outcome(writer)?;
         writer.flush()?;
         Ok(true)
     }

@@ -3,6 +3,7 @@
 ghost use Rattle.std.specs.Prelude.{◌≡◌, ◌∷◌, ◌++◌, [], false, codes, OnOk};
 ghost use Rattle.rbc_model.specs.Sessions.{Prints};
 ghost use Rattle.rbc_model.specs.Words.{line_of};
+ghost use Rattle.rbc_streams.specs.Emitting.{Emits};
 ghost use Rattle.rbc_journal.specs.Gates.{counted};
 ghost use Rattle.rbc_journal.specs.Journal.{told_of};
 ghost use Rattle.rbc_journal_report.specs.Telling.{telling, text_of, told_lines, kind_text, digest_word, given_text, state_text, head_text, first_begun, begins_text, total_text, counts_text, told_text, report_text};
@@ -10,8 +11,8 @@ ghost use Rattle.rbc_journal_report.specs.Telling.{telling, text_of, told_lines,
 use crate::counting::{count, count_of};
 use crate::telling::{FileContent, FileState, first_begun, named, tell};
 use rbc_journal::next_told;
-use rbc_streams::put;
-use rbc_words::{Sink, Word, WriteFailed, print_line};
+use rbc_streams::{emit, outcome};
+use rbc_words::{Sink, Word, WriteFailed, emit_line};
 
 /// Writes a report of a file, beside the digest of a track, if one is given, and hands it on. Nothing is written where the
 /// file is no journal of format 2.
@@ -28,23 +29,18 @@ pub fn print_report<W: Sink>(
         (report_text given (telling bytes.now)) result }
     ensures handed_on { OnOk result (W.held_back writer.new ≡ []) }
 {
-    write_report(bytes, given, writer)?;
+    emit_report(bytes, given, writer);
+    outcome(writer)?;
     writer.flush()
 }
 
 /// Writes a report of a file, if it is a journal of format 2.
-fn write_report<W: Sink>(
-    bytes: &[u8],
-    given: Option<[u8; 64]>,
-    writer: &mut W,
-) -> Result<(), WriteFailed>
-    requires { W.failed writer.old ≡ false }
-    ensures { Prints (W.written writer.old) (W.written writer.new) (W.failed writer.new)
-        (report_text given (telling bytes.now)) result }
+fn emit_report<W: Sink>(bytes: &[u8], given: Option<[u8; 64]>, writer: &mut W)
+    ensures { Emits W.written W.failed writer.old writer.new
+        (report_text given (telling bytes.now)) }
 {
-    match tell(bytes) {
-        Ok(told) => print_told(&told, given, writer),
-        Err(_) => Ok(()),
+    if let Ok(told) = tell(bytes) {
+        emit_told(&told, given, writer);
     }
 }
 
@@ -59,98 +55,81 @@ pub fn print_lines<W: Sink>(bytes: &[u8], writer: &mut W) -> Result<(), WriteFai
         (text_of (told_lines (telling bytes.now))) result }
     ensures handed_on { OnOk result (W.held_back writer.new ≡ []) }
 {
-    write_lines(bytes, writer)?;
+    emit_lines(bytes, writer);
+    outcome(writer)?;
     writer.flush()
 }
 
 /// Writes the lines that a file tells.
-fn write_lines<W: Sink>(bytes: &[u8], writer: &mut W) -> Result<(), WriteFailed>
-    requires { W.failed writer.old ≡ false }
-    ensures { Prints (W.written writer.old) (W.written writer.new) (W.failed writer.new)
-        (text_of (told_lines (telling bytes.now))) result }
+fn emit_lines<W: Sink>(bytes: &[u8], writer: &mut W)
+    ensures { Emits W.written W.failed writer.old writer.new
+        (text_of (told_lines (telling bytes.now))) }
 {
-    match tell(bytes) {
-        Ok(told) => print_text(told.text, writer),
-        Err(_) => Ok(()),
+    if let Ok(told) = tell(bytes) {
+        emit_text(told.text, writer);
     }
 }
 
 /// Writes the lines that a text tells.
-pub(crate) fn print_text<W: Sink>(text: &[u8], writer: &mut W) -> Result<(), WriteFailed>
-    requires { W.failed writer.old ≡ false }
-    ensures { Prints (W.written writer.old) (W.written writer.new) (W.failed writer.new)
-        (text_of (told_of (counted text.now))) result }
+pub(crate) fn emit_text<W: Sink>(text: &[u8], writer: &mut W)
+    ensures { Emits W.written W.failed writer.old writer.new
+        (text_of (told_of (counted text.now))) }
 {
     let mut rest = text;
     while let Some((_, line, after)) = next_told(rest) {
-        print_one(line, writer)?;
+        emit_one(line, writer);
         rest = after;
     }
-    Ok(())
 }
 
 /// Writes a line.
-fn print_one<W: Sink>(line: &[u8], writer: &mut W) -> Result<(), WriteFailed>
-    requires { W.failed writer.old ≡ false }
-    ensures { Prints (W.written writer.old) (W.written writer.new) (W.failed writer.new)
-        (line.now ++ 10 ∷ []) result }
+fn emit_one<W: Sink>(line: &[u8], writer: &mut W)
+    ensures { Emits W.written W.failed writer.old writer.new
+        (line.now ++ 10 ∷ []) }
 {
-    put(writer, line)?;
-    put(writer, b"\n")
+    emit(writer, line);
+    emit(writer, b"\n");
 }
 
 /// Writes a report.
-fn print_told<W: Sink>(
-    told: &FileContent,
-    given: Option<[u8; 64]>,
-    writer: &mut W,
-) -> Result<(), WriteFailed>
-    requires { W.failed writer.old ≡ false }
-    ensures { Prints (W.written writer.old) (W.written writer.new) (W.failed writer.new)
-        (told_text given (record { lines = counted told.now.text.now; state = told.now.state })) result }
+fn emit_told<W: Sink>(told: &FileContent, given: Option<[u8; 64]>, writer: &mut W)
+    ensures { Emits W.written W.failed writer.old writer.new
+        (told_text given (record { lines = counted told.now.text.now; state = told.now.state })) }
 {
-    print_head(given, named(told.text), writer)?;
-    print_begins(told.text, writer)?;
-    print_counts(told.text, writer)?;
-    print_state(told.state, writer)?;
-    put(writer, b"done\n")
+    emit_head(given, named(told.text), writer);
+    emit_begins(told.text, writer);
+    emit_counts(told.text, writer);
+    emit_state(told.state, writer);
+    emit(writer, b"done\n");
 }
 
 /// Writes the format, and the track.
-fn print_head<W: Sink>(
-    given: Option<[u8; 64]>,
-    own: Option<[u8; 64]>,
-    writer: &mut W,
-) -> Result<(), WriteFailed>
-    requires { W.failed writer.old ≡ false }
-    ensures { Prints (W.written writer.old) (W.written writer.new) (W.failed writer.new) (head_text given own) result }
+fn emit_head<W: Sink>(given: Option<[u8; 64]>, own: Option<[u8; 64]>, writer: &mut W)
+    ensures { Emits W.written W.failed writer.old writer.new (head_text given own) }
 {
-    put(writer, b"format 2\n")?;
-    print_digest(own, writer)?;
-    put(writer, given_text(given, own))
+    emit(writer, b"format 2\n");
+    emit_digest(own, writer);
+    emit(writer, given_text(given, own));
 }
 
 /// Writes the line of the track.
-fn print_digest<W: Sink>(own: Option<[u8; 64]>, writer: &mut W) -> Result<(), WriteFailed>
-    requires { W.failed writer.old ≡ false }
-    ensures { Prints (W.written writer.old) (W.written writer.new) (W.failed writer.new)
-        (line_of (codes "track" ∷ digest_word own ∷ [])) result }
+fn emit_digest<W: Sink>(own: Option<[u8; 64]>, writer: &mut W)
+    ensures { Emits W.written W.failed writer.old writer.new
+        (line_of (codes "track" ∷ digest_word own ∷ [])) }
 {
     match own {
-        Some(digest) => print_line(b"track", &[Word::Text(&digest)], writer),
-        None => print_line(b"track", &[Word::Text(b"-")], writer),
+        Some(digest) => emit_line(b"track", &[Word::Text(&digest)], writer),
+        None => emit_line(b"track", &[Word::Text(b"-")], writer),
     }
 }
 
 /// Writes the first line of what a text begins with, if it begins with anything.
-fn print_begins<W: Sink>(text: &[u8], writer: &mut W) -> Result<(), WriteFailed>
-    requires { W.failed writer.old ≡ false }
-    ensures { Prints (W.written writer.old) (W.written writer.new) (W.failed writer.new)
-        (begins_text (first_begun (counted text.now))) result }
+fn emit_begins<W: Sink>(text: &[u8], writer: &mut W)
+    ensures { Emits W.written W.failed writer.old writer.new
+        (begins_text (first_begun (counted text.now))) }
 {
-    match first_begun(text) {
-        Some(line) => print_line(b"begins", &[Word::Text(line)], writer),
-        None => Ok(()),
+    if let Some(line) = first_begun(text) {
+        emit_line(b"begins", &[Word::Text(line)], writer);
     }
 }
 
@@ -169,46 +148,42 @@ fn given_text(given: Option<[u8; 64]>, own: Option<[u8; 64]>) -> &'static [u8]
 }
 
 /// Writes how many lines a text tells, and how many of each kind.
-fn print_counts<W: Sink>(text: &[u8], writer: &mut W) -> Result<(), WriteFailed>
-    requires { W.failed writer.old ≡ false }
-    ensures { Prints (W.written writer.old) (W.written writer.new) (W.failed writer.new)
-        (counts_text (told_of (counted text.now))) result }
+fn emit_counts<W: Sink>(text: &[u8], writer: &mut W)
+    ensures { Emits W.written W.failed writer.old writer.new
+        (counts_text (told_of (counted text.now))) }
 {
-    print_total(text, writer)?;
-    print_kind(text, b"report", writer)?;
-    print_kind(text, b"lock", writer)?;
-    print_kind(text, b"free", writer)?;
-    print_kind(text, b"leave", writer)?;
-    print_kind(text, b"yield", writer)?;
-    print_kind(text, b"ask", writer)
+    emit_total(text, writer);
+    emit_kind(text, b"report", writer);
+    emit_kind(text, b"lock", writer);
+    emit_kind(text, b"free", writer);
+    emit_kind(text, b"leave", writer);
+    emit_kind(text, b"yield", writer);
+    emit_kind(text, b"ask", writer);
 }
 
 /// Writes how many lines a text tells.
-fn print_total<W: Sink>(text: &[u8], writer: &mut W) -> Result<(), WriteFailed>
-    requires { W.failed writer.old ≡ false }
-    ensures { Prints (W.written writer.old) (W.written writer.new) (W.failed writer.new)
-        (total_text (told_of (counted text.now))) result }
+fn emit_total<W: Sink>(text: &[u8], writer: &mut W)
+    ensures { Emits W.written W.failed writer.old writer.new
+        (total_text (told_of (counted text.now))) }
 {
-    print_line(b"lines", &[Word::Count(count(text))], writer)
+    emit_line(b"lines", &[Word::Count(count(text))], writer);
 }
 
 /// Writes a kind, and how many of the lines that a text tells are of it.
-fn print_kind<W: Sink>(text: &[u8], kind: &[u8], writer: &mut W) -> Result<(), WriteFailed>
-    requires { W.failed writer.old ≡ false }
-    ensures { Prints (W.written writer.old) (W.written writer.new) (W.failed writer.new)
-        (kind_text (told_of (counted text.now)) kind.now) result }
+fn emit_kind<W: Sink>(text: &[u8], kind: &[u8], writer: &mut W)
+    ensures { Emits W.written W.failed writer.old writer.new
+        (kind_text (told_of (counted text.now)) kind.now) }
 {
-    print_line(kind, &[Word::Count(count_of(text, kind))], writer)
+    emit_line(kind, &[Word::Count(count_of(text, kind))], writer);
 }
 
 /// Writes how a file ends.
-fn print_state<W: Sink>(state: FileState, writer: &mut W) -> Result<(), WriteFailed>
-    requires { W.failed writer.old ≡ false }
-    ensures { Prints (W.written writer.old) (W.written writer.new) (W.failed writer.new) (state_text state) result }
+fn emit_state<W: Sink>(state: FileState, writer: &mut W)
+    ensures { Emits W.written W.failed writer.old writer.new (state_text state) }
 {
     match state {
-        FileState::Whole => put(writer, b"whole\n"),
-        FileState::Cut(bytes) => print_line(b"cut", &[Word::Count(bytes)], writer),
-        FileState::Damaged(line) => print_line(b"damaged", &[Word::Count(line)], writer),
+        FileState::Whole => emit(writer, b"whole\n"),
+        FileState::Cut(bytes) => emit_line(b"cut", &[Word::Count(bytes)], writer),
+        FileState::Damaged(line) => emit_line(b"damaged", &[Word::Count(line)], writer),
     }
 }

@@ -1,5 +1,5 @@
 -- The texts of entries, one behind the other.
-use Rattle.std.proofs.Common.{◌≡◌, Option, Result, subst, ap₂, Bool, true, false, ℕ, suc, ◌+◌, ◌<◌, ◌≤◌, List, [], ◌∷◌, ◌++◌, length, drop, get_or, drop-cons, add-one, refl, sym, ap, ◌∙◌}
+use Rattle.std.proofs.Common.{◌≡◌, ap₂, Bool, true, false, ℕ, suc, ◌+◌, ◌<◌, ◌≤◌, List, [], ◌∷◌, ◌++◌, length, drop, get_or, drop-cons, add-one, refl, sym, ap, ◌∙◌}
 use Rattle.std.specs.List.{flat_map}
 use Rattle.std.specs.Prelude.{codes}
 use Rattle.std.proofs.lemmas.List.{at_drop_all}
@@ -8,7 +8,6 @@ use Rattle.rbc_model.specs.declared.places.Direction.{Direction}
 use Rattle.rbc_model.specs.declared.places.Direction.TheVariants.{Rising, Falling}
 use Rattle.rbc_model.specs.declared.places.Leg.{Leg}
 use Rattle.rbc_model.specs.Names.{LegName, leg_text}
-use Rattle.rbc_model.specs.Sessions.{Prints}
 use Rattle.rbc_model.specs.Tracks.{Section, Track}
 use Rattle.rbc_model.specs.Words.{line_of}
 
@@ -48,20 +47,10 @@ metres-end xs index past = at_drop_all metres_in xs index past
 
 -- ---- what is told, or not
 
--- a line that is not told
-pub not-told : (test : Bool) (line : List ℕ) → test ≡ false → told_if test line ≡ []
-not-told false line h = refl
-not-told true line h = absurd (let never : ⊥ = cc in never)
-
--- and one that is
+-- a line that is told
 pub is-told : (test : Bool) (line : List ℕ) → test ≡ true → told_if test line ≡ line
 is-told true line h = refl
 is-told false line h = absurd (let never : ⊥ = cc in never)
-
--- what was printed is this text
-pub prints_as : {E : Type 0} (a b : Option (List ℕ)) (failed : Bool) (text other : List ℕ) (r : Result (Unit {0}) E)
-    → Prints a b failed text r → text ≡ other → Prints a b failed other r
-prints_as a b failed text other r printed same = subst (λ t. Prints a b failed t r) same printed
 
 -- ---- lines by their words
 

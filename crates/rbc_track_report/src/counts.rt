@@ -1,13 +1,13 @@
 //! How much a track has.
 
-ghost use Rattle.std.specs.Prelude.{◌≡◌, ◌≤◌, ◌*◌, ◌+◌, false, length, All};
-ghost use Rattle.rbc_model.specs.Sessions.{Prints};
+ghost use Rattle.std.specs.Prelude.{◌≡◌, ◌≤◌, ◌*◌, ◌+◌, length, All};
 ghost use Rattle.rbc_model.specs.declared.limits.TheConstants.{LONGEST_TRACK};
+ghost use Rattle.rbc_streams.specs.Emitting.{Emits};
 ghost use Rattle.rbc_track_report.specs.Report.{counts_line, metres_in};
 
-use rbc_streams::{Sink, WriteFailed};
+use rbc_streams::Sink;
 use rbc_track::{Section, Track};
-use rbc_words::{Word, print_line};
+use rbc_words::{Word, emit_line};
 
 /// How many metres the sections have.
 pub(crate) fn metres_in(sections: &[Section]) -> u64
@@ -23,10 +23,9 @@ pub(crate) fn metres_in(sections: &[Section]) -> u64
 }
 
 /// Writes how many sections, metres, links, balise groups and routes a track has.
-pub(crate) fn print_counts<W: Sink>(track: &Track, writer: &mut W) -> Result<(), WriteFailed>
-    requires { W.failed writer.old ≡ false }
-    ensures { Prints (W.written writer.old) (W.written writer.new) (W.failed writer.new)
-        (counts_line track.now) result }
+pub(crate) fn emit_counts<W: Sink>(track: &Track, writer: &mut W)
+    ensures { Emits W.written W.failed writer.old writer.new
+        (counts_line track.now) }
 {
     track.known();
     let words = [
@@ -40,5 +39,5 @@ pub(crate) fn print_counts<W: Sink>(track: &Track, writer: &mut W) -> Result<(),
         Word::Text(b"routes"),
         Word::Count(track.route_count() as u64),
     ];
-    print_line(b"sections", &words, writer)
+    emit_line(b"sections", &words, writer);
 }

@@ -1,14 +1,14 @@
 //! What may be other than was meant.
 
-ghost use Rattle.std.specs.Prelude.{◌≡◌, false, not, find, option_map};
-ghost use Rattle.rbc_model.specs.Sessions.{Prints};
+ghost use Rattle.std.specs.Prelude.{◌≡◌, not, find, option_map};
+ghost use Rattle.rbc_streams.specs.Emitting.{Emits};
 ghost use Rattle.rbc_words.specs.LineWords.{word_text};
 ghost use Rattle.rbc_track_report.specs.Report.{has_section, is_on_route, has_leg, leads_from, leg_along, leads_on, ends_with, is_reached, entry_word, unused_text, unpassed_text, end_text, ends_text, entry_text, both_text};
 
 use rbc_model::{BaliseGroup, Direction, Leg, Link, SectionId};
-use rbc_streams::{Sink, WriteFailed};
+use rbc_streams::Sink;
 use rbc_track::{LegName, Route, Section, Track, reverse};
-use rbc_words::{Word, leg_word, print_line};
+use rbc_words::{Word, emit_line, leg_word};
 
 /// A leg of the section of this number.
 fn leg_along(number: usize, direction: Direction) -> Leg
@@ -94,79 +94,56 @@ fn is_unreached(track: &Track, route: &Route, leg: &Leg) -> bool
 }
 
 /// Tells of a section that no route has.
-pub(crate) fn print_unused<W: Sink>(
-    track: &Track,
-    number: usize,
-    section: &Section,
-    writer: &mut W,
-) -> Result<(), WriteFailed>
-    requires { W.failed writer.old ≡ false }
-    ensures { Prints (W.written writer.old) (W.written writer.new) (W.failed writer.new)
-        (unused_text track.now number section.now) result }
+pub(crate) fn emit_unused<W: Sink>(track: &Track, number: usize, section: &Section, writer: &mut W)
+    ensures { Emits W.written W.failed writer.old writer.new
+        (unused_text track.now number section.now) }
 {
     if !is_unused(track, number) {
-        return Ok(());
+        return;
     }
     let words = [Word::Name(section.name()), Word::Text(b"is on no route")];
-    print_line(b"warning section", &words, writer)
+    emit_line(b"warning section", &words, writer);
 }
 
 /// Tells of a balise group that no route passes.
-pub(crate) fn print_unpassed<W: Sink>(
-    track: &Track,
-    group: &BaliseGroup,
-    writer: &mut W,
-) -> Result<(), WriteFailed>
-    requires { W.failed writer.old ≡ false }
-    ensures { Prints (W.written writer.old) (W.written writer.new) (W.failed writer.new)
-        (unpassed_text track.now group.now) result }
+pub(crate) fn emit_unpassed<W: Sink>(track: &Track, group: &BaliseGroup, writer: &mut W)
+    ensures { Emits W.written W.failed writer.old writer.new
+        (unpassed_text track.now group.now) }
 {
     if !is_unused(track, group.section.index()) {
-        return Ok(());
+        return;
     }
     let words = [
         Word::Group(group.name),
         Word::Text(b"is passed by no route"),
     ];
-    print_line(b"warning group", &words, writer)
+    emit_line(b"warning group", &words, writer);
 }
 
 /// Tells of a leg of a section from whose end no link leads.
-fn print_end<W: Sink>(
-    track: &Track,
-    section: &Section,
-    leg: &Leg,
-    writer: &mut W,
-) -> Result<(), WriteFailed>
-    requires { W.failed writer.old ≡ false }
-    ensures { Prints (W.written writer.old) (W.written writer.new) (W.failed writer.new)
-        (end_text track.now section.now.name leg.now) result }
+fn emit_end<W: Sink>(track: &Track, section: &Section, leg: &Leg, writer: &mut W)
+    ensures { Emits W.written W.failed writer.old writer.new
+        (end_text track.now section.now.name leg.now) }
 {
     if !is_end(track, leg) {
-        return Ok(());
+        return;
     }
     let words = [
         Word::Leg(LegName::of(section.name(), leg.direction)),
         Word::Text(b"has no link at its end"),
     ];
-    print_line(b"warning leg", &words, writer)
+    emit_line(b"warning leg", &words, writer);
 }
 
 /// Tells of the ends of a section from which no link leads.
-pub(crate) fn print_ends<W: Sink>(
-    track: &Track,
-    number: usize,
-    section: &Section,
-    writer: &mut W,
-) -> Result<(), WriteFailed>
-    requires { W.failed writer.old ≡ false }
-    ensures { Prints (W.written writer.old) (W.written writer.new) (W.failed writer.new)
-        (ends_text track.now number section.now) result }
+pub(crate) fn emit_ends<W: Sink>(track: &Track, number: usize, section: &Section, writer: &mut W)
+    ensures { Emits W.written W.failed writer.old writer.new
+        (ends_text track.now number section.now) }
 {
     let rising = leg_along(number, Direction::Rising);
     let falling = leg_along(number, Direction::Falling);
-    print_end(track, section, &rising, writer)?;
-    print_end(track, section, &falling, writer)
+    emit_end(track, section, &rising, writer);
+    emit_end(track, section, &falling, writer);
 }
 
 /// A leg as a word: nothing, where the track has no such section.
@@ -181,20 +158,15 @@ fn entry_word<'line>(track: &Track, leg: &Leg) -> Word<'line>
 }
 
 /// Tells of a route that is entered from a leg with which no other route ends.
-pub(crate) fn print_entry<W: Sink>(
-    track: &Track,
-    route: &Route,
-    writer: &mut W,
-) -> Result<(), WriteFailed>
-    requires { W.failed writer.old ≡ false }
-    ensures { Prints (W.written writer.old) (W.written writer.new) (W.failed writer.new)
-        (entry_text track.now route.now) result }
+pub(crate) fn emit_entry<W: Sink>(track: &Track, route: &Route, writer: &mut W)
+    ensures { Emits W.written W.failed writer.old writer.new
+        (entry_text track.now route.now) }
 {
     let Some(leg) = route.after() else {
-        return Ok(());
+        return;
     };
     if !is_unreached(track, route, &leg) {
-        return Ok(());
+        return;
     }
     let words = [
         Word::Name(route.name()),
@@ -202,7 +174,7 @@ pub(crate) fn print_entry<W: Sink>(
         entry_word(track, &leg),
         Word::Text(b"and no other route ends there"),
     ];
-    print_line(b"warning route", &words, writer)
+    emit_line(b"warning route", &words, writer);
 }
 
 /// The first route of the track that has the leg.
@@ -213,20 +185,14 @@ fn first_with<'a>(track: &'a Track, leg: &Leg) -> Option<&'a Route>
 }
 
 /// Tells of a section that two routes lock in both directions.
-pub(crate) fn print_both<W: Sink>(
-    track: &Track,
-    number: usize,
-    section: &Section,
-    writer: &mut W,
-) -> Result<(), WriteFailed>
-    requires { W.failed writer.old ≡ false }
-    ensures { Prints (W.written writer.old) (W.written writer.new) (W.failed writer.new)
-        (both_text track.now number section.now) result }
+pub(crate) fn emit_both<W: Sink>(track: &Track, number: usize, section: &Section, writer: &mut W)
+    ensures { Emits W.written W.failed writer.old writer.new
+        (both_text track.now number section.now) }
 {
     let up = first_with(track, &leg_along(number, Direction::Rising));
     let down = first_with(track, &leg_along(number, Direction::Falling));
     let (Some(up), Some(down)) = (up, down) else {
-        return Ok(());
+        return;
     };
     let words = [
         Word::Name(section.name()),
@@ -235,5 +201,5 @@ pub(crate) fn print_both<W: Sink>(
         Word::Text(b"and"),
         Word::Name(down.name()),
     ];
-    print_line(b"warning section", &words, writer)
+    emit_line(b"warning section", &words, writer);
 }

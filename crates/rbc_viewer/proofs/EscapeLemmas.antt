@@ -1,13 +1,10 @@
 -- Text in a page, escaped.
-use Rattle.std.proofs.Common.{◌≡◌, ℕ, ◌+◌, ◌-◌, ◌<◌, Bool, true, false, ◌&&◌, ◌==◌, if◌then◌else◌, List, [], ◌∷◌, ◌++◌, length, take, drop, get_or, Option, refl, sym, ap, ◌∙◌, subst, codes, take-append-drop, append_assoc, append-nil, add-one}
+use Rattle.std.proofs.Common.{◌≡◌, ℕ, ◌+◌, ◌-◌, ◌<◌, Bool, true, false, ◌&&◌, ◌==◌, if◌then◌else◌, List, [], ◌∷◌, ◌++◌, length, take, drop, get_or, refl, sym, ap, ◌∙◌, codes, take-append-drop, append-nil, add-one, arith}
 use Rattle.std.specs.List.{list_all}
-use Rattle.std.specs.Io.KnownBytes.{Appends}
-use Rattle.std.proofs.KnownBytes.{Appends-trans}
-use Rattle.std.proofs.Math.Seq.{take-suc, take-add}
+use Rattle.std.proofs.Math.Seq.{take-suc}
 use Rattle.std.proofs.lemmas.Bool.{eqb-true}
 use Rattle.std.proofs.lemmas.Grind.{flat_map-append}
 use Rattle.std.proofs.lemmas.List.Folds.{list_all-append}
-use Rattle.rbc_model.specs.Sessions.{WritesPart}
 use Rattle.rbc_streams.proofs.PieceLemmas.{rest_from}
 use Rattle.rbc_viewer.specs.Escapes.{escape, escaped, is_plain, read_behind, EscapesArePlain, EscapesAreReadBack}
 
@@ -61,39 +58,13 @@ one_behind bytes count byte within is so_far =
     ap escaped one ∙ flat_map-append escape (take count bytes) (byte ∷ []) ∙ ap (λ l. l ++ escaped (byte ∷ [])) so_far
     ∙ ap (λ l. take count bytes ++ l) (append-nil (escape byte))
 
--- a part of what is written for the first bytes is one of what is written for all
-pub part_of_front : (old new : Option (List ℕ)) (bytes : List ℕ) (count : ℕ) → WritesPart old new (escaped (take count bytes)) → WritesPart old new (escaped bytes)
-part_of_front old new bytes count (part, rest, cut, wrote) = (
-  part,
-  rest ++ escaped (drop count bytes),
-  ap escaped (sym (take-append-drop count bytes)) ∙ flat_map-append escape (take count bytes) (drop count bytes)
-      ∙ ap (λ l. l ++ escaped (drop count bytes)) cut ∙ append_assoc part rest (escaped (drop count bytes)),
-  wrote,
-)
+-- what is written for a text, by its front and what stands behind that
+pub escaped_cut : (count : ℕ) (bytes : List ℕ) → escaped bytes ≡ escaped (take count bytes) ++ escaped (take (length bytes - count) (drop count bytes))
+escaped_cut count bytes =
+    ap escaped (sym (take-append-drop count bytes)) ∙ flat_map-append escape (take count bytes) (drop count bytes)
+    ∙ ap (λ l. escaped (take count bytes) ++ escaped l) (sym (rest_from count bytes))
 
--- the same behind what was written
-pub part_behind : (old mid new : Option (List ℕ)) (front text : List ℕ) → Appends old mid front → WritesPart mid new text → WritesPart old new (front ++ text)
-part_behind old mid new front text first (part, rest, cut, wrote) = (
-  front ++ part,
-  rest,
-  ap (λ l. front ++ l) cut ∙ sym (append_assoc front part rest),
-  Appends-trans old mid new front part first wrote,
-)
-
--- one more piece of the bytes is written
-pub escaped_more : (old mid new : Option (List ℕ)) (bytes : List ℕ) (count more : ℕ)
-    → Appends old mid (escaped (take count bytes)) → Appends mid new (escaped (take more (take (length bytes - count) (drop count bytes)))) → Appends old new (escaped (take (count + more) bytes))
-escaped_more old mid new bytes count more so_far piece =
-    let joined : escaped (take count bytes) ++ escaped (take more (take (length bytes - count) (drop count bytes))) ≡ escaped (take (count + more) bytes) =
-    ap (λ l. escaped (take count bytes) ++ escaped (take more l)) (rest_from count bytes)
-    ∙ sym (flat_map-append escape (take count bytes) (take more (drop count bytes))) ∙ ap escaped (sym (take-add count more bytes)) in
-    subst (Appends old new) joined (Appends-trans old mid new _ _ so_far piece)
-
--- where a write fails, a part of what is to be written is
-pub escaped_failed : (old mid new : Option (List ℕ)) (bytes : List ℕ) (count : ℕ)
-    → Appends old mid (escaped (take count bytes)) → WritesPart mid new (escaped (take (length bytes - count) (drop count bytes))) → WritesPart old new (escaped bytes)
-escaped_failed old mid new bytes count so_far part =
-    let joined : escaped (take count bytes) ++ escaped (take (length bytes - count) (drop count bytes)) ≡ escaped bytes =
-    ap (λ l. escaped (take count bytes) ++ escaped l) (rest_from count bytes)
-    ∙ sym (flat_map-append escape (take count bytes) (drop count bytes)) ∙ ap escaped (take-append-drop count bytes) in
-    subst (WritesPart old new) joined (part_behind old mid new _ _ so_far part)
+-- nothing is left
+pub escaped_none : (bytes : List ℕ) → (length bytes == 0) ≡ true → escaped bytes ≡ []
+escaped_none [] none = refl
+escaped_none (byte ∷ bytes) none = let nothing = eqb-true (length (byte ∷ bytes)) 0 none in absurd (omega arith)

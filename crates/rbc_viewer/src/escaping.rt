@@ -1,11 +1,11 @@
 //! Text that is written into a page of HTML.
 
-ghost use Rattle.std.specs.Prelude.{◌≡◌, ◌≤◌, ◌<◌, ◌∷◌, [], ℕ, true, false, take, length, IfOk, OnErr, OnOk, is_err};
-ghost use Rattle.std.specs.Io.KnownBytes.{Appends};
-ghost use Rattle.rbc_model.specs.Sessions.{Prints, WritesPart};
+ghost use Rattle.std.specs.Prelude.{◌≡◌, ◌≤◌, ◌<◌, ◌∷◌, [], true, false, take, length};
+ghost use Rattle.rbc_model.specs.Sessions.{Prints};
+ghost use Rattle.rbc_streams.specs.Emitting.{Emits};
 ghost use Rattle.rbc_viewer.specs.Escapes.{escape, escaped, EscapesArePlain, EscapesAreReadBack};
 
-use rbc_streams::{Sink, WriteFailed, put};
+use rbc_streams::{Sink, WriteFailed, emit, outcome};
 
 /// Whether a byte of text stands for itself in a page.
 fn stands_for_itself(byte: u8) -> bool
@@ -27,36 +27,44 @@ fn plain_ahead(bytes: &[u8]) -> usize
 }
 
 /// Writes a byte of text into a page.
-fn write_byte<W: Sink>(byte: u8, writer: &mut W) -> Result<(), WriteFailed>
-    requires { W.failed writer.old ≡ false }
-    ensures { Prints (W.written writer.old) (W.written writer.new) (W.failed writer.new) (escape byte) result }
+fn emit_byte<W: Sink>(byte: u8, writer: &mut W)
+    ensures { Emits W.written W.failed writer.old writer.new (escape byte) }
 {
     match byte {
-        b'&' => put(writer, b"&amp;"),
-        b'<' => put(writer, b"&lt;"),
-        b'>' => put(writer, b"&gt;"),
-        b'\r' => put(writer, b"&#13;"),
-        byte => put(writer, &[byte]),
+        b'&' => emit(writer, b"&amp;"),
+        b'<' => emit(writer, b"&lt;"),
+        b'>' => emit(writer, b"&gt;"),
+        b'\r' => emit(writer, b"&#13;"),
+        byte => emit(writer, &[byte]),
     }
 }
 
 /// Writes the first bytes of a text that is not empty into a page: those that stand for themselves, and the next one. Answers
 /// how many.
-fn write_run<W: Sink>(text: &[u8], writer: &mut W) -> Result<usize, WriteFailed>
-    requires going { W.failed writer.old ≡ false }
-    requires some { 0 < length text.now }
-    ensures count { IfOk result (λ count. (0 < count) × (count ≤ length text.now)) }
-    ensures text { IfOk result (λ count. Appends (W.written writer.old) (W.written writer.new) (escaped (take count text.now))) }
-    ensures part { OnErr result (WritesPart (W.written writer.old) (W.written writer.new) (escaped text.now)) }
-    ensures failed { W.failed writer.new ≡ is_err result }
+fn emit_run<W: Sink>(text: &[u8], writer: &mut W) -> usize
+    requires { 0 < length text.now }
+    ensures some { 0 < result }
+    ensures within { result ≤ length text.now }
+    ensures text { Emits W.written W.failed writer.old writer.new (escaped (take result text.now)) }
 {
     let plain = plain_ahead(text);
-    put(writer, &text[..plain])?;
+    emit(writer, &text[..plain]);
     if plain == text.len() {
-        return Ok(plain);
+        return plain;
     }
-    write_byte(text[plain], writer)?;
-    Ok(plain + 1)
+    emit_byte(text[plain], writer);
+    plain + 1
+}
+
+/// Writes a text into a page, escaped: `&`, `<`, `>` and the carriage return are named. Takes no memory.
+fn emit_escaped<W: Sink>(text: &[u8], writer: &mut W)
+    ensures { Emits W.written W.failed writer.old writer.new (escaped text.now) }
+{
+    let mut rest = text;
+    while !rest.is_empty() {
+        let count = emit_run(rest, writer);
+        rest = &rest[count..];
+    }
 }
 
 /// Writes a text into a page, escaped: `&`, `<`, `>` and the carriage return are named. Takes no memory.
@@ -68,11 +76,8 @@ pub fn write_escaped<W: Sink>(text: &[u8], writer: &mut W) -> Result<(), WriteFa
     requires { W.failed writer.old ≡ false }
     ensures { Prints (W.written writer.old) (W.written writer.new) (W.failed writer.new) (escaped text.now) result }
 {
-    let mut count = 0;
-    while count < text.len() {
-        count += write_run(&text[count..], writer)?;
-    }
-    Ok(())
+    emit_escaped(text, writer);
+    outcome(writer)
 }
 
 /// No escaped text has a `<`, a `>` or a carriage return: none ends the place that it stands in, and none begins a line of

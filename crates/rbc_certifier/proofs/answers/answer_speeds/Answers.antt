@@ -4,5 +4,5 @@ use Rattle.rbc_certifier.proofs.answers.answer_speeds.Goals as goal
 pub returns-in-Ok : goal.returns-in-Ok
 returns-in-Ok g c =
     let request = c.args.request in
-    let reply = c.print_chosen.ensures in
+    let reply = c.emit_chosen.ensures in
     (reply.0, reply.1 request.runs.items request.end (sym c.in-Ok.ensures.track), reply.2)

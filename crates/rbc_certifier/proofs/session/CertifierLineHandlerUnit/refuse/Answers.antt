@@ -8,5 +8,5 @@ pub returns-clause-reply : goal.returns-clause-reply
 returns-clause-reply g c = (
   refusal_reply (BadLine Overlong),
   overlong_refused,
-  record { text = c.print_refusal.ensures.text; failed = c.print_refusal.ensures.failed },
+  c.outcome.ensures.printed _ _ c.requires.going c.emit_refusal.ensures,
 )

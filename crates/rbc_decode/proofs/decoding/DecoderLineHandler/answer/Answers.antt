@@ -18,11 +18,11 @@ returns-clause-reply g c =
         rw short (ap (λ n. told_reply printing n c.follow-granted.result (told_view c.meant_in.result)) counted.number
             ∙ ap (λ (g : Option GrantedLine). told_reply printing before.line g (told_view c.meant_in.result)) (followed.before ∙ counted.granted)
             ∙ ap (λ (t : LineMeaning). told_reply printing before.line before.granted t) told),
-        c.print_told.ensures.line ∙ followed.line ∙ counted.line,
-        c.print_told.ensures.refused
+        c.emit_told.ensures.line ∙ followed.line ∙ counted.line,
+        c.emit_told.ensures.refused
             ∙ ap (λ b. b || is_told_refused (told_view c.meant_in.result)) (followed.refused ∙ counted.refused)
             ∙ rw short (ap (λ (t : LineMeaning). before.refused || is_told_refused t) told),
-        c.print_told.ensures.granted ∙ followed.kept ∙ rw short c.granted_by.ensures,
+        c.emit_told.ensures.granted ∙ followed.kept ∙ rw short c.granted_by.ensures,
       ),
-      c.print_told.ensures.reply,
+      c.outcome.ensures.printed _ _ c.requires.going c.emit_told.ensures.reply,
     )

@@ -1,7 +1,0 @@
-use Rattle.rbc_decode.proofs.PartsLemmas.{prints_as}
-use Rattle.rbc_decode.proofs.JsonLemmas.{found_by_parts}
-use Rattle.rbc_decode.proofs.json_line.print_found.Goals as goal
-
-pub returns : goal.returns
-returns g c =
-    prints_as (found_by_parts c.args.found.now _ _ _ c.fault_text.ensures c.place_text.ensures c.measure_text.ensures) c.print_pieces.ensures

@@ -1,7 +1,0 @@
-use Rattle.rbc_decode.proofs.json_line.print_outcome.Goals as goal
-
-pub returns-in-None : goal.returns-in-None
-returns-in-None g c = rw c.in-None.is c.print_words.ensures
-
-pub returns-in-Some : goal.returns-in-Some
-returns-in-Some g c = rw c.in-Some.is c.print_found.ensures

@@ -1,9 +1,0 @@
-use Rattle.std.proofs.Common.{◌∷◌, [], ◌++◌, codes, decimal, sym, ap, append_assoc}
-use Rattle.json.specs.Print.{escape_byte}
-use Rattle.rbc_decode.proofs.PartsLemmas.{prints_as}
-use Rattle.rbc_decode.proofs.json_line.print_overlong.Goals as goal
-
-pub returns : goal.returns
-unfolding escape_byte
-returns g c =
-    prints_as (sym (ap (λ l. codes "{\"line\":" ++ l) (append_assoc (decimal c.args.line) (codes ",\"refused\":{\"fault\":\"Overlong\"}}") (10 ∷ [])))) c.print_pieces.ensures

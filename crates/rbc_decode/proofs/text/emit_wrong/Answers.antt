@@ -1,0 +1,5 @@
+use Rattle.rbc_streams.proofs.EmittingLemmas.{emits_then}
+use Rattle.rbc_decode.proofs.text.emit_wrong.Goals as goal
+
+pub returns : goal.returns
+returns g c = emits_then c.emit_place.ensures c.emit_wrong_line.ensures
