@@ -6,7 +6,6 @@ ghost use Rattle.rbc_model.specs.Sessions.{Prints};
 ghost use Rattle.rbc_streams.specs.Emitting.{Emits};
 ghost use Rattle.rbc_model.specs.Words.{line_of, hex_of};
 ghost use Rattle.rbc_words.specs.LineWords.{word_text};
-ghost use Rattle.rbc_words.specs.PriceText.{spaced};
 ghost use Rattle.rbc_replies.specs.Replies.{refusal_view, grant_line, grant_text, reply_text};
 ghost use Rattle.rbc_replies.specs.Replies.{ObstacleIsOfTrack, EventIsOfTrack, RefusalIsOfTrack, ReplyIsWhole};
 
@@ -15,7 +14,9 @@ use crate::{SessionRefusal, SessionReply, ToldGrant};
 use rbc_model::{Obstacle, Refusal, StepsRefusal};
 use rbc_streams::{Sink, WriteFailed, emit, outcome};
 use rbc_track::Track;
-use rbc_words::{Word, emit_hex, emit_line, emit_refusal, emit_words, leg_word, section_word};
+use rbc_words::{
+    TailBuffer, Word, emit_hex, emit_joined, emit_line, emit_refusal, leg_word, section_word,
+};
 
 /// Writes a reply to a line of a session. Sections and legs are told by the names that the track gives them. It takes
 /// no memory.
@@ -84,16 +85,28 @@ fn emit_grant_line<W: Sink>(track: &Track, granted: &ToldGrant, writer: &mut W)
     emit_stopped(track, b"granted", &words, granted.obstacle, writer);
 }
 
+/// How many bytes a message has at most whose line is written at once.
+const SHORT_MESSAGE: usize = 120;
+
 fn emit_message<W: Sink>(message: &[u8], writer: &mut W)
     ensures { Emits W.written W.failed writer.old writer.new
         (line_of (codes "message" ∷ hex_of message.now ∷ [])) }
 {
-    emit(writer, b"message ");
-    emit_hex(message, writer);
-    emit(writer, b"\n");
+    if message.len() > SHORT_MESSAGE {
+        emit(writer, b"message ");
+        emit_hex(message, writer);
+        emit(writer, b"\n");
+        return;
+    }
+    let mut text = TailBuffer::new();
+    text.byte(b'\n');
+    text.hex(message);
+    text.text(b"message ");
+    emit(writer, text.bytes());
 }
 
-/// Writes a line that ends with an obstacle: its first word, others behind it, and the obstacle. It takes no memory.
+/// Writes a line that ends with an obstacle: its first word, others behind it, and the obstacle's name, with the leg, the
+/// section or the train. It takes no memory.
 pub fn emit_stopped<W: Sink>(
     track: &Track,
     first: &[u8],
@@ -105,37 +118,25 @@ pub fn emit_stopped<W: Sink>(
     ensures { Emits W.written W.failed writer.old writer.new
         (line_of (first.now ∷ (map word_text words.now ++ obstacle_words track.now obstacle))) }
 {
-    emit(writer, first);
-    emit_words(words, writer);
-    emit_obstacle(track, obstacle, writer);
-    emit(writer, b"\n");
-}
-
-/// Writes an obstacle's name, and the leg, the section or the train behind it, each behind a space.
-fn emit_obstacle<W: Sink>(track: &Track, obstacle: Obstacle, writer: &mut W)
-    requires of_track { ObstacleIsOfTrack track.now obstacle }
-    ensures { Emits W.written W.failed writer.old writer.new
-        (spaced (obstacle_words track.now obstacle)) }
-{
     match obstacle {
-        Obstacle::NoLink(leg) => emit_words(&[Word::Text(b"NoLink"), leg_word(track, leg)], writer),
-        Obstacle::NotLocked(section) => {
-            emit_words(
-                &[Word::Text(b"NotLocked"), section_word(track, section)],
-                writer,
-            )
+        Obstacle::NoLink(leg) => {
+            let stop = [Word::Text(b"NoLink"), leg_word(track, leg)];
+            emit_joined(first, words, &stop, writer)
         }
-        Obstacle::Own => emit_words(&[Word::Text(b"Own")], writer),
+        Obstacle::NotLocked(section) => {
+            let stop = [Word::Text(b"NotLocked"), section_word(track, section)];
+            emit_joined(first, words, &stop, writer)
+        }
+        Obstacle::Own => emit_joined(first, words, &[Word::Text(b"Own")], writer),
         Obstacle::Occupied(train) => {
-            emit_words(
-                &[Word::Text(b"Occupied"), Word::Number(train.number())],
-                writer,
-            )
+            let stop = [Word::Text(b"Occupied"), Word::Number(train.number())];
+            emit_joined(first, words, &stop, writer)
         }
         Obstacle::Held(train) => {
-            emit_words(&[Word::Text(b"Held"), Word::Number(train.number())], writer)
+            let stop = [Word::Text(b"Held"), Word::Number(train.number())];
+            emit_joined(first, words, &stop, writer)
         }
-        Obstacle::Limit => emit_words(&[Word::Text(b"Limit")], writer),
+        Obstacle::Limit => emit_joined(first, words, &[Word::Text(b"Limit")], writer),
     }
 }
 

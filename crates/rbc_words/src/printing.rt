@@ -1,7 +1,6 @@
 //! Numbers and bytes, printed as text.
 
-ghost use Rattle.std.specs.Prelude.{◌≡◌, ◌≤◌, ℕ, ℤ, List, ◌++◌, length, decimal};
-ghost use Rattle.std.specs.Fmt.{signed_decimal};
+ghost use Rattle.std.specs.Prelude.{◌≡◌, ◌≤◌, ℕ, List, ◌++◌, length, decimal};
 ghost use Rattle.rbc_streams.specs.Emitting.{Emits};
 ghost use Rattle.rbc_model.specs.Words.{hex_of};
 
@@ -14,15 +13,6 @@ pub fn emit_number<W: Sink>(number: u64, writer: &mut W)
 {
     let mut digits = itoa::Buffer::new();
     emit(writer, digits.format(number).as_bytes());
-}
-
-/// Writes a number in base 10, with a `-` before its digits if it is below 0.
-pub fn emit_signed<W: Sink>(number: i64, writer: &mut W)
-    ensures { Emits W.written W.failed writer.old writer.new
-        (signed_decimal number) }
-{
-    let mut text = itoa::Buffer::new();
-    emit(writer, text.format(number).as_bytes());
 }
 
 /// How many bytes are written at once as two digits each.

@@ -69,6 +69,16 @@ impl TailBuffer {
         self.start = write_digits(number, &mut self.bytes, self.start);
     }
 
+    /// Puts a number in base 10 before the text.
+    #[inline(always)]
+    pub fn small(&mut self, number: u32)
+        requires { length self.old + 10 ≤ 256 }
+        ensures text { self.new ≡ decimal number ++ self.old }
+        ensures length { length self.new ≤ length self.old + 10 }
+    {
+        self.start = write_digits(u64::from(number), &mut self.bytes, self.start);
+    }
+
     /// Puts a number in base 10 before the text, with a `-` before its digits if it is below 0.
     #[inline(always)]
     pub fn signed(&mut self, number: i64)
