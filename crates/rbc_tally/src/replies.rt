@@ -25,6 +25,20 @@ pub enum Reply {
 impl Reply {
     /// The one that a line begins. None where the line begins none, such as the further lines of a grant or a scene.
     fn begun_by(line: &[u8]) -> Option<Reply> {
+        // Most further lines are known by their first bytes.
+        match (line.first()?, line.get(1)?, line.get(2)?) {
+            (b'o', b'k', _)
+            | (b'g', b'r', b'a')
+            | (b'b', b'l', b'o')
+            | (b's', b't', b'a')
+            | (b's', b'c', b'e')
+            | (b'r', b'e', b'f') => Reply::told_by(line),
+            _ => None,
+        }
+    }
+
+    /// The one that the line's words tell.
+    fn told_by(line: &[u8]) -> Option<Reply> {
         let mut words = line.split(|byte| *byte == b' ');
         match words.next()? {
             b"ok" => Some(Reply::Ok(number(words.next()?)?)),
@@ -65,8 +79,7 @@ impl Replies {
     pub fn pass(&mut self, bytes: &[u8], tally: &Tally) {
         let mut begin = 0;
         for end in memchr_iter(b'\n', bytes) {
-            self.take(bytes.get(begin..end).unwrap_or(&[]));
-            self.end(tally);
+            self.end(bytes.get(begin..end).unwrap_or(&[]), tally);
             begin = end.saturating_add(1);
         }
         self.take(bytes.get(begin..).unwrap_or(&[]));
@@ -82,10 +95,15 @@ impl Replies {
         self.length = self.length.saturating_add(count);
     }
 
-    /// Ends the line.
-    fn end(&mut self, tally: &Tally) {
-        let head = self.head.get(..self.length).unwrap_or(&[]);
-        if let Some(reply) = Reply::begun_by(head) {
+    /// Ends the line with its last part. A line that comes whole is not copied.
+    fn end(&mut self, part: &[u8], tally: &Tally) {
+        let begun = if self.length == 0 {
+            Reply::begun_by(part)
+        } else {
+            self.take(part);
+            Reply::begun_by(self.head.get(..self.length).unwrap_or(&[]))
+        };
+        if let Some(reply) = begun {
             tally.replied(reply);
         }
         self.length = 0;
