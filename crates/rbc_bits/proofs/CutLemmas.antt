@@ -1,6 +1,7 @@
 -- Bits cut in two, and bits taken off as a byte.
 use Rattle.std.proofs.Common.{◌≡◌, ℕ, zero, suc, ◌+◌, ◌-◌, ◌*◌, ◌/◌, ◌%◌, ◌^◌, ◌<◌, ◌≤◌, Bool, false, List, [], ◌∷◌, ◌++◌, length, replicate, slice_index, lit<, refl, arith, sym, ap, ap₂, ◌∙◌, ◌==◌, zero-add, add-zero, add_comm, mul_comm, pow_pos, pow-add, append-nil, append_assoc, length-append}
 use Rattle.std.specs.Prelude.{bit_or}
+use Rattle.std.specs.Int.{to_be_bytes, w32}
 use Rattle.std.proofs.Math.Nat.{zero-div}
 use Rattle.std.proofs.lemmas.Grind.{flat_map-append}
 use Rattle.std.proofs.lemmas.Nat.{shr-shr, shr_split, shr_high, shl_whole, or_shifted, mul-add-lt}
@@ -35,6 +36,25 @@ whole_byte bytes rest pending =
     let byte : ℕ = pending / 2 ^ rest in
     let low : bits_of rest (pending % 2 ^ rest) ≡ bits_of rest pending = sym (bits_of-low rest rest byte (pending % 2 ^ rest) (omega arith)) ∙ ap (bits_of rest) (shr_split pending rest) in
     rw (flat_map-append (bits_of 8) bytes (byte ∷ []), low) (append_assoc (byte_bits bytes) (bits_of 8 byte) (bits_of rest pending) ∙ ap (λ xs. byte_bits bytes ++ xs) (sym (bits_of-cut 8 rest pending)))
+
+-- the low eight bits of a number
+low_byte : (n : ℕ) → bits_of 8 (n % 256) ≡ bits_of 8 n
+low_byte n = sym (bits_of-low 8 8 (n / 256) (n % 256) (omega arith)) ∙ ap (bits_of 8) (shr_split n 8)
+
+-- the four bytes of a number
+word_bits : (n : ℕ) → byte_bits (to_be_bytes w32 n) ≡ bits_of 32 n
+word_bits n =
+    ap₂ (λ a b. a ++ b) (low_byte (n / 16777216)) (ap₂ (λ a b. a ++ b) (low_byte (n / 65536)) (ap₂ (λ a b. a ++ b) (low_byte (n / 256)) (append-nil (bits_of 8 (n % 256)) ∙ low_byte n)))
+    ∙ sym (bits_of-cut 8 24 n ∙ ap (λ xs. bits_of 8 (n / 16777216) ++ xs) (bits_of-cut 8 16 n ∙ ap (λ xs. bits_of 8 (n / 65536) ++ xs) (bits_of-cut 8 8 n)))
+
+-- four whole bytes taken off the front of the pending bits
+pub whole_word : (bytes : List ℕ) (rest pending : ℕ)
+    → byte_bits (bytes ++ to_be_bytes w32 (pending / 2 ^ rest)) ++ bits_of rest (pending % 2 ^ rest) ≡ byte_bits bytes ++ bits_of (32 + rest) pending
+whole_word bytes rest pending =
+    let word : ℕ = pending / 2 ^ rest in
+    let low : bits_of rest (pending % 2 ^ rest) ≡ bits_of rest pending = sym (bits_of-low rest rest word (pending % 2 ^ rest) (omega arith)) ∙ ap (bits_of rest) (shr_split pending rest) in
+    rw (flat_map-append (bits_of 8) bytes (to_be_bytes w32 word), word_bits word, low)
+    (append_assoc (byte_bits bytes) (bits_of 32 word) (bits_of rest pending) ∙ ap (λ xs. byte_bits bytes ++ xs) (sym (bits_of-cut 32 rest pending)))
 
 -- ---- zeros at the end
 

@@ -1,6 +1,6 @@
 //! Fields, each a number of bits, written into bytes.
 
-ghost use Rattle.std.specs.Prelude.{◌≡◌, ℕ, ◌+◌, ◌^◌, ◌<◌, ◌≤◌, [], ◌++◌, IfOk, OnOk, OnErr, vec_len, vec_capacity};
+ghost use Rattle.std.specs.Prelude.{◌≡◌, ℕ, ◌+◌, ◌-◌, ◌^◌, ◌<◌, ◌≤◌, [], ◌++◌, IfOk, OnOk, OnErr, vec_len, vec_capacity};
 ghost use Rattle.rbc_model.specs.Bits.{bits_of, byte_bits, byte_count, padded_bits, bytes_of};
 
 use rbc_model::Memory;
@@ -26,6 +26,22 @@ fn spill(bytes: &mut Vec<u8>, pending: u64, filled: u32) -> (u64, u32)
         pending %= 1 << filled;
     }
     (pending, filled)
+}
+
+/// Writes the first 32 bits of these as four bytes, and gives those behind them.
+fn spill_word(bytes: &mut Vec<u8>, pending: u64, filled: u32) -> u64
+    requires many { 32 ≤ filled }
+    requires few { filled ≤ 64 }
+    requires fits { pending < 2 ^ filled }
+    requires room { vec_len bytes.old + byte_count filled ≤ vec_capacity bytes.old }
+    ensures bits { byte_bits bytes.new.items ++ bits_of (filled - 32) result ≡ byte_bits bytes.old.items ++ bits_of filled pending }
+    ensures fits { result < 2 ^ (filled - 32) }
+    ensures room { vec_len bytes.new + byte_count (filled - 32) ≤ vec_capacity bytes.new }
+{
+    let left = filled - u32::BITS;
+    // There is room for it.
+    let _ = bytes.extend_from_slice(&((pending >> left) as u32).to_be_bytes());
+    pending % (1 << left)
 }
 
 /// Fields written bit by bit, each most significant bit first. It is seen as the bits so far.
@@ -73,6 +89,7 @@ impl BitWriter {
     /// # Errors
     ///
     /// [`Memory`] where there is none for it, and then nothing is written.
+    #[inline(always)]
     pub fn put(&mut self, width: u32, value: u32) -> Result<(), Memory>
         requires at_most_32 { width ≤ 32 }
         requires fits { value < 2 ^ width }
@@ -80,7 +97,8 @@ impl BitWriter {
         ensures refused { OnErr result (self.new ≡ self.old) }
     {
         if self.filled + width > u64::BITS {
-            (self.pending, self.filled) = spill(&mut self.bytes, self.pending, self.filled);
+            self.pending = spill_word(&mut self.bytes, self.pending, self.filled);
+            self.filled -= u32::BITS;
         }
         let filled = self.filled + width;
         self.bytes.reserve(filled.div_ceil(8) as usize)?;

@@ -42,6 +42,7 @@ impl Authority {
     /// whether the train runs in the group's nominal direction. None where the profiles do not end at one metre, or
     /// where a message can't give them: its ends are each metre up to 32,000 m and then multiples of ten metres up to
     /// 80,000 m, and beyond 32,000 m steps start at multiples of ten metres too.
+    #[inline(always)]
     pub fn new(
         time: u32,
         group: Group,

@@ -1,6 +1,6 @@
 //! What a kind of level says of its packet.
 
-ghost use Rattle.std.specs.Prelude.{◌≡◌, ℕ, ◌^◌, ◌<◌, ◌≤◌, ◌++◌, Bool, List};
+ghost use Rattle.std.specs.Prelude.{◌≡◌, ℕ, ◌^◌, ◌<◌, ◌≤◌, ◌∷◌, ◌++◌, Bool, List};
 ghost use Rattle.std.specs.Prelude.{IsTrue, IfOk, OnOk};
 ghost use Rattle.rbc_model.specs.declared.limits.TheConstants.{MOST_STEPS};
 ghost use Rattle.rbc_model.specs.declared.messages.FieldName.{FieldName};
@@ -10,6 +10,7 @@ ghost use Rattle.rbc_packet.specs.Fields.{bits_of_fields};
 ghost use Rattle.rbc_packet.specs.Layouts.{Layout, profile_fields};
 ghost use Rattle.rbc_packet.specs.Reads.{Reads};
 
+use crate::fields::Field;
 use rbc_bits::{BitReader, BitWriter};
 use rbc_model::{Fault, FieldName, Memory};
 use rbc_steps::Level;
@@ -37,21 +38,23 @@ pub trait Encoded: Level {
     fn distance() -> FieldName
         ensures { result ≡ layout.distance };
 
-    /// Writes a value behind the bits so far.
+    /// Writes a field and a value, behind the bits so far.
     ///
     /// # Errors
     ///
     /// [`Memory`], and then some of it may stand.
-    fn put_value(self, bits: &mut BitWriter) -> Result<(), Memory>
-        ensures { OnOk result (bits.new ≡ bits.old ++ bits_of_fields (layout.value_fields self)) };
+    fn put_value(self, field: Field, bits: &mut BitWriter) -> Result<(), Memory>
+        requires { field.1 < 2 ^ width_of field.0 }
+        ensures { OnOk result (bits.new ≡ bits.old ++ bits_of_fields (field ∷ layout.value_fields self)) };
 
-    /// Writes the mark of the end element behind the bits so far.
+    /// Writes a field and the mark of the end element, behind the bits so far.
     ///
     /// # Errors
     ///
     /// [`Memory`], and then some of it may stand.
-    fn put_mark(bits: &mut BitWriter) -> Result<(), Memory>
-        ensures { OnOk result (bits.new ≡ bits.old ++ bits_of_fields layout.mark_fields) };
+    fn put_mark(field: Field, bits: &mut BitWriter) -> Result<(), Memory>
+        requires { field.1 < 2 ^ width_of field.0 }
+        ensures { OnOk result (bits.new ≡ bits.old ++ bits_of_fields (field ∷ layout.mark_fields)) };
 
     /// Reads a value.
     ///

@@ -1,6 +1,7 @@
 //! Fields and their widths, written in a row.
 
-ghost use Rattle.std.specs.Prelude.{◌≡◌, ℕ, ◌^◌, ◌<◌, ◌≤◌, ◌++◌, OnOk, All};
+ghost use Rattle.std.specs.Prelude.{◌≡◌, ℕ, ◌+◌, ◌^◌, ◌<◌, ◌≤◌, ◌++◌, OnOk, All};
+ghost use Rattle.rbc_model.specs.Bits.{bits_of};
 ghost use Rattle.rbc_model.specs.Messages.{width_of, direction_of};
 ghost use Rattle.rbc_packet.specs.Fields.{bits_of_fields};
 
@@ -11,6 +12,7 @@ use rbc_model::{FieldName, Memory};
 pub(crate) type Field = (FieldName, u32);
 
 /// How many bits the field has.
+#[inline(always)]
 pub fn width_of(name: FieldName) -> u32
     ensures width { result ≡ width_of name }
     ensures at_most_32 { result ≤ 32 }
@@ -43,14 +45,69 @@ pub(crate) fn direction_of(nominal: bool) -> u32
     u32::from(nominal)
 }
 
+/// How many bits of fields are written at once.
+const AT_ONCE: u32 = 32;
+
+/// Fields in a row as one number.
+#[derive(Clone, Copy)]
+struct Row {
+    /// How many bits they have.
+    width: u32,
+    /// Their bits as a number.
+    number: u64,
+}
+
+impl Row {
+    /// No fields.
+    fn empty() -> Row
+        ensures { result ≡ record { width = 0; number = 0 } }
+    {
+        Row {
+            width: 0,
+            number: 0,
+        }
+    }
+
+    /// These fields, and one behind them.
+    fn and(self, width: u32, value: u32) -> Row
+        requires few { self.width + width ≤ 32 }
+        requires fits { self.number < 2 ^ self.width }
+        requires value_fits { value < 2 ^ width }
+        ensures width { result.width ≡ self.width + width }
+        ensures fits { result.number < 2 ^ result.width }
+        ensures bits { bits_of result.width result.number ≡ bits_of self.width self.number ++ bits_of width value }
+    {
+        Row {
+            width: self.width + width,
+            number: self.number << width | u64::from(value),
+        }
+    }
+
+    /// Writes the fields.
+    fn put(self, bits: &mut BitWriter) -> Result<(), Memory>
+        requires few { self.width ≤ 32 }
+        requires fits { self.number < 2 ^ self.width }
+        ensures { OnOk result (bits.new ≡ bits.old ++ bits_of self.width self.number) }
+    {
+        bits.put(self.width, self.number as u32)
+    }
+}
+
 /// Writes the fields in a row. Where memory runs out, some of them may stand.
+#[inline(always)]
 #[tactic(auto, unfolding(crate::specs::Fields::bits_of_fields))]
 pub(crate) fn put_fields(bits: &mut BitWriter, fields: &[Field]) -> Result<(), Memory>
     requires { All (λ field. field.1 < 2 ^ width_of field.0) fields.now }
     ensures { OnOk result (bits.new ≡ bits.old ++ bits_of_fields fields.now) }
 {
+    let mut row = Row::empty();
     for (name, value) in fields {
-        bits.put(width_of(*name), *value)?;
+        let width = width_of(*name);
+        if row.width + width > AT_ONCE {
+            row.put(bits)?;
+            row = Row::empty();
+        }
+        row = row.and(width, *value);
     }
-    Ok(())
+    row.put(bits)
 }

@@ -11,7 +11,7 @@ ghost use Rattle.rbc_packet.specs.PacketLayouts.{packet_21-laid_out};
 
 use crate::encoded::Encoded;
 use crate::field_reader::{any_field, field_from_to};
-use crate::fields::put_fields;
+use crate::fields::{Field, put_fields};
 use crate::packet_15::Frame;
 use crate::profile::{read_profile, write_profile};
 use rbc_bits::{BitReader, BitWriter};
@@ -71,11 +71,12 @@ impl Encoded for Grade {
         FieldName::D_GRADIENT
     }
 
-    fn put_value(self, bits: &mut BitWriter) -> Result<(), Memory> {
+    fn put_value(self, field: Field, bits: &mut BitWriter) -> Result<(), Memory> {
         let slope = slope_of(self);
         put_fields(
             bits,
             &[
+                field,
                 (FieldName::Q_GDIR, slope.direction),
                 (FieldName::G_A, slope.per_mille),
             ],
@@ -83,10 +84,11 @@ impl Encoded for Grade {
     }
 
     /// The mark is a G_A of 255, downhill.
-    fn put_mark(bits: &mut BitWriter) -> Result<(), Memory> {
+    fn put_mark(field: Field, bits: &mut BitWriter) -> Result<(), Memory> {
         put_fields(
             bits,
             &[
+                field,
                 (FieldName::Q_GDIR, DOWNHILL),
                 (FieldName::G_A, GRADIENT_END_MARK),
             ],

@@ -11,7 +11,7 @@ ghost use Rattle.rbc_packet.specs.PacketLayouts.{packet_27-laid_out};
 
 use crate::encoded::Encoded;
 use crate::field_reader::{field_from_to, fixed_field};
-use crate::fields::put_fields;
+use crate::fields::{Field, put_fields};
 use crate::packet_15::Frame;
 use crate::profile::{read_profile, write_profile};
 use rbc_bits::{BitReader, BitWriter};
@@ -72,10 +72,11 @@ impl Encoded for Speed {
         FieldName::D_STATIC
     }
 
-    fn put_value(self, bits: &mut BitWriter) -> Result<(), Memory> {
+    fn put_value(self, field: Field, bits: &mut BitWriter) -> Result<(), Memory> {
         put_fields(
             bits,
             &[
+                field,
                 (FieldName::V_STATIC, u32::from(self.kmh() / SPEED_STEP)),
                 (FieldName::Q_FRONT, 0),
                 (FieldName::N_ITER, 0),
@@ -84,10 +85,11 @@ impl Encoded for Speed {
     }
 
     /// The mark is a V_STATIC of 127.
-    fn put_mark(bits: &mut BitWriter) -> Result<(), Memory> {
+    fn put_mark(field: Field, bits: &mut BitWriter) -> Result<(), Memory> {
         put_fields(
             bits,
             &[
+                field,
                 (FieldName::V_STATIC, SPEED_END_MARK),
                 (FieldName::Q_FRONT, 0),
                 (FieldName::N_ITER, 0),

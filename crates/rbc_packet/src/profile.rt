@@ -97,10 +97,9 @@ fn put_head<V: Encoded>(bits: &mut BitWriter, head: &Head, first: V) -> Result<(
             (FieldName::Q_DIR, head.direction),
             (FieldName::L_PACKET, V::packet_bits(head.steps)),
             (FieldName::Q_SCALE, head.scale),
-            (V::distance(), 0),
         ],
     )?;
-    first.put_value(bits)?;
+    first.put_value((V::distance(), 0), bits)?;
     put_fields(bits, &[(FieldName::N_ITER, head.steps)])
 }
 
@@ -110,8 +109,7 @@ fn put_step<V: Encoded>(bits: &mut BitWriter, distance: u32, value: V) -> Result
     ensures { OnOk result (bits.new ≡ bits.old
         ++ bits_of_fields ((V.layout.distance, distance) ∷ V.layout.value_fields value)) }
 {
-    put_fields(bits, &[(V::distance(), distance)])?;
-    value.put_value(bits)
+    value.put_value((V::distance(), distance), bits)
 }
 
 /// The end element: the distance of the profile's end from the last step, in units.
@@ -120,8 +118,7 @@ fn put_end<V: Encoded>(bits: &mut BitWriter, distance: u32) -> Result<(), Memory
     ensures { OnOk result (bits.new ≡ bits.old
         ++ bits_of_fields ((V.layout.distance, distance) ∷ V.layout.mark_fields)) }
 {
-    put_fields(bits, &[(V::distance(), distance)])?;
-    V::put_mark(bits)
+    V::put_mark((V::distance(), distance), bits)
 }
 
 /// Reads a profile's packet, of an authority with this frame. Its distances are in the scale of the authority's end.

@@ -8,7 +8,7 @@ pub invariant_of-self-2 : goal.invariant_of-self-2
 invariant_of-self-2 c =
     let w = c.if-self-width-gt-BITS.self-inside in
     let fits : (w.pending < 2 ^ w.filled) × (w.filled + c.args.width ≤ 64) = elim c.if-self-width-gt-BITS.branch [
-      | then-self-width-gt-BITS s ↦ rw s.self-inside-is (s.spill.ensures.fits, omega (arith, s.spill.ensures.few, c.requires.at_most_32))
+      | then-self-width-gt-BITS s ↦ rw s.self-inside-is (s.spill_word-self-inside.ensures.fits, omega (arith, c.self.invariant.0, c.requires.at_most_32))
       | else-self-width-gt-BITS s ↦ rw s.self-inside-is (c.self.invariant.1, omega (arith, s.if-self-width-gt-BITS))
     ] in
     let joined = joined_number w.filled c.args.width w.pending c.args.value fits.0 c.requires.fits fits.1 in
@@ -19,7 +19,7 @@ pub returns-clause-written : goal.returns-clause-written
 returns-clause-written c =
     let w = c.if-self-width-gt-BITS.self-inside in
     let fits : (w.pending < 2 ^ w.filled) × (w.filled + c.args.width ≤ 64) × (byte_bits w.bytes.items ++ bits_of w.filled w.pending ≡ c.args.self.now) = elim c.if-self-width-gt-BITS.branch [
-      | then-self-width-gt-BITS s ↦ rw s.self-inside-is (s.spill.ensures.fits, omega (arith, s.spill.ensures.few, c.requires.at_most_32), s.spill.ensures.bits ∙ c.self.view_is)
+      | then-self-width-gt-BITS s ↦ rw s.self-inside-is (s.spill_word-self-inside.ensures.fits, omega (arith, c.self.invariant.0, c.requires.at_most_32), s.spill_word-self-inside.ensures.bits ∙ c.self.view_is)
       | else-self-width-gt-BITS s ↦ rw s.self-inside-is (c.self.invariant.1, omega (arith, s.if-self-width-gt-BITS), c.self.view_is)
     ] in
     let joined = joined_number w.filled c.args.width w.pending c.args.value fits.0 c.requires.fits fits.1 in
