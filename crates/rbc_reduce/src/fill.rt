@@ -20,7 +20,7 @@ use std::thread::Threads;
 
 /// With at most this number of stretches a table is filled in totals of 64 bits: narrower ones would save less than it
 /// takes to widen them. And what one step costs from each of their breaks is kept in place.
-const FEW: usize = 16;
+pub(crate) const FEW: usize = 16;
 
 /// From this number of stretches on a table is filled in threads, where there is more than one processor. Below, they save
 /// less than wide tiles take longer to finish.

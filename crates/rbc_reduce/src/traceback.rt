@@ -8,6 +8,7 @@ ghost use Rattle.rbc_table_laws.specs.PriceRows.{prices_of, AreAsWideAs};
 ghost use Rattle.rbc_reduce.specs.Rows.{AreSmall, price_in};
 ghost use Rattle.rbc_costs.specs.Stretches.{AreStretches};
 
+use crate::fill::FEW;
 use rbc_costs::{Stretch, costs_to, least_of, price_at};
 use rbc_model::Memory;
 use rbc_steps::{Level, Runs};
@@ -57,6 +58,41 @@ fn first_break(rows: &[Vec<u64>], costs: &[u64], steps: usize, column: usize) ->
 }
 
 /// The steps that are read off the table of the prices of at most `limit` steps: each starts at a break, and has the
+/// floor of the least value there. `costs` is room for what one step costs from each break.
+fn read_off<V: Level>(
+    alloc: Global,
+    track: &Runs<V>,
+    stretches: &[(Stretch, V)],
+    rows: &[Vec<u64>],
+    limit: usize,
+    costs: &mut [u64],
+) -> Result<Vec<(u32, V)>, Memory>
+    requires whole { track.now.end % unit_of track.now.end ≡ 0 }
+    requires stretches { AreStretches V.levels (unit_of track.now.end) track.now stretches.now }
+    requires some { 1 ≤ limit }
+    requires table { IsGreatestSoundTable V.levels (unit_of track.now.end) limit track.now.end track.now.steps (prices_of rows.now) }
+    requires wide { AreAsWideAs (length stretches.now) rows.now }
+    requires small { (j : ℕ) → AreSmall (price_in rows.now j) }
+    requires room { length stretches.now ≤ length costs.old }
+    ensures { IfOk result
+        (λ steps. IsReadOff V.levels (unit_of track.now.end) limit track.now.end track.now.steps (prices_of rows.now) steps.items) }
+{
+    track.known();
+    let mut to = stretches.len();
+    let mut steps = Vec::with_capacity(alloc, limit)?;
+    let count = fewest(rows, to);
+    for before in (0..count).rev() {
+        costs_to(track, stretches, to, costs);
+        let from = first_break(rows, costs, before, to);
+        let least = least_of(track, stretches, from, to);
+        steps.push((stretches[from].0.from, least.floor()))?;
+        to = from;
+    }
+    steps.reverse();
+    Ok(steps)
+}
+
+/// The steps that are read off the table of the prices of at most `limit` steps: each starts at a break, and has the
 /// floor of the least value there.
 pub(crate) fn steps_of<V: Level>(
     alloc: Global,
@@ -74,18 +110,9 @@ pub(crate) fn steps_of<V: Level>(
     ensures { IfOk result
         (λ steps. IsReadOff V.levels (unit_of track.now.end) limit track.now.end track.now.steps (prices_of rows.now) steps.items) }
 {
-    track.known();
-    let mut to = stretches.len();
-    let mut costs = vec![in alloc; 0; to]?;
-    let mut steps = Vec::with_capacity(alloc, limit)?;
-    let count = fewest(rows, to);
-    for before in (0..count).rev() {
-        costs_to(track, stretches, to, costs.as_mut_slice());
-        let from = first_break(rows, &costs, before, to);
-        let least = least_of(track, stretches, from, to);
-        steps.push((stretches[from].0.from, least.floor()))?;
-        to = from;
+    if stretches.len() <= FEW {
+        return read_off(alloc, track, stretches, rows, limit, &mut [0; FEW]);
     }
-    steps.reverse();
-    Ok(steps)
+    let mut costs = vec![in alloc; 0; stretches.len()]?;
+    read_off(alloc, track, stretches, rows, limit, costs.as_mut_slice())
 }
