@@ -1,7 +1,9 @@
 //! Replies, found in the bytes that are written to a client.
 
+ghost use Rattle.std.specs.Prelude.{◌≤◌, length};
+
 use crate::{RefusalKind, Tally};
-use memchr::memchr_iter;
+use memchr::{memchr, memmem};
 use std::str;
 
 /// How much of a line is looked at, in bytes: enough for `granted`, a train and a version.
@@ -77,12 +79,16 @@ impl Replies {
 
     /// Goes on through bytes that were written, and counts each reply whose first line ends in them.
     pub fn pass(&mut self, bytes: &[u8], tally: &Tally) {
-        let mut begin = 0;
-        for end in memchr_iter(b'\n', bytes) {
-            self.end(bytes.get(begin..end).unwrap_or(&[]), tally);
-            begin = end.saturating_add(1);
+        let mut rest = bytes;
+        while let Some(end) = memchr(b'\n', rest) {
+            let reply = self.end(&rest[..end]);
+            rest = &rest[end.saturating_add(1)..];
+            if let Some(reply) = reply {
+                tally.replied(reply);
+                rest = behind_further_lines(reply, rest);
+            }
         }
-        self.take(bytes.get(begin..).unwrap_or(&[]));
+        self.take(rest);
     }
 
     /// Goes on with a part of the line.
@@ -95,17 +101,30 @@ impl Replies {
         self.length = self.length.saturating_add(count);
     }
 
-    /// Ends the line with its last part. A line that comes whole is not copied.
-    fn end(&mut self, part: &[u8], tally: &Tally) {
-        let begun = if self.length == 0 {
-            Reply::begun_by(part)
-        } else {
-            self.take(part);
-            Reply::begun_by(self.head.get(..self.length).unwrap_or(&[]))
-        };
-        if let Some(reply) = begun {
-            tally.replied(reply);
+    /// Ends the line with its last part, and tells which reply it begins. A line that comes whole is not copied.
+    fn end(&mut self, part: &[u8]) -> Option<Reply> {
+        if self.length == 0 {
+            return Reply::begun_by(part);
         }
+        self.take(part);
+        let reply = Reply::begun_by(self.head.get(..self.length).unwrap_or(&[]));
         self.length = 0;
+        reply
+    }
+}
+
+/// The end of a grant, from the line feed before its last line.
+const END: &[u8] = b"\ndone\n";
+
+/// What stands behind the further lines of a reply, if they have come whole. None of them begins a reply.
+fn behind_further_lines(reply: Reply, rest: &[u8]) -> &[u8]
+    ensures { length result.now ≤ length rest.now }
+{
+    let Reply::Granted(_) = reply else {
+        return rest;
+    };
+    match memmem::find(rest, END) {
+        Some(at) => &rest[at + END.len()..],
+        None => rest,
     }
 }
