@@ -1,12 +1,12 @@
 -- The lines of a grant as the pieces that are printed one behind another.
-use Rattle.std.proofs.Common.{◌≡◌, ℕ, ◌<◌, IsTrue, List, [], ◌∷◌, ◌++◌, ℤ, sym, ap, ◌∙◌, subst, append_assoc}
+use Rattle.std.proofs.Common.{◌≡◌, ℕ, List, [], ◌∷◌, ◌++◌, ℤ, sym, ap, ◌∙◌, append_assoc}
 use Rattle.std.specs.Prelude.{codes, decimal}
 use Rattle.std.specs.Fmt.{signed_decimal}
 use Rattle.rbc_model.specs.declared.refusals.Obstacle.{Obstacle}
 use Rattle.rbc_model.specs.Kinds.{Kind, speed_kind, grade_kind}
 use Rattle.rbc_model.specs.Levels.{Levels}
 use Rattle.rbc_model.specs.Messages.{Authority, message_bytes}
-use Rattle.rbc_model.specs.Profiles.{StepFunction, value_at, is_within, loss}
+use Rattle.rbc_model.specs.Profiles.{StepFunction, value_at, loss}
 use Rattle.rbc_model.specs.SessionReply.{obstacle_words, grant_reply}
 use Rattle.rbc_model.specs.StepsReply.{track_line, profile_line, certificate}
 use Rattle.rbc_model.specs.Histories.{Grants}
@@ -17,7 +17,7 @@ use Rattle.rbc_words.specs.Replies.{certificate_lines}
 use Rattle.rbc_words.specs.declared.steps_reply.Basis.{Basis}
 use Rattle.rbc_replies.specs.declared.replies.ToldGrant.{ToldGrant}
 use Rattle.rbc_words.specs.PriceText.{prices_of, prices_text}
-use Rattle.rbc_replies.specs.Certificates.{certificate_text, IsBasisOf}
+use Rattle.rbc_replies.specs.Certificates.{certificate_text, IsLossOn}
 use Rattle.rbc_replies.specs.Replies.{grant_line, grant_text}
 
 -- the lines of a certificate
@@ -30,14 +30,13 @@ certificate_text-is {V} kind levels profile basis lost same_levels same_end same
     ap (λ end. lines end lost) same_end
     ∙ ap (lines profile.end) (same_loss ∙ ap (λ (ls : Levels V). loss ls profile.end (value_at basis.track.now.steps) profile.steps) (sym same_levels))
 
--- the profile that is handed over can be chosen for the track, if the one that it equals can
-pub basis_of : {V : Type 0} (levels : Levels V) (profile track : StepFunction V) (steps : List (ℕ × V)) (end : ℕ)
-    → IsBasisOf levels (record { steps = steps; end = end }) track → profile.steps ≡ steps → profile.end ≡ end → IsBasisOf levels profile track
-basis_of {V} levels profile track steps end basis same_steps same_end =
+-- the profile that is handed over loses on the track what the one that it equals does
+pub loss_of : {V : Type 0} (levels : Levels V) (profile track : StepFunction V) (lost : ℕ) (steps : List (ℕ × V)) (end : ℕ)
+    → IsLossOn levels (record { steps = steps; end = end }) track lost → profile.steps ≡ steps → profile.end ≡ end → IsLossOn levels profile track lost
+loss_of levels profile track lost steps end told same_steps same_end =
     record {
-      ends = basis.ends ∙ sym same_end;
-      below = λ x inside. subst (λ (s : List (ℕ × V)). IsTrue (is_within levels (value_at track.steps x) (value_at s x))) (sym same_steps)
-          (basis.below x (subst (λ e. x < e) same_end inside));
+      ends = told.ends ∙ sym same_end;
+      loss = told.loss ∙ ap (λ e. loss levels e (value_at track.steps) steps) (sym same_end) ∙ ap (loss levels profile.end (value_at track.steps)) (sym same_steps);
     }
 
 -- the line of a message

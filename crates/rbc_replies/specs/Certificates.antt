@@ -3,7 +3,7 @@ use Rattle.std.specs.Prelude.{◌≡◌, ℕ, ℤ, ◌<◌, IsTrue, List}
 use Rattle.rbc_model.specs.Kinds.{Kind}
 use Rattle.rbc_model.specs.Levels.{Levels}
 use Rattle.rbc_model.specs.Messages.{Authority}
-use Rattle.rbc_model.specs.Profiles.{StepFunction, value_at, is_within}
+use Rattle.rbc_model.specs.Profiles.{StepFunction, value_at, loss}
 use Rattle.rbc_model.specs.StepsReply.{certificate}
 use Rattle.rbc_words.specs.PriceText.{prices_of}
 use Rattle.rbc_words.specs.declared.steps_reply.Basis.{Basis}
@@ -13,10 +13,10 @@ abbrev pub certificate_text : {V : Type 0} → Kind V → ℕ → List (ℕ × V
 certificate_text kind end steps basis =
     certificate kind (record { limit = basis.limit; runs = basis.track.now.steps; end = end }) steps (prices_of basis.prices.now)
 
--- The profile can be chosen for the track: it has its end, and is nowhere above it.
-pub record IsBasisOf {V : Type 0} (levels : Levels V) (profile track : StepFunction V) : Type 0 where
+-- The profile ends where the track does, and loses this.
+pub record IsLossOn {V : Type 0} (levels : Levels V) (profile track : StepFunction V) (lost : ℕ) : Type 0 where
   pub ends : track.end ≡ profile.end
-  pub below : (x : ℕ) → x < profile.end → IsTrue (is_within levels (value_at track.steps x) (value_at profile.steps x))
+  pub loss : lost ≡ loss levels profile.end (value_at track.steps) profile.steps
 
 -- the profiles of an authority
 abbrev pub speeds_of : Authority → StepFunction ℕ

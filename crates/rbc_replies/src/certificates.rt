@@ -2,7 +2,7 @@
 
 ghost use Rattle.std.specs.Prelude.{◌≡◌};
 ghost use Rattle.rbc_streams.specs.Emitting.{Emits};
-ghost use Rattle.rbc_replies.specs.Certificates.{certificate_text, IsBasisOf};
+ghost use Rattle.rbc_replies.specs.Certificates.{certificate_text, IsLossOn};
 
 use rbc_steps::Profile;
 use rbc_streams::Sink;
@@ -11,12 +11,13 @@ use rbc_words::{Basis, Spelled};
 /// Writes the certificate of a profile.
 pub(crate) fn emit_certificate<V: Spelled, W: Sink>(
     profile: &Profile<V>,
+    loss: u64,
     basis: &Basis<V>,
     writer: &mut W,
 )
-    requires basis { IsBasisOf V.levels profile.now basis.now.track.now }
+    requires { IsLossOn V.levels profile.now basis.now.track.now loss }
     ensures { Emits W.written W.failed writer.old writer.new
         (certificate_text V.kind profile.now.end profile.now.steps basis.now) }
 {
-    rbc_words::emit_certificate(profile, profile.loss(basis.track), basis, writer);
+    rbc_words::emit_certificate(profile, loss, basis, writer);
 }

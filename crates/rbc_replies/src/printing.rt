@@ -15,7 +15,7 @@ use rbc_model::{Obstacle, Refusal, StepsRefusal};
 use rbc_streams::{Sink, WriteFailed, emit, outcome};
 use rbc_track::Track;
 use rbc_words::{
-    TailBuffer, Word, emit_hex, emit_joined, emit_line, emit_refusal, leg_word, section_word,
+    Word, emit_hex_between, emit_joined, emit_line, emit_refusal, leg_word, section_word,
 };
 
 /// Writes a reply to a line of a session. Sections and legs are told by the names that the track gives them. It takes
@@ -64,9 +64,10 @@ fn emit_granted<W: Sink>(track: &Track, granted: &ToldGrant, writer: &mut W)
         (grant_text track.now granted.now) }
 {
     emit_grant_line(track, granted, writer);
-    emit_message(granted.message, writer);
-    emit_certificate(granted.authority.speeds(), &granted.speeds, writer);
-    emit_certificate(granted.authority.grades(), &granted.grades, writer);
+    emit_hex_between(b"message ", granted.message, b"\n", writer);
+    let (speeds, grades) = (granted.authority.speeds(), granted.authority.grades());
+    emit_certificate(speeds, granted.speeds_loss, &granted.speeds, writer);
+    emit_certificate(grades, granted.grades_loss, &granted.grades, writer);
     emit(writer, b"done\n");
 }
 
@@ -83,26 +84,6 @@ fn emit_grant_line<W: Sink>(track: &Track, granted: &ToldGrant, writer: &mut W)
         Word::Number(granted.authority.end()),
     ];
     emit_stopped(track, b"granted", &words, granted.obstacle, writer);
-}
-
-/// How many bytes a message has at most whose line is written at once.
-const SHORT_MESSAGE: usize = 120;
-
-fn emit_message<W: Sink>(message: &[u8], writer: &mut W)
-    ensures { Emits W.written W.failed writer.old writer.new
-        (line_of (codes "message" ∷ hex_of message.now ∷ [])) }
-{
-    if message.len() > SHORT_MESSAGE {
-        emit(writer, b"message ");
-        emit_hex(message, writer);
-        emit(writer, b"\n");
-        return;
-    }
-    let mut text = TailBuffer::new();
-    text.byte(b'\n');
-    text.hex(message);
-    text.text(b"message ");
-    emit(writer, text.bytes());
 }
 
 /// Writes a line that ends with an obstacle: its first word, others behind it, and the obstacle's name, with the leg, the

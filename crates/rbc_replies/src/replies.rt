@@ -3,7 +3,7 @@
 ghost use Rattle.std.specs.Prelude.{◌≡◌};
 ghost use Rattle.rbc_model.specs.Levels.{speed_levels, grade_levels};
 ghost use Rattle.rbc_model.specs.Messages.{message_bytes};
-ghost use Rattle.rbc_replies.specs.Certificates.{IsBasisOf, speeds_of, grades_of};
+ghost use Rattle.rbc_replies.specs.Certificates.{IsLossOn, speeds_of, grades_of};
 
 use rbc_model::{LineFault, Obstacle, Refusal, TrainId};
 use rbc_packet::Authority;
@@ -45,9 +45,13 @@ pub struct ToldGrant<'reply> {
     pub speeds: Basis<'reply, Speed>,
     /// What the profile of gradients was chosen for, over the same metres.
     pub grades: Basis<'reply, Grade>,
+    /// What the profile of speeds loses, summed over the metres, in km/h.
+    pub speeds_loss: u64,
+    /// What the profile of gradients loses, summed over the metres, in per mille.
+    pub grades_loss: u64,
     pub ghost told: { message.now ≡ message_bytes authority.now },
-    pub ghost speeds_fit: { IsBasisOf speed_levels (speeds_of authority.now) speeds.track.now },
-    pub ghost grades_fit: { IsBasisOf grade_levels (grades_of authority.now) grades.track.now },
+    pub ghost speeds_fit: { IsLossOn speed_levels (speeds_of authority.now) speeds.track.now speeds_loss },
+    pub ghost grades_fit: { IsLossOn grade_levels (grades_of authority.now) grades.track.now grades_loss },
 }
 
 /// The reply to a line of a session.

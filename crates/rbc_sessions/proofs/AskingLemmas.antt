@@ -6,7 +6,7 @@ use Rattle.rbc_model.specs.declared.refusals.Obstacle.{Obstacle}
 use Rattle.rbc_model.specs.declared.refusals.ViewFault.{ViewFault}
 use Rattle.rbc_model.specs.declared.refusals.ViewFault.TheVariants.{Blocked}
 use Rattle.rbc_model.specs.Levels.{Levels, speed_levels, grade_levels}
-use Rattle.rbc_model.specs.Profiles.{StepFunction, value_at, IsChosenProfile}
+use Rattle.rbc_model.specs.Profiles.{StepFunction, value_at, loss}
 use Rattle.rbc_model.specs.Messages.{Authority, message_bytes}
 use Rattle.rbc_model.specs.SoundTracks.{IsInForm, IsSound}
 use Rattle.rbc_model.specs.Tracks.{Track}
@@ -27,7 +27,7 @@ use Rattle.rbc_sweep.specs.CommitFault.{CommitFault}
 use Rattle.rbc_sweep.specs.CommitFault.TheVariants.{Full as FullToGrants, Stale}
 use Rattle.rbc_sweep.specs.Entering.{EntersOrMemory, entry_granted, is_shown}
 use Rattle.rbc_sweep.specs.Records.{IsRight, begin_of, HistoryOnTrack, scene_now, is_full, with_entry}
-use Rattle.rbc_replies.specs.Certificates.{IsBasisOf, speeds_of, grades_of}
+use Rattle.rbc_replies.specs.Certificates.{IsLossOn, speeds_of, grades_of}
 use Rattle.rbc_replies.specs.PriceText.{prices_of}
 use Rattle.rbc_replies.specs.Replies.{ObstacleIsOfTrack, grant_text}
 use Rattle.rbc_replies.specs.declared.replies.ToldGrant.{ToldGrant}
@@ -116,26 +116,29 @@ module _ (history : HistoryOnTrack) (candidate : Candidate) where
 
 -- ---- what is told of a grant
 
-basis_is : {V : Type 0} (levels : Levels V) (unit limit n m : ℕ) (runs steps : List (ℕ × V)) (track : StepFunction V)
-    → IsChosenProfile levels unit limit n (value_at runs) steps → track ≡ record { steps = runs; end = m } → m ≡ n → IsBasisOf levels (record { steps = steps; end = n }) track
-basis_is levels unit limit n m runs steps track chosen is ends =
-    subst (IsBasisOf levels (record { steps = steps; end = n })) (sym is) (record { ends = ends; below = let best = chosen.best in let fits = best.fits in fits.below })
+loss_is : {V : Type 0} (levels : Levels V) (n m lost : ℕ) (runs steps : List (ℕ × V)) (track : StepFunction V)
+    → lost ≡ loss levels n (value_at runs) steps → track ≡ record { steps = runs; end = m } → m ≡ n → IsLossOn levels (record { steps = steps; end = n }) track lost
+loss_is levels n m lost runs steps track loses is ends =
+    subst (λ (t : StepFunction _). IsLossOn levels (record { steps = steps; end = n }) t lost) (sym is) (record { ends = ends; loss = loses })
 
--- the profiles of what is granted can be chosen for what the train was shown
-module _ (candidate : Candidate) (authority : Authority) (best : IsCandidateOf candidate.view candidate.grant) (chosen : HasChosenProfiles candidate.view candidate.grant)
-    (same : authority ≡ candidate.grant.authority) where
+-- the profiles of what is granted lose what the candidate says, against what the train was shown
+module _ (candidate : Candidate) (authority : Authority) (best : IsCandidateOf candidate.view candidate.grant) (same : authority ≡ candidate.grant.authority) where
   ends : metres_shown candidate.view ≡ candidate.grant.authority.end
   ends = let whole = best.end in omega arith
 
-  pub speeds_fit : (track : StepFunction ℕ) → track ≡ record { steps = candidate.view.speeds; end = metres_shown candidate.view } → IsBasisOf speed_levels (speeds_of authority) track
-  speeds_fit track is =
-      subst (λ (a : Authority). IsBasisOf speed_levels (speeds_of a) track) (sym same)
-      (basis_is speed_levels _ _ candidate.grant.authority.end (metres_shown candidate.view) candidate.view.speeds candidate.grant.authority.speeds track chosen.speeds is ends)
+  pub speeds_lose : (lost : ℕ) (track : StepFunction ℕ)
+      → lost ≡ loss speed_levels candidate.grant.authority.end (value_at candidate.view.speeds) candidate.grant.authority.speeds
+      → track ≡ record { steps = candidate.view.speeds; end = metres_shown candidate.view } → IsLossOn speed_levels (speeds_of authority) track lost
+  speeds_lose lost track loses is =
+      subst (λ (a : Authority). IsLossOn speed_levels (speeds_of a) track lost) (sym same)
+      (loss_is speed_levels candidate.grant.authority.end (metres_shown candidate.view) lost candidate.view.speeds candidate.grant.authority.speeds track loses is ends)
 
-  pub grades_fit : (track : StepFunction ℤ) → track ≡ record { steps = candidate.view.grades; end = metres_shown candidate.view } → IsBasisOf grade_levels (grades_of authority) track
-  grades_fit track is =
-      subst (λ (a : Authority). IsBasisOf grade_levels (grades_of a) track) (sym same)
-      (basis_is grade_levels _ _ candidate.grant.authority.end (metres_shown candidate.view) candidate.view.grades candidate.grant.authority.grades track chosen.grades is ends)
+  pub grades_lose : (lost : ℕ) (track : StepFunction ℤ)
+      → lost ≡ loss grade_levels candidate.grant.authority.end (value_at candidate.view.grades) candidate.grant.authority.grades
+      → track ≡ record { steps = candidate.view.grades; end = metres_shown candidate.view } → IsLossOn grade_levels (grades_of authority) track lost
+  grades_lose lost track loses is =
+      subst (λ (a : Authority). IsLossOn grade_levels (grades_of a) track lost) (sym same)
+      (loss_is grade_levels candidate.grant.authority.end (metres_shown candidate.view) lost candidate.view.grades candidate.grant.authority.grades track loses is ends)
 
 nine : {A B C D E F G H I : Type 0} {X : Type 0} (f : A → B → C → D → E → F → G → H → I → X) (a a' : A) (b b' : B) (c c' : C) (d d' : D) (e e' : E) (f1 f2 : F) (g g' : G) (h h' : H) (i i' : I)
     → a ≡ a' → b ≡ b' → c ≡ c' → d ≡ d' → e ≡ e' → f1 ≡ f2 → g ≡ g' → h ≡ h' → i ≡ i' → f a b c d e f1 g h i ≡ f a' b' c' d' e' f2 g' h' i'

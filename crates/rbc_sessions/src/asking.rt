@@ -134,6 +134,7 @@ pub fn told_of(candidate: &Candidate, version: u64) -> ToldGrant<'_>
     let prices = candidate.prices();
     let authority = candidate.authority();
     let message = candidate.message();
+    let losses = candidate.losses();
     authority.known();
     ToldGrant {
         train: candidate.train(),
@@ -152,5 +153,7 @@ pub fn told_of(candidate: &Candidate, version: u64) -> ToldGrant<'_>
             track: view.grades(),
             prices: prices.grades.as_slice(),
         },
+        speeds_loss: losses.speeds,
+        grades_loss: losses.grades,
     }
 }

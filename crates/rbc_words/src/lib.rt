@@ -15,7 +15,7 @@ mod words;
 pub use line_words::{
     Word, emit_joined, emit_line, emit_words, leg_word, print_line, section_word,
 };
-pub use printing::{emit_hex, emit_number};
+pub use printing::{emit_hex_between, emit_number};
 pub use rbc_model::{LineFault, OrMemory, StepsRefusal};
 pub use rbc_streams::{Advance, LineReader, SessionFault, Sink, Source, Stream, WriteFailed};
 pub use session_line::{emit_report, emit_request, print_request, told_request};

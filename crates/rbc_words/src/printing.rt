@@ -1,6 +1,6 @@
 //! Numbers and bytes, printed as text.
 
-ghost use Rattle.std.specs.Prelude.{◌≡◌, ◌≤◌, ℕ, List, ◌++◌, length, decimal};
+ghost use Rattle.std.specs.Prelude.{◌≡◌, ◌+◌, ◌≤◌, ℕ, List, ◌++◌, length, decimal};
 ghost use Rattle.rbc_streams.specs.Emitting.{Emits};
 ghost use Rattle.rbc_model.specs.Words.{hex_of};
 
@@ -15,11 +15,33 @@ pub fn emit_number<W: Sink>(number: u64, writer: &mut W)
     emit(writer, digits.format(number).as_bytes());
 }
 
+/// How many bytes are written at once with the texts around them.
+const SHORT: usize = 120;
+
+/// Writes bytes, each as two digits of base 16, in lower case, with a short text before them and one behind.
+pub fn emit_hex_between<W: Sink>(before: &[u8], bytes: &[u8], behind: &[u8], writer: &mut W)
+    requires short { length before.now + length behind.now ≤ 16 }
+    ensures { Emits W.written W.failed writer.old writer.new
+        (before.now ++ (hex_of bytes.now ++ behind.now)) }
+{
+    if bytes.len() > SHORT {
+        emit(writer, before);
+        emit_hex(bytes, writer);
+        emit(writer, behind);
+        return;
+    }
+    let mut text = TailBuffer::new();
+    text.text(behind);
+    text.hex(bytes);
+    text.text(before);
+    emit(writer, text.bytes());
+}
+
 /// How many bytes are written at once as two digits each.
 const PIECE: usize = 128;
 
 /// Writes bytes as text, each as two digits of base 16, in lower case.
-pub fn emit_hex<W: Sink>(bytes: &[u8], writer: &mut W)
+fn emit_hex<W: Sink>(bytes: &[u8], writer: &mut W)
     ensures { Emits W.written W.failed writer.old writer.new (hex_of bytes.now) }
 {
     let mut rest = bytes;

@@ -4,12 +4,12 @@ ghost use Rattle.std.specs.Prelude.{◌≡◌, ◌+◌, ◌*◌, ◌≤◌, ℕ,
 ghost use Rattle.rbc_streams.specs.Emitting.{Emits};
 ghost use Rattle.rbc_model.specs.Words.{line_of};
 ghost use Rattle.rbc_model.specs.StepsReply.{fault_words, refusal_words, refusal_reply};
-ghost use Rattle.rbc_model.specs.StepsReply.{profile_line, packet_lines};
+ghost use Rattle.rbc_model.specs.StepsReply.{profile_line};
 ghost use Rattle.rbc_words.specs.Replies.{runs_text, track_text, certificate_lines, certified_text};
 
 use crate::price_table::emit_table;
 use crate::tail_buffer::TailBuffer;
-use crate::{Spelled, emit_hex};
+use crate::{Spelled, emit_hex_between};
 use rbc_model::{LineFault, StepsRefusal};
 use rbc_steps::{Profile, Runs};
 use rbc_streams::{Sink, emit};
@@ -108,7 +108,7 @@ pub fn emit_certified<V: Spelled, W: Sink>(
         (certified_text V.kind profile.now loss basis.now packet.now) }
 {
     emit_certificate(profile, loss, basis, writer);
-    emit_packet(packet, writer);
+    emit_hex_between(b"packet ", packet, b"\ndone\n", writer);
 }
 
 /// Writes the line of a track, with the limit of steps.
@@ -190,27 +190,6 @@ fn gather_line_end<V: Spelled>(runs: &[(u32, V)], name: &[u8], number: u64, text
     text.number(number);
     text.text(name);
     gather_runs(runs, text);
-}
-
-/// How many bytes a packet has at most whose lines are written at once.
-const SHORT_PACKET: usize = 120;
-
-/// Writes the line of a packet, and the last line of a reply.
-fn emit_packet<W: Sink>(packet: &[u8], writer: &mut W)
-    ensures { Emits W.written W.failed writer.old writer.new
-        (packet_lines packet.now) }
-{
-    if packet.len() > SHORT_PACKET {
-        emit(writer, b"packet ");
-        emit_hex(packet, writer);
-        emit(writer, b"\ndone\n");
-        return;
-    }
-    let mut text = TailBuffer::new();
-    text.text(b"\ndone\n");
-    text.hex(packet);
-    text.text(b"packet ");
-    emit(writer, text.bytes());
 }
 
 /// How many runs or steps of a longer line are written at once.

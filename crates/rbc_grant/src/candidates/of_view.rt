@@ -4,8 +4,8 @@ ghost use Rattle.std.specs.Prelude.{◌≡◌, IfOk};
 ghost use Rattle.rbc_grant_laws.specs.Candidates.{IsCandidateOf};
 ghost use Rattle.rbc_grant.specs.Candidates.{HasChosenProfiles};
 
-use super::Candidate;
 use super::reductions::reduced;
+use super::{Candidate, Made};
 use crate::{Losses, Offer, PriceTables};
 use rbc_model::Memory;
 use rbc_packet::{Authority, write_message};
@@ -40,7 +40,7 @@ pub fn candidate(
     let authority = Authority::new(time, group, nominal, speeds.profile, grades.profile).unwrap();
     let message = write_message(alloc, &authority)?;
     let offer = Arc::new(alloc, Offer::of(&view, authority))?;
-    Ok(Candidate {
+    let made = Made {
         view,
         version,
         offer,
@@ -53,5 +53,8 @@ pub fn candidate(
             speeds: speeds.prices,
             grades: grades.prices,
         },
+    };
+    Ok(Candidate {
+        made: Box::new(alloc, made)?,
     })
 }

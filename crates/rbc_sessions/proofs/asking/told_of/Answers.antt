@@ -3,7 +3,7 @@ use Rattle.std.proofs.lemmas.Int.{to_z-of_z}
 use Rattle.rbc_model.specs.Messages.{message_bytes}
 use Rattle.rbc_model.specs.Views.{View}
 use Rattle.rbc_sweep.specs.Forms.{metres_shown}
-use Rattle.rbc_sessions.proofs.AskingLemmas.{grades_fit, speeds_fit}
+use Rattle.rbc_sessions.proofs.AskingLemmas.{grades_lose, speeds_lose}
 use Rattle.rbc_sessions.proofs.asking.told_of.Goals as goal
 
 pub returns-clause-told : goal.returns-clause-told
@@ -35,8 +35,8 @@ invariant_of-result c =
     let authority = c.authority-authority.ensures.authority in
     record {
       told = c.message-message.ensures ∙ ap message_bytes (sym authority);
-      speeds_fit = speeds_fit candidate c.authority-authority.result.now known.best known.chosen authority c.speeds.result.now
-          (c.speeds.ensures ∙ ap (λ (v : View). record { steps = v.speeds; end = metres_shown v }) view);
-      grades_fit = grades_fit candidate c.authority-authority.result.now known.best known.chosen authority c.grades.result.now
-          (c.grades.ensures ∙ ap (λ (v : View). record { steps = v.grades; end = metres_shown v }) view);
+      speeds_fit = speeds_lose candidate c.authority-authority.result.now known.best authority c.losses-losses.result.speeds c.speeds.result.now
+          c.losses-losses.ensures.speeds (c.speeds.ensures ∙ ap (λ (v : View). record { steps = v.speeds; end = metres_shown v }) view);
+      grades_fit = grades_lose candidate c.authority-authority.result.now known.best authority c.losses-losses.result.grades c.grades.result.now
+          c.losses-losses.ensures.grades (c.grades.ensures ∙ ap (λ (v : View). record { steps = v.grades; end = metres_shown v }) view);
     }

@@ -45,10 +45,10 @@ candidate_here g c =
 pub invariant_of-result : goal.invariant_of-result
 invariant_of-result g c =
     let made = candidate_here g (goal.at.invariant_of-result g c).After-unwrap-authority in
-    rw c.in_ok-offer.ensures.ok (rw c.of.ensures (record { best = made.best; chosen = made.chosen; message = c.in_ok-message.ensures; losses = made.losses; prices = made.prices }))
+    rw c.in_ok-new.ensures.ok (rw c.in_ok-offer.ensures.ok (rw c.of.ensures (record { best = made.best; chosen = made.chosen; message = c.in_ok-message.ensures; losses = made.losses; prices = made.prices })))
 
 pub returns-clause-best : goal.returns-clause-best
-returns-clause-best g c = rw c.in_ok-offer.ensures.ok (rw c.of.ensures (candidate_here g (goal.at.returns-clause-best g c).After-unwrap-authority).best)
+returns-clause-best g c = rw c.in_ok-new.ensures.ok (rw c.in_ok-offer.ensures.ok (rw c.of.ensures (candidate_here g (goal.at.returns-clause-best g c).After-unwrap-authority).best))
 
 pub returns-clause-chosen : goal.returns-clause-chosen
-returns-clause-chosen g c = rw c.in_ok-offer.ensures.ok (rw c.of.ensures (candidate_here g (goal.at.returns-clause-chosen g c).After-unwrap-authority).chosen)
+returns-clause-chosen g c = rw c.in_ok-new.ensures.ok (rw c.in_ok-offer.ensures.ok (rw c.of.ensures (candidate_here g (goal.at.returns-clause-chosen g c).After-unwrap-authority).chosen))
