@@ -1,8 +1,9 @@
 -- A book's entries: each train on the book's track, under its number.
-use Rattle.std.proofs.Common.{◌≡◌, ℕ, Bool, true, false, cond, List, [], ◌∷◌, ◌++◌, map, Option, Some, None, refl, sym, ◌∙◌, ap, subst, max, nat_eq, nat_lt, arith}
+use Rattle.std.proofs.Common.{◌≡◌, ℕ, Bool, true, false, cond, List, [], ◌∷◌, ◌++◌, map, Option, Some, None, MutBor, refl, sym, ◌∙◌, ap, subst, max, nat_eq, nat_lt, arith}
 use Rattle.std.specs.Prelude.{is_some, ◌==◌, find, not, option_map}
 use Rattle.std.specs.List.{AllByRecursion}
 use Rattle.std.specs.Map.{lookup, set_value, values_of}
+use Rattle.std.specs.Option.{option_copied_mut}
 use Rattle.std.proofs.lemmas.Bool.{eqb-true}
 use Rattle.indexmap.specs.IndexMap.{insert_entry, shift_remove_entry}
 use Rattle.rbc_model.specs.Tracks.{Track}
@@ -176,6 +177,10 @@ none_on : (track : Track) (o : Option Train) → option_map (on_track track) o �
 none_on track None h = refl
 none_on track (Some train) h = cc
 
+pub mut_some : {X : Type 0} (o : Option (MutBor X)) → is_some o ≡ is_some (option_copied_mut o)
+mut_some None = refl
+mut_some (Some x) = refl
+
 -- a train that was found by its number
 pub record IsFound (book : Book) (number : ℕ) (train : TrainOnTrack) : Type 0 where
   pub of_track : train.track ≡ book.track
@@ -247,15 +252,16 @@ module _ (track : Track) (book : Book) (es : List (ℕ × TrainOnTrack)) (is : b
       (subst (λ (b : Book). AuthoritiesAreApart b.track (with_train (scene_of b.trains) train.train)) (sym is) apart)
       (e ∙ ap (λ k. insert_entry nat_eq es k train) n ∙ ap (λ k. insert_entry nat_eq es train.train.report.train (on_track k train.train)) on))
 
-  -- a train that is there, with another authority
-  pub held : (fs : List (ℕ × TrainOnTrack)) (number : ℕ) (before after : TrainOnTrack) (line : LineOnTrack) (from to : ℕ) → IsFound book number before
-      → after.train ≡ with_authority before.train line.legs from to → IsGoodTrain after.track after.train → after.track ≡ before.track
-      → HoldsOfTrain book number (λ train. AuthoritiesAreApart book.track (with_train (scene_of book.trains) (with_authority train line.legs from to)))
-      → fs ≡ insert_entry nat_eq es number after → AreThoseOf track (book_with book (with_authority before.train line.legs from to)) fs
-  held fs number before after line from to f e fine of_track apart entries =
-      subst (λ t. AreThoseOf track (book_with book t) fs) e
-      (placed fs number after (f.numbered ∙ sym (ap (λ (t : Train). t.report.train) e)) (of_track ∙ f.of_track) fine
-      (subst (λ t. AuthoritiesAreApart book.track (with_train (scene_of book.trains) t)) (sym e) (apart before.train f.there)) entries)
+  -- a train that is there, with another authority on its line, written in its place
+  pub held : (fs : List (ℕ × TrainOnTrack)) (number : ℕ) (before after : TrainOnTrack) (from to : ℕ) → IsFound book number before
+      → after.train ≡ with_authority before.train before.train.line from to → IsGoodTrain after.track after.train → after.track ≡ before.track
+      → AuthoritiesAreApart book.track (with_train (scene_of book.trains) (with_authority before.train before.train.line from to))
+      → fs ≡ set_value (nat_eq number) es after → AreThoseOf track (book_with book after.train) fs
+  held fs number before after from to f e fine of_track apart entries =
+      let there : is_some (lookup (nat_eq number) es) ≡ true = got-some number ∙ ap is_some f.there in
+      placed fs number after (f.numbered ∙ sym (ap (λ (t : Train). t.report.train) e)) (of_track ∙ f.of_track) fine
+      (subst (λ t. AuthoritiesAreApart book.track (with_train (scene_of book.trains) t)) (sym e) apart)
+      (entries ∙ set_value-insert es number after there)
 
   -- a train that is there, with its authority cut, written in its place
   pub cut : (fs : List (ℕ × TrainOnTrack)) (number : ℕ) (before after : TrainOnTrack) (to : ℕ) → IsFound book number before → IsCut before.train to

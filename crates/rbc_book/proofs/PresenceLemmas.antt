@@ -485,6 +485,21 @@ module _ (track : Track) (book : Book) (es : List (ℕ × TrainOnTrack)) (is : b
       let f = found track book es is are n x h in
       subst (λ k. k ≤ LAST_TRAIN) (sym f.numbered) (find-holds (λ train. number_in train ≤ LAST_TRAIN) (is_numbered n) book.trains x.train f.there p.numbers)
 
+  -- a train that stays on its line is counted as it was
+  pub kept_present : (n : ℕ) (x : TrainOnTrack) (after : Train) (fs : List (ℕ × TrainOnTrack)) → Some x ≡ lookup (nat_eq n) es → after.report.train ≡ n → after.line ≡ x.train.line
+      → AreThoseOf track (book_with book after) fs → ArePresent track (trains_of fs) tallies
+  kept_present n x after fs there same line those =
+      let p = here in
+      let f = found track book es is are n x there in
+      let w = are_without n book.trains all_differ in
+      let lines = sym line in
+      let numbers = sym f.numbered ∙ sym same in
+      with_present after n (Some x) fs tallies (sym same) there (subst (λ k. k ≤ LAST_TRAIN) (sym same) (small n x there)) (not_new n x after there same) those refl
+      (λ s.
+      let t = tally_of s (without_in book.trains n) in
+      p.each s ∙ w.tallies s ∙ ap (λ o. tally_more o s t) f.there ∙ (λ j. cond (has_section (lines j) s) (with_one (numbers j) t) t)
+      ∙ ap (tally_with after s) (sym (but n s (Some x) there)))
+
   -- a train that is counted no more as it was, and then as it is after it
   module _ (n : ℕ) (x : TrainOnTrack) (after : Train) (mid : List Tally) (there : Some x ≡ lookup (nat_eq n) es) (same : after.report.train ≡ n)
       (out : (s : ℕ) → tally_at mid s ≡ tally_without x.train s (tally_at tallies s)) where

@@ -90,12 +90,13 @@ fn first_standing_on(trains: &Trains, section: SectionId) -> Option<TrainId>
     Some(standing.id())
 }
 
-/// A copy of the trains, in their order of arrival.
-fn copy_of(alloc: Global, trains: &Trains) -> Result<Trains, Memory>
+/// A copy of the trains, in their order of arrival, in the memory of trains that are no longer needed.
+fn copy_of(alloc: Global, trains: &Trains, spare: Trains) -> Result<Trains, Memory>
     ensures { IfOk result (λ copy. copy.entries ≡ trains.now.entries) }
 {
-    let mut copy = IndexMap::with_capacity(alloc, trains.len())?;
-    for (number, train) in trains {
+    let mut copy = spare;
+    copy.clear();
+    for (number, train) in trains.iter() {
         copy.insert(*number, train.copy(alloc)?)?;
     }
     Ok(copy)
@@ -232,6 +233,22 @@ impl Book {
         }
     }
 
+    /// Gives a train another authority, which stands on the line that it has. It may hold no metre that another train holds.
+    /// It takes no memory.
+    pub fn hold(&mut self, id: TrainId, from: u32, to: u32)
+        requires known { IsTrue (is_some (train_in self.old id)) }
+        requires good { HoldsOfTrain self.old id
+            (λ train. IsGoodTrain self.old.track (with_authority train train.line from to)) }
+        requires apart { HoldsOfTrain self.old id (λ train. AuthoritiesAreApart self.old.track
+            (with_train (scene_of self.old.trains) (with_authority train train.line from to))) }
+        ensures { HoldsOfTrain self.old id
+            (λ train. self.new ≡ book_with self.old (with_authority train train.line from to)) }
+    {
+        let train = self.trains.get_mut(&id.number()).unwrap();
+        train.hold(from, to);
+        train.known();
+    }
+
     /// A train gives back what its authority has from a place on, which is not behind its front. The legs that
     /// neither its extent nor its authority needs then are dropped. It takes no memory.
     pub fn give_back(&mut self, id: TrainId, to: u32)
@@ -296,8 +313,33 @@ impl Book {
         ensures { IfOk result (λ book. book ≡ self.now) }
     {
         let track = self.track.clone()?;
-        let trains = copy_of(alloc, &self.trains)?;
+        let room = IndexMap::with_capacity(alloc, self.trains.len())?;
+        let trains = copy_of(alloc, &self.trains, room)?;
         let presence = Vec::from_slice(alloc, self.presence.as_slice())?;
+        Ok(Book {
+            track,
+            trains,
+            presence,
+        })
+    }
+
+    /// A book of the same trains on the same track, in the memory of one that is no longer needed.
+    ///
+    /// # Errors
+    ///
+    /// `Memory`, where the allocator refuses room for the trains.
+    pub fn copy_in(&self, alloc: Global, spare: Book) -> Result<Book, Memory>
+        ensures { IfOk result (λ book. book ≡ self.now) }
+    {
+        let Book {
+            track: _,
+            trains,
+            mut presence,
+        } = spare;
+        let track = self.track.clone()?;
+        let trains = copy_of(alloc, &self.trains, trains)?;
+        presence.clear();
+        presence.extend_from_slice(self.presence.as_slice())?;
         Ok(Book {
             track,
             trains,

@@ -206,6 +206,16 @@ impl Train {
         }
     }
 
+    /// Gives the train another authority, which stands on its line. It takes no memory.
+    pub fn hold(&mut self, from: u32, to: u32)
+        requires good { IsGoodTrain self.old.track (with_authority self.old.train self.old.train.line from to) }
+        ensures track { self.new.track ≡ self.old.track }
+        ensures train { self.new.train ≡ with_authority self.old.train self.old.train.line from to }
+    {
+        self.from = from;
+        self.to = to;
+    }
+
     /// Gives back what the authority has from a place on, which is not behind the train's front. The legs that
     /// neither the extent nor the authority needs then are dropped, save that of the last report. It takes no memory.
     pub fn cut_at(&mut self, to: u32)

@@ -10,5 +10,4 @@ pub use candidates::Candidate;
 pub use candidates::of_view::candidate;
 pub use certificates::{Losses, PriceTables};
 pub use offer::Offer;
-pub use rbc_model::Memory;
-pub use rbc_reach::{Locks, Scene, Train, View, view};
+pub use rbc_reach::{Scene, View, view};

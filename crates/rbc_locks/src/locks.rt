@@ -219,6 +219,24 @@ impl Locks {
         Ok(Locks { rows, next_legs })
     }
 
+    /// Equal locks, in the memory of locks that are no longer needed.
+    ///
+    /// # Errors
+    ///
+    /// `Memory`, where that is too small and the allocator refuses more.
+    pub fn copy_in(&self, spare: Locks) -> Result<Locks, Memory>
+        ensures { IfOk result (λ locks. locks ≡ self.now) }
+    {
+        let Locks {
+            mut rows,
+            next_legs,
+        } = spare;
+        rows.clear();
+        rows.extend_from_slice(self.rows.as_slice())?;
+        let next_legs = self.next_legs.copy_in(next_legs)?;
+        Ok(Locks { rows, next_legs })
+    }
+
     /// Locks each of the route's legs behind the one before it.
     fn add_rows(&mut self, number: RouteId, route: &Route)
         requires { HaveRoom number self.old (needed_rows route.now) }

@@ -74,4 +74,14 @@ impl NextTable {
         let sections = Vec::from_slice(alloc, self.sections.as_slice())?;
         Ok(NextTable { sections })
     }
+
+    /// An equal table, in the memory of one that is no longer needed.
+    pub(crate) fn copy_in(&self, spare: NextTable) -> Result<NextTable, Memory>
+        ensures { IfOk result (λ table. table ≡ self.now) }
+    {
+        let NextTable { mut sections } = spare;
+        sections.clear();
+        sections.extend_from_slice(self.sections.as_slice())?;
+        Ok(NextTable { sections })
+    }
 }

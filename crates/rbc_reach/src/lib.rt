@@ -7,7 +7,6 @@ mod search;
 mod views;
 
 pub use parts::ViewParts;
-pub use rbc_model::{OrMemory, ViewFault};
-pub use rbc_scene::{Locks, Scene, Train};
+pub use rbc_scene::Scene;
 pub use search::view;
 pub use views::View;

@@ -363,4 +363,15 @@ impl Record {
     {
         Ok(self.scene.copy(alloc)?)
     }
+
+    /// A copy of the scene that the history leads to, apart from the record, in the memory of a scene that is no longer needed.
+    ///
+    /// # Errors
+    ///
+    /// `Memory`, where that is too small and the allocator refuses more.
+    pub fn snapshot_in(&self, alloc: Global, spare: Scene) -> Result<Scene, Memory>
+        ensures { IfOk result (λ s. s ≡ record { track = self.now.track; scene = scene_now self.now }) }
+    {
+        Ok(self.scene.copy_in(alloc, spare)?)
+    }
 }

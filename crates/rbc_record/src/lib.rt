@@ -17,6 +17,5 @@ pub use faults::{ApplyFault, CommitFault};
 pub use grant::Grant;
 pub use history::Record;
 pub use laws::legal_histories_are_best;
-pub use rbc_grant::{Candidate, Locks, Scene, Train, View, candidate, view};
-pub use rbc_model::{Memory, OrMemory, Refusal, Told, ViewFault};
+pub use rbc_grant::{Candidate, Scene, View, candidate, view};
 pub use receipt::Receipt;

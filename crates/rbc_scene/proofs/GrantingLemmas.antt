@@ -208,10 +208,10 @@ put_in P n t (x ∷ xs) known there same all = by (x.report.train == n) refl the
     by true e h here later = subst (λ b. P (cond b t x)) (ap (λ m. x.report.train == m) (sym same) ∙ e) here
     by false e h here later = later h
 
-module _ (locks : Locks) (book : Book) (now : SceneOnTrack) (is : scene_on locks book ≡ now) (kept : IsKept (scene_on locks book)) (number distance : ℕ) (line : LineOnTrack) (from to : ℕ)
-    (says : (train : Train) → train_numbered now.scene number ≡ Some train → granted_train now.track now.scene train distance ≡ Ok (with_authority train line.legs from to)) where
+module _ (locks : Locks) (book : Book) (now : SceneOnTrack) (is : scene_on locks book ≡ now) (kept : IsKept (scene_on locks book)) (number distance : ℕ) (legs : Train → Line) (from to : ℕ)
+    (says : (train : Train) → train_numbered now.scene number ≡ Some train → granted_train now.track now.scene train distance ≡ Ok (with_authority train (legs train) from to)) where
   abbrev put : Train → Train
-  put train = with_authority train line.legs from to
+  put train = with_authority train (legs train) from to
 
   good_then : (train : Train) → train_numbered now.scene number ≡ Some train → IsGoodScene now.track (with_train now.scene (put train))
   good_then train there =
@@ -294,6 +294,29 @@ module _ (locks : Locks) (book : Book) (now : SceneOnTrack) (is : scene_on locks
       ap (λ (s : SceneOnTrack). reach_of s.track s.scene number) (sym is)
       ∙ ap (λ (t : Option Train). option_map_or (λ (train : Train). let r : Result (Obstacle × ℤ) Refusal = Ok (stop book.track (scene_on locks book).scene train, pos (reach book.track (scene_on locks book).scene train)) in r) t (Err (UnknownTrain number))) f.there
       ∙ sym (λ j. Ok (stops j, (e ∙ ap pos reaches) j))
+
+-- ---- on the line that the train has
+
+module _ (track : Track) (scene : Scene) (number distance : ℕ) (train : Train) (there : train_numbered scene number ≡ Some train) (locks : IsGoodLocks track scene.locks) (good : IsGoodTrain track train)
+    (accepted : is_ok (after_grant track scene number distance) ≡ true) (from to : ℕ) where
+  on_line : from ≡ start_of train → to ≡ train.origin + distance → to ≤ line_length track train.line
+      → (known : Train) → train_numbered scene number ≡ Some known → granted_train track scene known distance ≡ Ok (with_authority known known.line from to)
+  on_line start end within known same =
+      subst (λ (k : Train). granted_train track scene k distance ≡ Ok (with_authority k k.line from to)) (the_some train known (sym there ∙ same))
+      (safe track scene train distance (is_safe track scene train (train.origin + distance) && is_expressible_end track train (train.origin + distance)) train.line from to refl
+      (is_accepted track scene number distance train there accepted)
+      (line_to-near track scene train (train.origin + distance) locks good (subst (λ n. n ≤ line_length track train.line) end within)) start end)
+
+module _ (locks : Locks) (book : Book) (now : SceneOnTrack) (is : scene_on locks book ≡ now) (kept : IsKept (scene_on locks book)) (number distance : ℕ) (known : TrainOnTrack)
+    (f : IsFound book number known) (accepted : is_ok (after_grant now.track now.scene number distance) ≡ true) where
+  pub on_line_book : IsGoodTrain known.track known.train → (from to : ℕ) → from ≡ start_of known.train → to ≡ known.train.origin + distance → to ≤ line_length known.track known.train.line
+      → (train : Train) → train_numbered now.scene number ≡ Some train → granted_train now.track now.scene train distance ≡ Ok (with_authority train train.line from to)
+  on_line_book good from to start end within =
+      let k = kept in
+      subst (λ (s : SceneOnTrack). (train : Train) → train_numbered s.scene number ≡ Some train → granted_train s.track s.scene train distance ≡ Ok (with_authority train train.line from to)) is
+      (on_line book.track (scene_on locks book).scene number distance known.train f.there k.good.locks (subst (λ (t : Track). IsGoodTrain t known.train) f.track good)
+      (subst (λ (s : SceneOnTrack). is_ok (after_grant s.track s.scene number distance) ≡ true) (sym is) accepted) from to start end
+      (subst (λ (t : Track). to ≤ line_length t known.train.line) f.track within))
 
 -- ---- along legs that are known
 

@@ -4,6 +4,5 @@
 mod granting;
 mod scene;
 
-pub use rbc_model::{Event, Memory, Obstacle, OrMemory, Refusal, Told};
 pub use rbc_search::{Along, Book, Line, Locks, Places, Reach, Train, reach};
 pub use scene::Scene;

@@ -350,9 +350,30 @@ impl Scene {
             × (self.new.track ≡ self.old.track)) }
         ensures refused { OnErr result (self.new ≡ self.old) }
     {
+        if let Some((from, to)) = self.granted_on_line(train, distance) {
+            self.book.hold(train, from, to);
+            return Ok(());
+        }
         let GrantedLine { line, from, to } = self.granted_along(alloc, train, distance, legs)?;
         self.book.set_held(train, line, from, to);
         Ok(())
+    }
+
+    /// From where to where the authority that is known to be accepted goes, if the train's line has all of it already.
+    fn granted_on_line(&self, train: TrainId, distance: Distance) -> Option<(u32, u32)>
+        requires accepted { IsTrue (is_ok (after_grant self.now.track self.now.scene train distance)) }
+        ensures { IfSome result (λ places. (known : KnownTrain) → train_numbered self.now.scene train ≡ Some known
+            → granted_train self.now.track self.now.scene known distance
+            ≡ Ok (with_authority known known.line places.0 places.1)) }
+    {
+        let known = self.book.get(train)?;
+        let to = known.origin().checked_add(distance.metres())?;
+        let line = known.line();
+        known.known();
+        if to > line.length() {
+            return None;
+        }
+        Some((known.start(), to))
     }
 
     /// The authority that is known to be accepted, on the train's line along these legs.
@@ -464,6 +485,20 @@ impl Scene {
     {
         let locks = self.locks.copy(alloc)?;
         let book = self.book.copy(alloc)?;
+        Ok(Scene { locks, book })
+    }
+
+    /// A scene of the same locks and trains on the same track, in the memory of one that is no longer needed.
+    ///
+    /// # Errors
+    ///
+    /// `Memory`, where that is too small and the allocator refuses more.
+    pub fn copy_in(&self, alloc: Global, spare: Scene) -> Result<Scene, Memory>
+        ensures { IfOk result (λ scene. scene ≡ self.now) }
+    {
+        let Scene { locks, book } = spare;
+        let locks = self.locks.copy_in(locks)?;
+        let book = self.book.copy_in(alloc, book)?;
         Ok(Scene { locks, book })
     }
 }

@@ -11,5 +11,4 @@ mod stretches;
 
 pub use found::Reach;
 pub use rbc_book::{Along, Book, Line, Locks, Places, Train, reported};
-pub use rbc_model::{Memory, Obstacle};
 pub use search::reach;

@@ -1,11 +1,12 @@
 //! The writer's end, which stands under the lock.
 
 ghost use Rattle.std.specs.Prelude.{◌≡◌, ◌≤◌, ◌<◌, ◌^◌, drop, length, take, replicate, IfOk, MatchBool, MatchResult};
+ghost use Rattle.std.specs.Arc.{arc_value};
 ghost use Rattle.left_right.specs.Sides.{view as known_to};
 ghost use Rattle.rbc_logbook_laws.specs.Counts.{head_of};
 ghost use Rattle.rbc_snap.specs.Ends.{pressed, put, watching};
 ghost use Rattle.rbc_snap.specs.Knowing.{knower, knower_of};
-ghost use Rattle.rbc_snap.specs.Later.{IsLater};
+ghost use Rattle.rbc_snap.specs.Later.{IsLater, scene_of};
 ghost use Rattle.rbc_snap.specs.Sights.{seen_of};
 
 use crate::events::{Events, add_if, no_events};
@@ -16,17 +17,24 @@ use crate::{Eye, HistoryName, Issue, NewHistory, Published, Sight};
 use core::mem::replace_with;
 use left_right::writer::Writer;
 use rbc_model::Memory;
-use rbc_record::{EntryLimit, Record};
+use rbc_record::{EntryLimit, Record, Scene};
 use std::alloc::Global;
 use std::marker::{Model, PhantomData};
 use std::sync::{Arc, Wait};
 
 type Ends = Writer<Published, Issue, Known, OneHistory>;
 
+/// After so many publications neither copy holds a scene any more; a reader still may.
+const SPARES: usize = 3;
+
+/// The scenes that were published last, of which the oldest is the memory of the next one, once no reader holds it.
+type Spares = [Option<Arc<Scene>>; SPARES];
+
 /// A press, which publishes scenes of a record. Contracts see it as all that it was handed to publish, and as the moment
 /// of it that is published. It is no `Drop`: end it by [`Press::end`].
 pub struct Press<J: HistoryName> {
     writer: Ends,
+    spares: Spares,
     head: Head,
     sight: Sight,
     events: Arc<Events<J>>,
@@ -142,12 +150,32 @@ fn advance<R: Wait>(rt: &R, head: &Head, sight: &mut Sight, log: &Record)
     unreachable!()
 }
 
+/// A copy of the record's scene, in the memory of the spare one where nobody holds that any more.
+fn copy_of(alloc: Global, log: &Record, spare: Option<Arc<Scene>>) -> Result<Scene, Memory>
+    ensures { IfOk result (λ scene. scene ≡ scene_of log.now) }
+{
+    match spare.and_then(Arc::into_inner) {
+        Some(spare) => log.snapshot_in(alloc, spare),
+        None => log.snapshot(alloc),
+    }
+}
+
+/// The scene of the record, in the memory of the oldest spare one. It is kept in that one's place.
+fn scene_of(alloc: Global, log: &Record, spares: &mut Spares) -> Result<Arc<Scene>, Memory>
+    ensures { IfOk result (λ scene. arc_value scene ≡ scene_of log.now) }
+{
+    let scene = Arc::new(alloc, copy_of(alloc, log, spares[0].take())?)?;
+    spares[0] = Some(Arc::try_clone(&scene)?);
+    spares.rotate_left(1);
+    Ok(scene)
+}
+
 /// The finished scene of the record.
-fn issue(alloc: Global, sight: &Sight, log: &Record) -> Result<Issue, Memory>
+fn issue(alloc: Global, sight: &Sight, log: &Record, spares: &mut Spares) -> Result<Issue, Memory>
     requires { sight.now.history ≡ log.now }
     ensures { IfOk result (λ i. i.sight ≡ sight.now) }
 {
-    let scene = Arc::new(alloc, log.snapshot(alloc)?)?;
+    let scene = scene_of(alloc, log, spares)?;
     Ok(Issue {
         sight: sight.again(),
         scene,
@@ -242,6 +270,7 @@ impl<J: HistoryName> Press<J> {
             Ok(eyes) => {
                 let press = Press {
                     writer,
+                    spares: [None, None, None],
                     head,
                     sight,
                     events,
@@ -293,13 +322,14 @@ impl<J: HistoryName> Press<J> {
         }
         let Press {
             writer,
+            spares,
             sight,
             events,
             has_events,
             ..
         } = self;
         add_if(rt, *has_events, events, sight, log)?;
-        let issue = issue(alloc, sight, log)?;
+        let issue = issue(alloc, sight, log, spares)?;
         show(rt, writer, issue)
     }
 
@@ -331,6 +361,7 @@ impl<J: HistoryName> Press<J> {
     pub fn end<R: Wait>(self, rt: &R) {
         let Press {
             writer,
+            spares: _,
             head: _,
             sight: _,
             events: _,

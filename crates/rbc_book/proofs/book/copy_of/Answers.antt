@@ -10,8 +10,8 @@ more c =
     let done = c.loop-number.copy.entries in
     let number = c.in-Some.number.now in
     let train = c.in-Some.train.now in
-    ap (λ l. l ++ c.next.new.self) (c.in_ok-insert.ensures.entries ∙ ap (insert_entry nat_eq done number) c.in_ok-copy-2.ensures)
-    ∙ copied_more done c.next.new.self c.args.trains.now.entries number train c.len.ensures.unique
+    ap (λ l. l ++ c.next.new.self) (c.in_ok-insert.ensures.entries ∙ ap (insert_entry nat_eq done number) c.in_ok-copy.ensures)
+    ∙ copied_more done c.next.new.self c.args.trains.now.entries number train c.iter-number-items.ensures.unique
     (sym c.loop-number.invariant ∙ ap (λ l. done ++ l) c.in-Some.ensures.steps)
 
 pub loop-number-preserved-in_ok-insert : goal.loop-number-preserved-in_ok-insert

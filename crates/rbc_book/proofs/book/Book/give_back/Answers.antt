@@ -1,5 +1,5 @@
 -- The train is found by its number, and the entries after its authority is cut are those of the book with it.
-use Rattle.std.proofs.Common.{◌≡◌, length, subst, Option, Some, None, MutBor, nat_eq, refl, ◌∙◌, ap, sym}
+use Rattle.std.proofs.Common.{◌≡◌, length, subst, Some, nat_eq, ◌∙◌, ap, sym}
 use Rattle.std.specs.Prelude.{is_some}
 use Rattle.std.specs.Map.{lookup}
 use Rattle.std.specs.Option.{option_copied_mut}
@@ -9,18 +9,14 @@ use Rattle.rbc_model.specs.Tracks.{Track}
 use Rattle.rbc_scene_laws.proofs.BasicLemmas.{the_some}
 use Rattle.rbc_scene_laws.proofs.GivingBackLemmas.{IsCut}
 use Rattle.rbc_book.specs.Books.{book_with}
-use Rattle.rbc_book.proofs.EntryLemmas.{AreThoseOf, IsFound, cut, found, got-some, number_cut}
+use Rattle.rbc_book.proofs.EntryLemmas.{AreThoseOf, IsFound, cut, found, got-some, mut_some, number_cut}
 use Rattle.rbc_book.proofs.PresenceLemmas.{recounted-room, recounted_present, sized}
 use Rattle.rbc_book.proofs.book.Book.give_back.Goals as goal
 use Rattle.rbc_book.proofs.book.Book.give_back.Goals.{After-self-1, After-unwrap-train}
 
-copied_some : {X : Type 0} (o : Option (MutBor X)) → is_some o ≡ is_some (option_copied_mut o)
-copied_some None = refl
-copied_some (Some x) = refl
-
 pub unwrap-train-requires : goal.unwrap-train-requires
 unwrap-train-requires c =
-    copied_some c.get_mut.result ∙ ap is_some (rw c.number.ensures at c.get_mut.ensures.value)
+    mut_some c.get_mut.result ∙ ap is_some (rw c.number.ensures at c.get_mut.ensures.value)
     ∙ got-some (arc_value c.self.inside.track) c.args.self.now c.self.inside.trains.entries c.self.view_is c.self.invariant.0 c.args.id
     ∙ c.requires.known
 
