@@ -202,31 +202,6 @@ impl<L: DeskName> Desk<L> {
         answer
     }
 
-    /// Enters what a train or the interlocking tells, and gives the seat the receipt, for a seat that will tell more or ask: what
-    /// is entered is published later, by the next [`Desk::publish`] or [`Desk::event`] from this seat, or from another that was
-    /// told of it. So many entries are published as one. The seat is told all that there is then.
-    ///
-    /// # Errors
-    ///
-    /// `Refused` with `Full`, where the record has as many entries as it may have, or with the refusal of the scene, for a legal
-    /// history that goes on from all that the seat was told, and that it is told then; `Memory`, where it is refused, comes in
-    /// place of none that [`Record::refusal`] tells. The seat has no new receipt.
-    pub fn event_ahead<R: Wait>(
-        &self,
-        rt: &R,
-        alloc: Global,
-        seat: &mut Seat<L>,
-        told: Told,
-    ) -> Result<Receipt, OrMemory<ApplyFault>>
-        requires { IsOfTrack L.opened.track told }
-        ensures { IsToldAt seat.old seat.new told result }
-    {
-        let mut hold = self.hold(rt);
-        let answer = hold.event(rt, alloc, seat, &told);
-        hold.leave();
-        answer
-    }
-
     /// What lies under the lock, which is tried for a hundred times before its thread sleeps.
     fn lock<R: Wait>(&self, rt: &R) -> MutexGuard<'_, Shared<L>> {
         let backoff = Backoff::new();
@@ -297,7 +272,8 @@ impl<L: DeskName> Desk<L> {
     /// Grants a train that asks the authority that is best for what it is shown, and gives the seat the receipt. It is shown by
     /// the seat's eye without the lock, or under it where the seat was told more than is published; the gate computes without
     /// it. Where the train is shown another view meanwhile, it is done again, and the fourth time all under the lock. The seat
-    /// is told all that the answer speaks of. The grant is published later, as by [`Desk::event_ahead`].
+    /// is told all that the answer speaks of. The grant is published later: by the next [`Desk::publish`] or [`Desk::event`] from
+    /// this seat, or from another that was told of it.
     ///
     /// # Errors
     ///

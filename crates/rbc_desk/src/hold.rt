@@ -19,7 +19,8 @@ pub struct Hold<'desk, L: DeskName> {
 
 impl<'desk, L: DeskName> Hold<'desk, L> {
     /// Enters what a train or the interlocking tells, and gives the seat the receipt. The seat is told all that there is then.
-    /// It is published later: by [`Hold::publish`], or as by [`crate::Desk::event_ahead`].
+    /// It is published later: by [`Hold::publish`], or by the next [`crate::Desk::publish`] or [`crate::Desk::event`] from this
+    /// seat, or from another that was told of it. So many entries are published as one.
     ///
     /// # Errors
     ///

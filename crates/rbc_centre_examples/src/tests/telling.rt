@@ -102,7 +102,9 @@ pub(super) fn tell_ahead<L: DeskName, R: Wait + Abort>(
     requires { track.now ≡ L.opened.track }
 {
     let told = told_by(rt, track, line);
-    let receipt = desk.event_ahead(rt, alloc, seat, told);
+    let mut hold = desk.hold(rt);
+    let receipt = hold.event(rt, alloc, seat, &told);
+    hold.leave();
     receipt.ok().expect(rt, "a receipt").place()
 }
 
