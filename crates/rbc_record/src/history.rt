@@ -147,8 +147,9 @@ impl Record {
         self.most
     }
 
-    /// Whatever the entries are, each was accepted after those before it. Each authority was the best at its place, and
-    /// no two ever overlapped. There are no more than there may be. This does nothing.
+    /// Whatever the entries are, each was accepted after those before it. Each authority, when it was granted, reached to the
+    /// farthest safe end that a message can give, with profiles that lose the least, and at no moment did a metre stand in
+    /// two. There are no more than there may be. This does nothing.
     pub fn known(&self)
         ensures form { IsInForm self.now.track }
         ensures legal { IsLegal (begin_of self.now) self.now.entries }
@@ -368,7 +369,7 @@ impl Record {
     ///
     /// # Errors
     ///
-    /// `Memory`, where that is too small and the allocator refuses more.
+    /// `Memory`, where that is too small and the allocator refuses more, or refuses room for a train's line.
     pub fn snapshot_in(&self, alloc: Global, spare: Scene) -> Result<Scene, Memory>
         ensures { IfOk result (λ s. s ≡ record { track = self.now.track; scene = scene_now self.now }) }
     {

@@ -318,6 +318,35 @@ module _ (locks : Locks) (book : Book) (now : SceneOnTrack) (is : scene_on locks
       (subst (λ (s : SceneOnTrack). is_ok (after_grant s.track s.scene number distance) ≡ true) (sym is) accepted) from to start end
       (subst (λ (t : Track). to ≤ line_length t known.train.line) f.track within))
 
+-- ---- beyond it
+
+absent_by : (track : Track) (o : Option Train) → None ≡ option_map (on_track track) o → o ≡ None
+absent_by track None h = refl
+absent_by track (Some train) h = cc
+
+-- a book that has no train of this number
+pub absent : (book : Book) (number : ℕ) (o : Option (Bor TrainOnTrack)) → option_copied o ≡ option_map (on_track book.track) (train_in book number) → o ≡ None → train_in book number ≡ None
+absent book number o h none = absent_by book.track (train_in book number) (ap option_copied (sym none) ∙ h)
+
+both_ways : (o : Option Train) (train : Train) → o ≡ None → o ≡ Some train → ⊥
+both_ways None train h k = cc
+both_ways (Some t) train h k = cc
+
+module _ (locks : Locks) (book : Book) (now : SceneOnTrack) (is : scene_on locks book ≡ now) (number distance : ℕ) where
+  abbrev Beyond : Train → Type 0
+  Beyond train = line_length now.track train.line < train.origin + distance
+
+  pub beyond_none : train_in book number ≡ None → (train : Train) → train_numbered now.scene number ≡ Some train → Beyond train
+  beyond_none none train same = absurd (both_ways (train_in book number) train none (ap (λ (s : SceneOnTrack). train_numbered s.scene number) is ∙ same))
+
+  pub beyond_book : (known : TrainOnTrack) → IsFound book number known → line_length known.track known.train.line < known.train.origin + distance
+      → (train : Train) → train_numbered now.scene number ≡ Some train → Beyond train
+  beyond_book known f beyond =
+      subst (λ (s : SceneOnTrack). (train : Train) → train_numbered s.scene number ≡ Some train → line_length s.track train.line < train.origin + distance) is
+      (λ train same.
+      subst (λ (k : Train). line_length book.track k.line < k.origin + distance) (the_some known.train train (sym f.there ∙ same))
+      (subst (λ (t : Track). line_length t known.train.line < known.train.origin + distance) f.track beyond))
+
 -- ---- along legs that are known
 
 -- the legs are a line, and the end lies on it

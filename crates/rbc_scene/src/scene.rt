@@ -1,6 +1,6 @@
 //! A scene, and what is told in it.
 
-ghost use Rattle.std.specs.Prelude.{◌≡◌, ◌<◌, length, false, true, is_ok, None, Some, Err, Ok, IfErr, IfOk, IfSome, IsTrue, OnErr, OnOk};
+ghost use Rattle.std.specs.Prelude.{◌≡◌, ◌+◌, ◌<◌, ◌≤◌, length, false, true, is_ok, None, Some, Err, Ok, IfErr, IfOk, IfSome, IsTrue, OnErr, OnOk};
 ghost use Rattle.std.specs.Arc.{arc_value};
 ghost use Rattle.std.specs.Result.{result_err, result_map_both};
 ghost use Rattle.rbc_model.specs.declared.memory.OrMemory.TheVariants.{Refused, Memory as NoMemory};
@@ -8,6 +8,7 @@ ghost use Rattle.rbc_model.specs.declared.refusals.Refusal.TheVariants.{NotSafe,
 ghost use Rattle.rbc_model.specs.declared.reports.Told.TheVariants.{Report as ToldReport};
 ghost use Rattle.rbc_model.specs.Answers.{AnswersAs, AnswersOrMemory};
 ghost use Rattle.rbc_model.specs.Events.{after_free, after_give_back, after_grant, after_leave, after_lock, after_report, after_told, step, with_authority};
+ghost use Rattle.rbc_model.specs.Lines.{line_length};
 ghost use Rattle.rbc_model.specs.Placing.{reported};
 ghost use Rattle.rbc_model.specs.Scenes.{empty_scene, train_numbered};
 ghost use Rattle.rbc_model.specs.Trains.{Train as KnownTrain};
@@ -336,7 +337,7 @@ impl Scene {
     ///
     /// # Errors
     ///
-    /// `Memory`, where the allocator refuses room for the train's line.
+    /// `Memory`, where the place lies beyond the train's line, and the allocator refuses room for a longer one.
     pub fn grant_along(
         &mut self,
         alloc: Global,
@@ -348,6 +349,8 @@ impl Scene {
         requires along { LeadTo self.old.track self.old.scene train distance legs.now }
         ensures granted { OnOk result ((after_grant self.old.track self.old.scene train distance ≡ Ok self.new.scene)
             × (self.new.track ≡ self.old.track)) }
+        ensures on_line { (known : KnownTrain) → train_numbered self.old.scene train ≡ Some known
+            → known.origin + distance ≤ line_length self.old.track known.line → result ≡ Ok tt }
         ensures refused { OnErr result (self.new ≡ self.old) }
     {
         if let Some((from, to)) = self.granted_on_line(train, distance) {
@@ -362,18 +365,20 @@ impl Scene {
     /// From where to where the authority that is known to be accepted goes, if the train's line has all of it already.
     fn granted_on_line(&self, train: TrainId, distance: Distance) -> Option<(u32, u32)>
         requires accepted { IsTrue (is_ok (after_grant self.now.track self.now.scene train distance)) }
-        ensures { IfSome result (λ places. (known : KnownTrain) → train_numbered self.now.scene train ≡ Some known
+        ensures on_line { IfSome result (λ places. (known : KnownTrain) → train_numbered self.now.scene train ≡ Some known
             → granted_train self.now.track self.now.scene known distance
             ≡ Ok (with_authority known known.line places.0 places.1)) }
+        ensures beyond { result ≡ None → (known : KnownTrain) → train_numbered self.now.scene train ≡ Some known
+            → line_length self.now.track known.line < known.origin + distance }
     {
         let known = self.book.get(train)?;
-        let to = known.origin().checked_add(distance.metres())?;
         let line = known.line();
         known.known();
-        if to > line.length() {
+        let most = line.length().checked_sub(known.origin())?;
+        if distance.metres() > most {
             return None;
         }
-        Some((known.start(), to))
+        Some((known.start(), known.origin() + distance.metres()))
     }
 
     /// The authority that is known to be accepted, on the train's line along these legs.
@@ -492,7 +497,7 @@ impl Scene {
     ///
     /// # Errors
     ///
-    /// `Memory`, where that is too small and the allocator refuses more.
+    /// `Memory`, where that is too small and the allocator refuses more, or refuses room for a train's line.
     pub fn copy_in(&self, alloc: Global, spare: Scene) -> Result<Scene, Memory>
         ensures { IfOk result (λ scene. scene ≡ self.now) }
     {
