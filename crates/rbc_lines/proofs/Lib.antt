@@ -3,5 +3,5 @@ pub mod TrackTextLemmas
 pub mod TrackLawLemmas
 mod PieceLemmas
 mod LineTextLemmas
-mod StopOfTrackLemmas
+pub mod StopOfTrackLemmas
 mod LeftLemmas

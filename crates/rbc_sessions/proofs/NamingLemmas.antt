@@ -1,14 +1,12 @@
 -- The sections that an obstacle or a refusal names are the track's.
-use Rattle.std.proofs.Common.{◌≡◌, ℕ, ◌+◌, ◌-◌, ◌<◌, Bool, true, false, cond, ◌&&◌, not, List, [], ◌∷◌, map, length, Option, Some, None, unwrap_or, Result, Ok, Err, refl, subst}
-use Rattle.std.specs.Prelude.{option_map, option_and_then, find, filter_map, is_some, slice_get, slice_set, fold, nat_lt, nat_le, ◌==◌, if◌then◌else◌}
-use Rattle.std.specs.Option.{option_map_or, option_or}
+use Rattle.std.proofs.Common.{◌≡◌, ℕ, ◌+◌, ◌-◌, ◌<◌, Bool, true, false, cond, ◌&&◌, not, List, [], ◌∷◌, map, length, Option, Some, None, Result, Ok, Err, refl, subst}
+use Rattle.std.specs.Prelude.{option_map, find, filter_map, is_some, slice_get, slice_set, fold, nat_lt, nat_le, ◌==◌, if◌then◌else◌}
+use Rattle.std.specs.Option.{option_map_or}
 use Rattle.std.specs.Result.{result_map_both}
 use Rattle.std.specs.List.{AllByRecursion, list_all, list_any}
 use Rattle.std.proofs.lemmas.Bool.{ltb-true}
 use Rattle.std.proofs.lemmas.List.Elements.{recursion_from_All}
 use Rattle.rbc_model.specs.declared.places.Leg.{Leg}
-use Rattle.rbc_model.specs.declared.refusals.Obstacle.{Obstacle}
-use Rattle.rbc_model.specs.declared.refusals.Obstacle.TheVariants.{NoLink, NotLocked as NotLockedAhead, Own, Occupied, Held, Limit}
 use Rattle.rbc_model.specs.declared.refusals.Refusal.{Refusal}
 use Rattle.rbc_model.specs.declared.refusals.Refusal.TheVariants.{Crowded, UnknownGroup, Offline, Unplaced, TooFar, Clash, LinkTaken, NotLocked, Busy, UnknownTrain, YieldRange}
 use Rattle.rbc_model.specs.declared.refusals.ViewFault.{ViewFault}
@@ -19,108 +17,27 @@ use Rattle.rbc_model.specs.declared.reports.Event.TheVariants.{Tell}
 use Rattle.rbc_model.specs.Results.{unless}
 use Rattle.rbc_model.specs.Reports.{Report}
 use Rattle.rbc_model.specs.declared.tracks.BaliseGroup.{BaliseGroup}
-use Rattle.rbc_model.specs.Tracks.{Track, Route, group_named, is_linked, leg_eq, metres_of}
+use Rattle.rbc_model.specs.Tracks.{Track, Route, group_named, is_linked, leg_eq}
 use Rattle.rbc_model.specs.SoundTracks.{IsSound, is_leg_of, is_good_route, is_good_entry, but_last}
-use Rattle.rbc_model.specs.Lines.{Line, last_leg}
+use Rattle.rbc_model.specs.Lines.{Line}
 use Rattle.rbc_model.specs.Locks.{Locks, row, next, clash, taken_link, needed_rows, with_leg_before, freed, with_row}
 use Rattle.rbc_model.specs.Trains.{Train}
 use Rattle.rbc_model.specs.Scenes.{Scene, train_numbered}
 use Rattle.rbc_model.specs.Placing.{place, placed_on, Placed, located, covered, leg_told, without_legs_behind}
-use Rattle.rbc_model.specs.Obstacles.{obstacle, obstacle_on, no_link, not_locked, own, occupied, held, limit, unlocked_section, is_locked, way}
-use Rattle.rbc_model.specs.Views.{View, view, view_of, shown_up_to, reach, stop, greatest_end}
+use Rattle.rbc_model.specs.Views.{View, view, view_of, shown_up_to, greatest_end}
 use Rattle.rbc_model.specs.Events.{step, after_report, after_lock, after_free, after_give_back, with_locks, with_train, without_train, cut_at, stands_on}
 use Rattle.rbc_scene_laws.specs.Good.{IsGoodScene, IsGoodTrain}
 use Rattle.rbc_scene_laws.proofs.BasicLemmas.{and_left, and_right}
-use Rattle.rbc_scene_laws.proofs.OnLineLemmas.{OnLine-IsLine}
-use Rattle.rbc_scene_laws.proofs.LengtheningLemmas.{ahead_fully, linked_from_below}
+use Rattle.rbc_scene_laws.proofs.LengtheningLemmas.{linked_from_below}
 use Rattle.rbc_scene_laws.proofs.LockingLemmas.{all_got, good_route}
 use Rattle.rbc_scene_laws.proofs.TrainListLemmas.{find-holds}
+use Rattle.rbc_lines.proofs.StopOfTrackLemmas.{stop_of_track}
 use Rattle.rbc_replies.specs.Replies.{ObstacleIsOfTrack, EventIsOfTrack}
 use Rattle.rbc_model.specs.HistoryText.{IsToldOfTrack}
 
 module _ (track : Track) where
   abbrev IsOfTrack : Leg → Type 0
   IsOfTrack leg = leg.section < length track.sections
-
-  -- ---- obstacles
-
-  -- an obstacle, if there is one, names what the track has
-  abbrev Named : Option Obstacle → Type 0
-  Named None = Unit {0}
-  Named (Some named) = ObstacleIsOfTrack track named
-
-  named_or : (a b : Option Obstacle) → Named a → Named b → Named (option_or a b)
-  named_or None b h k = k
-  named_or (Some x) b h k = h
-
-  last_of_track : (line : Line) (leg : Leg) → last_leg line ≡ Some leg → AllByRecursion IsOfTrack line → IsOfTrack leg
-  last_of_track [] leg e h = cc
-  last_of_track (a ∷ []) leg e h = subst IsOfTrack (let same : a ≡ leg = cc in same) h.0
-  last_of_track (a ∷ b ∷ line) leg e h = last_of_track (b ∷ line) leg e h.1
-
-  named_no_link : (test : Leg → Bool) (o : Option Leg) → ((leg : Leg) → o ≡ Some leg → IsOfTrack leg) → Named (option_and_then (λ leg. cond (test leg) (Some (NoLink leg)) None) o)
-  named_no_link test None h = tt
-  named_no_link test (Some leg) h = by_test (test leg)
-    where
-      by_test : (b : Bool) → Named (cond b (Some (NoLink leg)) None)
-      by_test true = h leg refl
-      by_test false = tt
-
-  named_own : (test : Leg → Bool) (o : Option Leg) → Named (option_and_then (λ leg. cond (test leg) (Some Own) None) o)
-  named_own test None = tt
-  named_own test (Some leg) = by_test (test leg)
-    where
-      by_test : (b : Bool) → Named (cond b (Some Own) None)
-      by_test true = tt
-      by_test false = tt
-
-  named_section : (o : Option ℕ) → ((section : ℕ) → o ≡ Some section → section < length track.sections) → Named (option_map NotLockedAhead o)
-  named_section None h = tt
-  named_section (Some section) h = h section refl
-
-  named_train : (f : ℕ → Obstacle) → ((train : ℕ) → ObstacleIsOfTrack track (f train)) → (o : Option ℕ) → Named (option_map f o)
-  named_train f h None = tt
-  named_train f h (Some train) = h train
-
-  named_limit : (b : Bool) → Named (cond b (Some Limit) None)
-  named_limit true = tt
-  named_limit false = tt
-
-  one_unlocked : (near there : Bool) (leg : Leg) (rest : Option ℕ) (section : ℕ) → cond near (cond there None (Some leg.section)) rest ≡ Some section → IsOfTrack leg
-      → (rest ≡ Some section → section < length track.sections) → section < length track.sections
-  one_unlocked true true leg rest section e h on = cc
-  one_unlocked true false leg rest section e h on = subst (λ s. s < length track.sections) (let same : leg.section ≡ section = cc in same) h
-  one_unlocked false there leg rest section e h on = on e
-
-  unlocked_of_track : (locks : Locks) (before : Option Leg) (line : Line) (i section : ℕ) → unlocked_section track locks before line i ≡ Some section → AllByRecursion IsOfTrack line → section < length track.sections
-  unlocked_of_track locks before [] i section e h = cc
-  unlocked_of_track locks before (leg ∷ legs) i section e h =
-      one_unlocked (nat_lt i (metres_of track leg.section)) (is_locked locks before leg) leg (unlocked_section track locks (Some leg) legs (i - metres_of track leg.section)) section e h.0
-      (λ f. unlocked_of_track locks (Some leg) legs (i - metres_of track leg.section) section f h.1)
-
-  named_on : (scene : Scene) (train : Train) (line : Line) (i : ℕ) → AllByRecursion IsOfTrack line → Named (obstacle_on track scene train line i)
-  named_on scene train line i of_track =
-      named_or (no_link track scene line i) _ (named_no_link _ (last_leg line) (λ leg e. last_of_track line leg e of_track))
-      (named_or (not_locked track scene line i) _ (named_section (unlocked_section track scene.locks None line i) (λ section e. unlocked_of_track scene.locks None line i section e of_track))
-      (named_or (own track scene line i) _ (named_own _ (last_leg line))
-      (named_or (occupied track scene train line i) _ (named_train Occupied (λ t. tt) _)
-      (named_or (held track scene train line i) _ (named_train Held (λ t. tt) _)
-      (named_or (limit track train i) _ (named_limit _) tt)))))
-
-  -- what stands at a place of a train's continued line
-  named_at : (scene : Scene) (train : Train) (i : ℕ) → IsGoodScene track scene → IsGoodTrain track train → Named (obstacle track scene train i)
-  named_at scene train i good well =
-      let ahead = ahead_fully track scene.locks good.locks (length track.sections) train.line (OnLine-IsLine track train.line well.line) in
-      let on = ahead.on in
-      named_on scene train (way track scene train) i on.of_track
-
-  named_of : (o : Option Obstacle) → Named o → ObstacleIsOfTrack track (unwrap_or o Own)
-  named_of None h = tt
-  named_of (Some named) h = h
-
-  named_stop : (scene : Scene) (train : Train) → IsGoodScene track scene → IsGoodTrain track train → ObstacleIsOfTrack track (stop track scene train)
-  named_stop scene train good well =
-      let i = reach track scene train in named_of (obstacle track scene train i) (named_at scene train i good well)
 
   -- what a train that asks is shown, or what stands in its way
   abbrev pub IsNamedIn : Result View ViewFault → Type 0
@@ -132,8 +49,8 @@ module _ (track : Track) where
   named_view_of scene train good well = by_end (greatest_end track scene train)
     where
       by_end : (o : Option ℕ) → IsNamedIn (shown_up_to track scene train o)
-      by_end None = named_stop scene train good well
-      by_end (Some end) = named_stop scene train good well
+      by_end None = stop_of_track track scene train good well
+      by_end (Some end) = stop_of_track track scene train good well
 
   pub named_view : (scene : Scene) (number : ℕ) → IsGoodScene track scene → IsNamedIn (view track scene number)
   named_view scene number good = by_train (train_numbered scene number) refl
