@@ -4,6 +4,5 @@
 mod reader;
 mod writer;
 
-pub use rbc_model::Memory;
 pub use reader::{BitReader, Short};
 pub use writer::BitWriter;

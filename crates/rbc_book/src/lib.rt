@@ -7,4 +7,3 @@ mod presence;
 
 pub use book::{Along, Book};
 pub use rbc_extent::{Course, Line, Locks, Places, Train, reported};
-pub use rbc_model::Memory;

@@ -4,5 +4,4 @@
 mod answers;
 mod session;
 
-pub use rbc_streams::SessionFault;
 pub use session::steps;

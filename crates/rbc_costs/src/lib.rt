@@ -16,7 +16,6 @@ mod total;
 pub use costs::{costs_to, further, least_of};
 pub use next::{costs_behind, firsts_of, low_from, next_costs};
 pub use priced::Priced;
-pub use rbc_model::Memory;
 pub use rbc_stretches::{Stretch, is_at_most};
 pub use stretches::stretches_of;
 pub use sums::{Four, cheapest, cheapest_four, cheapest_from};

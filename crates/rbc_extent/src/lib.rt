@@ -23,6 +23,5 @@ pub use placed::Placed;
 pub use placing::place;
 pub use rbc_line::Line;
 pub use rbc_locks::Locks;
-pub use rbc_model::{OrMemory, Refusal, Report};
 pub use reporting::reported;
 pub use train::{Places, Train};

@@ -9,5 +9,4 @@ mod track_level;
 
 pub use legs::is_same_leg;
 pub use line::Line;
-pub use rbc_model::Memory;
 pub use section_set::SectionSet;

@@ -9,6 +9,5 @@ mod train;
 
 pub use inquiry::{print_shown, print_state};
 pub use rbc_scene::Scene;
-pub use rbc_words::{Sink, WriteFailed};
 pub use scene::{LinesFault, print_scene};
 pub use track::{lines_known, print_track, track_lines_are_read_back};

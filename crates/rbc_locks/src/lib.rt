@@ -7,4 +7,3 @@ mod locks;
 mod next_table;
 
 pub use locks::Locks;
-pub use rbc_model::{Lock, Memory, Refusal};

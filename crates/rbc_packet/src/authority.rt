@@ -5,9 +5,8 @@ ghost use Rattle.std.specs.List.{list_all};
 ghost use Rattle.rbc_model.specs.declared.places.Format.TheVariants.{Far};
 ghost use Rattle.rbc_model.specs.Messages.{authority_of, is_writable, IsAuthority};
 
-use crate::Group;
-use rbc_model::Format;
 use rbc_model::scales::{is_expressible, unit_of};
+use rbc_model::{Format, GroupName};
 use rbc_steps::{Grade, Level, Profile, Speed};
 use std::marker::Model;
 
@@ -17,7 +16,7 @@ use std::marker::Model;
 #[derive(Drop)]
 pub struct Authority {
     time: u32,
-    group: Group,
+    group: GroupName,
     nominal: bool,
     speeds: Profile<Speed>,
     grades: Profile<Grade>,
@@ -45,7 +44,7 @@ impl Authority {
     #[inline(always)]
     pub fn new(
         time: u32,
-        group: Group,
+        group: GroupName,
         nominal: bool,
         speeds: Profile<Speed>,
         grades: Profile<Grade>,
@@ -89,7 +88,7 @@ impl Authority {
 
     /// The balise group that distances count from: its country or region (NID_C) is 0 to 1,023, its number there
     /// (NID_BG) 0 to 16,382.
-    pub fn group(&self) -> Group
+    pub fn group(&self) -> GroupName
         ensures { result ≡ self.now.group }
     {
         self.group

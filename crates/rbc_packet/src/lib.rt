@@ -20,4 +20,4 @@ pub use message::{read_message, write_message};
 pub use packet_21::write_grade;
 pub use packet_27::write_speed;
 pub use profile::write_profile;
-pub use rbc_model::{Fault, FieldName, GroupName as Group, Memory};
+pub use rbc_model::{Fault, FieldName};

@@ -16,4 +16,3 @@ mod sound;
 pub use checking::{Prices, check};
 pub use columns::column_count;
 pub use rbc_costs::Priced;
-pub use rbc_model::Reason;

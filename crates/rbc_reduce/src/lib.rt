@@ -15,5 +15,4 @@ mod tiles;
 mod traceback;
 
 pub use rbc_costs::Priced;
-pub use rbc_model::Memory;
 pub use reduction::{Reduced, reduce};

@@ -16,6 +16,5 @@ mod texts;
 pub use fault::{FaultyLine, SceneFault};
 pub use laws::{one_text_is_read, read_scenes_are_good, written_scenes_are_read};
 pub use rbc_scene::Scene;
-pub use rbc_scene_words::OrMemory;
 pub use text::read;
 pub use texts::explain;

@@ -8,5 +8,4 @@ mod scene_line;
 mod spelling;
 
 pub use laws::scene_lines_are_parsed_back;
-pub use rbc_model::{LineFault, OrMemory};
 pub use scene_line::{SceneLine, parse};

@@ -14,6 +14,5 @@ mod speed;
 pub use grade::Grade;
 pub use level::Level;
 pub use profile::Profile;
-pub use rbc_model::{AppendFault, Memory, ProfileFault, RunsFault};
 pub use runs::{Runs, one_spelling};
 pub use speed::Speed;

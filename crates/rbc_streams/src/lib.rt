@@ -13,7 +13,7 @@ mod whole;
 
 pub use line_handler::LineHandler;
 pub use line_reader::{Advance, LineReader};
-pub use rbc_model::{Memory, SessionFault};
+pub use rbc_model::SessionFault;
 pub use retried::{LastCall, Retried};
 pub use session::{next_line, serve_lines, serve_lines_with};
 pub use stream::{Buffered, Stream};

@@ -30,7 +30,6 @@ pub use leg_name::LegName;
 pub use legs::reverse;
 pub use name::Name;
 pub use parts::{GroupPart, LinkPart, Parts, RoutePart};
-pub use rbc_model::{OrMemory, TrackRefusal};
 pub use route::Route;
 pub use section::Section;
 pub use step_limit::StepLimit;

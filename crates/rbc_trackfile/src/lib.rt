@@ -15,5 +15,5 @@ pub use faults::{MOST_FAULTS, entry_faults};
 pub use file::{parse, read, read_parts};
 pub use loading::{LoadFault, load};
 pub use parts::keys_of;
-pub use rbc_model::{FileFault, OrMemory, key_text};
+pub use rbc_model::FileFault;
 pub use rbc_track::Track;

@@ -16,8 +16,7 @@ pub use line_words::{
     Word, emit_joined, emit_line, emit_words, leg_word, print_line, section_word,
 };
 pub use printing::{emit_hex_between, emit_number};
-pub use rbc_model::{LineFault, OrMemory, StepsRefusal};
-pub use rbc_streams::{Advance, LineReader, SessionFault, Sink, Source, Stream, WriteFailed};
+pub use rbc_streams::{SessionFault, Sink, WriteFailed};
 pub use session_line::{emit_report, emit_request, print_request, told_request};
 pub use session_request::{Request, parse, report_in};
 pub use spelled::Spelled;
