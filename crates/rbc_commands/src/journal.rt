@@ -88,19 +88,19 @@ fn run_at<I: BufRead + Drop + IsTerminal>(
         from: centre.from,
         most: limit_of(centre.entries),
     };
-    let (mut kept, scene) = untallied(rt, place, track, &wanted)?;
-    let terminal = match kept.history() {
+    let (mut record, scene) = untallied(rt, place, track, &wanted)?;
+    let terminal = match record.history() {
         Some(history) => terminal_over(rt, history)?,
         None => None,
     };
     let history = history_of(rt, centre)?;
     let mut output = heard_output(rt, terminal.as_ref())?;
     let reader = &mut Stream::reader(Prompted::new(rt.reader(), terminal.as_ref()));
-    let answered = journaled::run(rt, alloc, reader, &mut output, &mut kept);
+    let answered = journaled::run(rt, alloc, reader, &mut output, &mut record);
     if let Some(terminal) = &terminal {
         terminal.end();
     }
-    let written = match (history, kept.history()) {
+    let written = match (history, record.history()) {
         (Some(file), Some(history)) => file.write(rt, history, scene),
         (Some(file), None) => {
             file.give_up(rt);
@@ -111,7 +111,7 @@ fn run_at<I: BufRead + Drop + IsTerminal>(
     let outcome = match answered {
         Ok(()) => Ok(()),
         Err(RunFault::Session(fault)) => Err(fault.into()),
-        Err(RunFault::Journal) => Err(file_failed(&kept.into_device())),
+        Err(RunFault::Journal) => Err(file_failed(&record.into_device())),
     };
     ended(output, outcome)?;
     written
@@ -172,11 +172,11 @@ fn serve_at(
         most: limit_of(service.entries),
     };
     let watch = watch_on(rt, service.terms, wanted.most)?;
-    let kept = tallied(rt, place, track, &wanted, watch.tally())?;
+    let record = tallied(rt, place, track, &wanted, watch.tally())?;
     let mut output = standard_output(rt)?;
     let outcome = match open_port(rt, service, &watch, &mut output) {
         Ok(Opened { port, minutes }) => {
-            let outcome = serve_journaled(rt, alloc, port, kept, service, &mut output);
+            let outcome = serve_journaled(rt, alloc, port, record, service, &mut output);
             minutes.end(rt);
             outcome
         }
@@ -243,7 +243,7 @@ fn stay_at<I: BufRead + Drop + Send + 'static>(
     };
     let watch = watch_on(rt, staying.terms, wanted.most)?;
     let page = page_at(rt, staying.page, &track.track, &watch)?;
-    let kept = tallied(rt, place, track, &wanted, watch.tally())?;
+    let record = tallied(rt, place, track, &wanted, watch.tally())?;
     let mut output = standard_output(rt)?;
     let outcome = match open_entrance(rt, staying, &watch, &mut output) {
         Ok(
@@ -253,7 +253,7 @@ fn stay_at<I: BufRead + Drop + Send + 'static>(
                 minutes,
             },
         ) => {
-            let outcome = stay_journaled(rt, alloc, &*end, ports, page, kept, &mut output);
+            let outcome = stay_journaled(rt, alloc, &*end, ports, page, record, &mut output);
             minutes.end(rt);
             outcome
         }
@@ -355,8 +355,8 @@ fn resumed<'r, 't, R: Files<File = File> + AllocGlobal + Threads + Clock + Sync>
     ensures begins { IfOk result (λ opened. BeginsAsFile opened.0.history (seen (past_of opened.0.journal.device))) }
 {
     let Begun { record, scene } = begin_in(rt.alloc(), track, read.text, most)?;
-    let kept = recovered(rt, record, read, found, tally)?;
-    Ok((kept, scene))
+    let journaled = recovered(rt, record, read, found, tally)?;
+    Ok((journaled, scene))
 }
 
 /// The record that a journal tells, with its journal, whose commits are not counted, and the version of the scene that it begins
@@ -391,11 +391,11 @@ fn tallied<'r, 't, R: Files<File = File> + AllocGlobal + Threads + Clock + Eprin
     tally: &'t Tally,
 ) -> Result<JournaledRecord<Recorded<Timed<'r, 't, R>>>, Failure>
     requires { IsLine track.digest }
-    ensures ready { IfOk result (λ kept. IsReady (λ file. seen (past_of file)) (λ file. may_leave (past_of file)) kept) }
-    ensures begins { IfOk result (λ kept. BeginsAsFile kept.history (seen (past_of kept.journal.device))) }
+    ensures ready { IfOk result (λ opened. IsReady (λ file. seen (past_of file)) (λ file. may_leave (past_of file)) opened) }
+    ensures begins { IfOk result (λ opened. BeginsAsFile opened.history (seen (past_of opened.journal.device))) }
 {
-    let (kept, _scene) = opened(rt, place, track, wanted, Some(tally))?;
-    Ok(kept)
+    let (record, _scene) = opened(rt, place, track, wanted, Some(tally))?;
+    Ok(record)
 }
 
 /// What a file with these bytes is read as, beside the track with this digest.
@@ -427,9 +427,9 @@ fn recovered<'r, 't, R: Files<File = File> + AllocGlobal + Threads + Clock + Syn
 ) -> Result<JournaledRecord<Recorded<Timed<'r, 't, R>>>, Failure>
     requires empty { empty.entries ≡ [] }
     requires whole { IsWholeText read.now.text.now read.now.seal }
-    ensures ready { IfOk result (λ kept. IsReady (λ file. seen (past_of file)) (λ file. may_leave (past_of file)) kept) }
-    ensures begin { IfOk result (λ kept. begin_of kept.history ≡ begin_of empty) }
-    ensures beginning { IfOk result (λ kept. beginning_of (counted (seen (past_of kept.journal.device))) ≡ beginning_of (counted read.now.text.now)) }
+    ensures ready { IfOk result (λ opened. IsReady (λ file. seen (past_of file)) (λ file. may_leave (past_of file)) opened) }
+    ensures begin { IfOk result (λ opened. begin_of opened.history ≡ begin_of empty) }
+    ensures beginning { IfOk result (λ opened. beginning_of (counted (seen (past_of opened.journal.device))) ≡ beginning_of (counted read.now.text.now)) }
 {
     let mut history = empty;
     replay(rt, rt.alloc(), &mut history, read.text)?;
@@ -439,7 +439,7 @@ fn recovered<'r, 't, R: Files<File = File> + AllocGlobal + Threads + Clock + Syn
     let file = found.replaced(rt, read.text, read.dropped)?;
     let device = Recorded::opened(Timed::new(file, rt, tally), read.text);
     match JournaledRecord::over(rt.alloc(), history, read, device) {
-        Ok(kept) => Ok(kept),
+        Ok(record) => Ok(record),
         Err((OpeningFault::Device, file)) => Err(file_failed(&file)),
         Err((fault, _)) => Err(fault.into()),
     }

@@ -183,12 +183,12 @@ fn run_centre<I: BufRead + Drop + IsTerminal>(
     if let Some(terminal) = &terminal {
         terminal.end();
     }
-    let kept = match history {
+    let written = match history {
         Some(file) => file.write(rt, &record, scene),
         None => Ok(()),
     };
     ended(output, answered.map_err(Failure::from))?;
-    kept
+    written
 }
 
 /// Shows what the lines of the standard input lead to, on the track of a file, as lines or as a page that draws them.

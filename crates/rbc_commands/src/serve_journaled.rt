@@ -40,14 +40,14 @@ pub(crate) fn serve_journaled<
     rt: &T,
     alloc: Global,
     port: Port<N>,
-    kept: JournaledRecord<Recorded<D>>,
+    history: JournaledRecord<Recorded<D>>,
     service: &Service,
     writer: &mut W,
 ) -> Result<(), Failure>
     requires going { W.failed writer.old ≡ false }
-    requires ready { IsReady (λ file. seen (past_of file)) (λ file. may_leave (past_of file)) kept }
+    requires ready { IsReady (λ file. seen (past_of file)) (λ file. may_leave (past_of file)) history }
 {
-    let opening = Opening::new(kept, service);
+    let opening = Opening::new(history, service);
     let stamps = BlankStamps::new();
     open::<Brand, Brand, _, _, _, _, Port<N>, D, W, T>(rt, alloc, port, opening, stamps, writer)
 }
@@ -85,12 +85,12 @@ fn open<
     requires few { opening.seats ≤ 16 }
 {
     let Opening {
-        history: kept,
+        history,
         seats,
         connections,
         blank,
     } = opening;
-    let opened = journaled::open::<L, _, N, T>(rt, alloc, kept, seats, blank, stamps);
+    let opened = journaled::open::<L, _, N, T>(rt, alloc, history, seats, blank, stamps);
     let Opened {
         desk,
         seats,

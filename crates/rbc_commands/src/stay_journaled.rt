@@ -47,14 +47,14 @@ pub(crate) fn stay_journaled<
     closing: &E,
     ports: Vec<Port<N>>,
     page: Option<Showing<M>>,
-    kept: JournaledRecord<Recorded<D>>,
+    history: JournaledRecord<Recorded<D>>,
     writer: &mut W,
 ) -> Result<(), Failure>
     requires going { W.failed writer.old ≡ false }
-    requires ready { IsReady (λ file. seen (past_of file)) (λ file. may_leave (past_of file)) kept }
+    requires ready { IsReady (λ file. seen (past_of file)) (λ file. may_leave (past_of file)) history }
     requires places { (1 ≤ vec_len ports) × (vec_len ports ≤ 64) }
 {
-    let opening = Opening::for_places(kept, ports.len(), lookers(&page));
+    let opening = Opening::for_places(history, ports.len(), lookers(&page));
     let journaled = Journaled {
         opening,
         stamps: BlankStamps::new(),
@@ -111,12 +111,12 @@ fn open_desk<
 {
     let Journaled { opening, stamps } = journaled;
     let Opening {
-        history: kept,
+        history,
         seats,
         connections: _,
         blank,
     } = opening;
-    let opened = journaled::open::<L, _, N, T>(rt, alloc, kept, seats, blank, stamps);
+    let opened = journaled::open::<L, _, N, T>(rt, alloc, history, seats, blank, stamps);
     let Opened {
         desk,
         mut seats,

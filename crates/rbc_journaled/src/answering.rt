@@ -47,15 +47,15 @@ impl<D: Device> LineHandler<JournaledCentre> for JournaledRecord<D> {
 
     ghost longest = { LONGEST_LINE };
 
-    ghost state = { λ kept. kept };
+    ghost state = { λ journaled. journaled };
 
     ghost answers = { Advances D.seen D.may_leave D.moment D.left_since D.faults };
 
-    ghost rests = { λ kept. kept.batch };
+    ghost rests = { λ journaled. journaled.batch };
 
     ghost ready = { IsGoing D.seen D.may_leave };
 
-    ghost broken = { λ kept. kept.has_failed };
+    ghost broken = { λ journaled. journaled.has_failed };
 
     ghost works = { λ now ready. ready.whole };
 

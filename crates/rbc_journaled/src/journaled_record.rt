@@ -58,17 +58,17 @@ impl<D: Device> JournaledRecord<D> {
         requires whole { IsWholeText file.now.text.now file.now.seal }
         requires same { recovered (D.seen device) ≡ recovered file.now.text.now }
         requires durable { Only (D.seen device) (D.may_leave device) }
-        ensures ready { IfOk result (λ kept. IsReady D.seen D.may_leave kept) }
-        ensures track { IfOk result (λ kept. kept.history.track ≡ history.track) }
-        ensures begin { IfOk result (λ kept. begin_of kept.history ≡ begin_of history) }
-        ensures same { IfOk result (λ kept. recovered (D.seen kept.journal.device) ≡ recovered file.now.text.now) }
-        ensures beginning { IfOk result (λ kept. beginning_of (counted (D.seen kept.journal.device)) ≡ beginning_of (counted file.now.text.now)) }
+        ensures ready { IfOk result (λ journaled. IsReady D.seen D.may_leave journaled) }
+        ensures track { IfOk result (λ journaled. journaled.history.track ≡ history.track) }
+        ensures begin { IfOk result (λ journaled. begin_of journaled.history ≡ begin_of history) }
+        ensures same { IfOk result (λ journaled. recovered (D.seen journaled.journal.device) ≡ recovered file.now.text.now) }
+        ensures beginning { IfOk result (λ journaled. beginning_of (counted (D.seen journaled.journal.device)) ≡ beginning_of (counted file.now.text.now)) }
 
         // No grant has come out otherwise than was noted.
-        ensures noted { IfOk result (λ kept. AreTrue (counted file.now.text.now) kept.history.entries) }
+        ensures noted { IfOk result (λ journaled. AreTrue (counted file.now.text.now) journaled.history.entries) }
 
         // A crash at any moment leaves the same lines.
-        ensures any_moment { IfOk result (λ kept. LeavesOnly D.moment D.left_since device kept.journal.device
+        ensures any_moment { IfOk result (λ journaled. LeavesOnly D.moment D.left_since device journaled.journal.device
             (λ c. recovered c ≡ recovered file.now.text.now)) }
         ensures any_moment_err { IfErr result (λ e. LeavesOnly D.moment D.left_since device e.1
             (λ c. recovered c ≡ recovered file.now.text.now)) }
@@ -98,15 +98,15 @@ impl<D: Device> JournaledRecord<D> {
         requires whole { IsWholeText file.now.text.now file.now.seal }
         requires same { recovered (D.seen device) ≡ recovered file.now.text.now }
         requires durable { Only (D.seen device) (D.may_leave device) }
-        ensures ready { IfOk result (λ kept. IsReady D.seen D.may_leave kept) }
-        ensures history { IfOk result (λ kept. kept.history ≡ history) }
-        ensures track { IfOk result (λ kept. kept.history.track ≡ history.track) }
-        ensures begin { IfOk result (λ kept. begin_of kept.history ≡ begin_of history) }
-        ensures same { IfOk result (λ kept. recovered (D.seen kept.journal.device) ≡ recovered file.now.text.now) }
-        ensures beginning { IfOk result (λ kept. beginning_of (counted (D.seen kept.journal.device)) ≡ beginning_of (counted file.now.text.now)) }
+        ensures ready { IfOk result (λ journaled. IsReady D.seen D.may_leave journaled) }
+        ensures history { IfOk result (λ journaled. journaled.history ≡ history) }
+        ensures track { IfOk result (λ journaled. journaled.history.track ≡ history.track) }
+        ensures begin { IfOk result (λ journaled. begin_of journaled.history ≡ begin_of history) }
+        ensures same { IfOk result (λ journaled. recovered (D.seen journaled.journal.device) ≡ recovered file.now.text.now) }
+        ensures beginning { IfOk result (λ journaled. beginning_of (counted (D.seen journaled.journal.device)) ≡ beginning_of (counted file.now.text.now)) }
 
         // A crash at any moment leaves the same lines.
-        ensures any_moment { IfOk result (λ kept. LeavesOnly D.moment D.left_since device kept.journal.device
+        ensures any_moment { IfOk result (λ journaled. LeavesOnly D.moment D.left_since device journaled.journal.device
             (λ c. recovered c ≡ recovered file.now.text.now)) }
         ensures any_moment_err { IfErr result (λ e. LeavesOnly D.moment D.left_since device e.1
             (λ c. recovered c ≡ recovered file.now.text.now)) }

@@ -34,13 +34,13 @@ pub struct Opened<L: DeskName, T: ToldHistory + Drop, D: Device, N: CommitName> 
 pub fn open<L: DeskName, D: Device, N: CommitName, R: Wait>(
     rt: &R,
     alloc: Global,
-    kept: JournaledRecord<D>,
+    journaled: JournaledRecord<D>,
     seats: usize,
     blank: Blank,
     stamps: rbc_group_commit::BlankStamps,
 ) -> Result<Opened<L, SeatTold<L>, D, N>, (OpeningFault, D)>
-    requires ready { IsReady D.seen D.may_leave kept }
-    requires opened { kept.history ≡ L.opened }
+    requires ready { IsReady D.seen D.may_leave journaled }
+    requires opened { journaled.history ≡ L.opened }
     requires name { blank.ledger.name ≡ L.name }
     requires parts { blank.ledger.parts ≡ L.parts }
     requires book { blank.book ≡ L.book }
@@ -49,13 +49,13 @@ pub fn open<L: DeskName, D: Device, N: CommitName, R: Wait>(
     requires stamps { stamps ≡ N.book }
 
     // The file has a line for each of the record's entries, and the committers have a stamp of them.
-    ensures lines { length (recovered (D.seen kept.journal.device)) ≡ length L.opened.entries }
+    ensures lines { length (recovered (D.seen journaled.journal.device)) ≡ length L.opened.entries }
     ensures seats { IfOk result (λ opened. opened.seats.items ≡ replicate seats (seated [] L.opened)) }
-    ensures committers { IfOk result (λ opened. opened.committers.items ≡ replicate seats (stamp_of D.seen D.moment kept.journal ∷ [])) }
-    ensures back { IfErr result (λ fault. fault.1 ≡ kept.journal.device) }
+    ensures committers { IfOk result (λ opened. opened.committers.items ≡ replicate seats (stamp_of D.seen D.moment journaled.journal ∷ [])) }
+    ensures back { IfErr result (λ fault. fault.1 ≡ journaled.journal.device) }
     ensures refused { IfErr result (λ fault. (fault.0 ≡ OpeningFault.Memory) ⊎ (fault.0 ≡ OpeningFault.Full)) }
 {
-    let (history, journal) = kept.into_parts();
+    let (history, journal) = journaled.into_parts();
     let lines = history.version();
     let (desk, made) = match Desk::<L>::new(rt, alloc, history, seats, blank) {
         Ok(made) => made,

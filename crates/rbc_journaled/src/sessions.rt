@@ -33,52 +33,52 @@ pub fn run<R: Source, W: Sink, D: Device>(
     alloc: Global,
     reader: &mut R,
     writer: &mut W,
-    kept: &mut JournaledRecord<D>,
+    journaled: &mut JournaledRecord<D>,
 ) -> Result<(), RunFault>
     requires reader { R.failed reader.old ≡ false }
     requires writer { W.failed writer.old ≡ false }
-    requires ready { IsReady D.seen D.may_leave kept.old }
+    requires ready { IsReady D.seen D.may_leave journaled.old }
 
     // A fault is answered exactly where the reader or the writer failed, or the journal: this only where its file did.
     ensures read { (result ≡ Err (Ended ReadFault)) ↔ IsTrue (R.failed reader.new) }
     ensures write { result ≡ Err (Ended WriteFault) → IsTrue (W.failed writer.new) }
-    ensures journal { (result ≡ Err JournalFailed) ↔ IsTrue kept.new.has_failed }
-    ensures failed { result ≡ Err JournalFailed → D.faults kept.old.journal.device < D.faults kept.new.journal.device }
+    ensures journal { (result ≡ Err JournalFailed) ↔ IsTrue journaled.new.has_failed }
+    ensures failed { result ≡ Err JournalFailed → D.faults journaled.old.journal.device < D.faults journaled.new.journal.device }
 
     // Without memory nothing begins.
     ensures memory { result ≡ Err (Ended NoMemory)
-        → (reader.new ≡ reader.old) × (writer.new ≡ writer.old) × (kept.new ≡ kept.old) }
+        → (reader.new ≡ reader.old) × (writer.new ≡ writer.old) × (journaled.new ≡ journaled.old) }
 
     // Ok is answered at the end of the input, which the last read found.
     ensures end { OnOk result (IsAtEnd (R.left reader.new)) }
     ensures ended { OnOk result (R.ended reader.new ≡ true) }
 
     // The journal tells the record, unless it failed.
-    ensures ready { kept.new.has_failed ≡ false → IsReady D.seen D.may_leave kept.new }
+    ensures ready { journaled.new.has_failed ≡ false → IsReady D.seen D.may_leave journaled.new }
 
     // A crash at any moment leaves a file that tells the first entries of the record: those from before at least.
-    ensures any_moment { Leaves D.seen D.may_leave D.moment D.left_since D.faults kept.old kept.new }
+    ensures any_moment { Leaves D.seen D.may_leave D.moment D.left_since D.faults journaled.old journaled.new }
 
     // The record is of the same track, and each line of what was read was answered after the entries of those before
     // it. Where the journal failed, all entries that were told of are on the disk, and of no other a byte was written.
-    ensures track { kept.new.history.track ≡ kept.old.history.track }
-    ensures begin { begin_of kept.new.history ≡ begin_of kept.old.history }
+    ensures track { journaled.new.history.track ≡ journaled.old.history.track }
+    ensures begin { begin_of journaled.new.history ≡ begin_of journaled.old.history }
     ensures session { (input : List ℕ) × Consumes (R.left reader.old) (R.left reader.new) input
-        × IsKeptSession (begin_of kept.old.history) kept.old.history.entries kept.new.history.entries input
-        (W.written writer.old) (W.written writer.new) (D.may_leave kept.new.journal.device) result }
+        × IsKeptSession (begin_of journaled.old.history) journaled.old.history.entries journaled.new.history.entries input
+        (W.written writer.old) (W.written writer.new) (D.may_leave journaled.new.journal.device) result }
 
     // At the end of the input, where memory was never refused, what was written and the history are one function of the
     // track, of the history before and of what was read.
-    ensures answers { OnOk result (AnswersAll kept.old.history kept.new.history (R.left reader.old)
+    ensures answers { OnOk result (AnswersAll journaled.old.history journaled.new.history (R.left reader.old)
         (W.written writer.old) (W.written writer.new)) }
 
     // What was written was handed on, unless the writer or the journal failed.
     ensures handed_on { OnOk result (W.held_back writer.old ≡ [] → W.held_back writer.new ≡ []) }
 {
     // The record's track is in form.
-    kept.history.known();
-    let ended = serve_lines(rt, alloc, reader, writer, kept, &JournaledCentre);
-    run_end(ended, kept.has_failed)
+    journaled.history.known();
+    let ended = serve_lines(rt, alloc, reader, writer, journaled, &JournaledCentre);
+    run_end(ended, journaled.has_failed)
 }
 
 /// How a session ended, by how the one over the record did, and whether the journal has failed.

@@ -50,8 +50,8 @@ pub struct ToldGrant<'reply> {
     /// What the profile of gradients loses, summed over the metres, in per mille.
     pub grades_loss: u64,
     pub ghost told: { message.now ≡ message_bytes authority.now },
-    pub ghost speeds_fit: { IsLossOn speed_levels (speeds_of authority.now) speeds.track.now speeds_loss },
-    pub ghost grades_fit: { IsLossOn grade_levels (grades_of authority.now) grades.track.now grades_loss },
+    pub ghost speeds_lost: { IsLossOn speed_levels (speeds_of authority.now) speeds.track.now speeds_loss },
+    pub ghost grades_lost: { IsLossOn grade_levels (grades_of authority.now) grades.track.now grades_loss },
 }
 
 /// The reply to a line of a session.

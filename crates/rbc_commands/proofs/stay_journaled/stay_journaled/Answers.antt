@@ -7,4 +7,4 @@ use Rattle.rbc_commands.proofs.stay_journaled.stay_journaled.Goals as goal
 -- the opening has the record, with its journal
 pub open-requires-clause-ready : goal.open-requires-clause-ready
 open-requires-clause-ready g c κs within =
-    subst (λ kept. IsReady (λ file. seen (past_of file)) (λ file. may_leave (past_of file)) kept) (sym c.for_places-opening.ensures.history) c.requires.ready
+    subst (λ history. IsReady (λ file. seen (past_of file)) (λ file. may_leave (past_of file)) history) (sym c.for_places-opening.ensures.history) c.requires.ready

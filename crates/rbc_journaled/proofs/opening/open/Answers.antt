@@ -4,18 +4,18 @@ use Rattle.rbc_journaled.proofs.opening.open.Goals as goal
 
 pub returns-in-Err-clause-lines : goal.returns-in-Err-clause-lines
 returns-in-Err-clause-lines g c =
-    let kept = c.args.kept in
-    as_many_opened g.D.Device.seen g.D.Device.may_leave kept.history kept.journal c.requires.ready.is_kept g.L.DeskName.opened c.requires.opened
+    let journaled = c.args.journaled in
+    as_many_opened g.D.Device.seen g.D.Device.may_leave journaled.history journaled.journal c.requires.ready.is_kept g.L.DeskName.opened c.requires.opened
 
 pub returns-in-Ok-open-clause-lines : goal.returns-in-Ok-open-clause-lines
 returns-in-Ok-open-clause-lines g c =
-    let kept = c.args.kept in
-    as_many_opened g.D.Device.seen g.D.Device.may_leave kept.history kept.journal c.requires.ready.is_kept g.L.DeskName.opened c.requires.opened
+    let journaled = c.args.journaled in
+    as_many_opened g.D.Device.seen g.D.Device.may_leave journaled.history journaled.journal c.requires.ready.is_kept g.L.DeskName.opened c.requires.opened
 
 pub returns-in-Err-open-clause-lines : goal.returns-in-Err-open-clause-lines
 returns-in-Err-open-clause-lines g c =
-    let kept = c.args.kept in
-    as_many_opened g.D.Device.seen g.D.Device.may_leave kept.history kept.journal c.requires.ready.is_kept g.L.DeskName.opened c.requires.opened
+    let journaled = c.args.journaled in
+    as_many_opened g.D.Device.seen g.D.Device.may_leave journaled.history journaled.journal c.requires.ready.is_kept g.L.DeskName.opened c.requires.opened
 
 pub open-requires-clause-count : goal.open-requires-clause-count
 open-requires-clause-count g c =

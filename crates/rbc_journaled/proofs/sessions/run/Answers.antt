@@ -8,7 +8,7 @@ use Rattle.rbc_journaled.proofs.TalkLemmas.{leaves_in, begin_in, ready_after, fa
 use Rattle.rbc_journaled.proofs.sessions.run.Goals as goal
 
 pub serve_lines-ended-requires-clause-ready : goal.serve_lines-ended-requires-clause-ready
-serve_lines-ended-requires-clause-ready g c κs within = ready_goes g.D.Device.seen g.D.Device.may_leave c.args.kept.now c.requires.ready
+serve_lines-ended-requires-clause-ready g c κs within = ready_goes g.D.Device.seen g.D.Device.may_leave c.args.journaled.now c.requires.ready
 
 pub returns-clause-read : goal.returns-clause-read
 returns-clause-read g c = rw c.run_end.ensures (read_told c.serve_lines-ended.result c.serve_lines-ended.new.handler.has_failed _ _ c.serve_lines-ended.ensures.read c.serve_lines-ended.ensures.write)
@@ -23,7 +23,7 @@ returns-clause-journal g c = rw c.run_end.ensures (journal_told c.serve_lines-en
 pub returns-clause-failed : goal.returns-clause-failed
 returns-clause-failed g c told =
     fails_in g.D.Device.seen g.D.Device.may_leave g.D.Device.moment g.D.Device.left_since g.D.Device.faults g.met.D.Device.only_now g.met.D.Device.counts_now
-    c.args.kept.now c.serve_lines-ended.new.handler c.serve_lines-ended.ensures.talk.0 _ _ c.serve_lines-ended.result c.requires.ready c.serve_lines-ended.ensures.talk.2
+    c.args.journaled.now c.serve_lines-ended.new.handler c.serve_lines-ended.ensures.talk.0 _ _ c.serve_lines-ended.result c.requires.ready c.serve_lines-ended.ensures.talk.2
     (broken_told c.serve_lines-ended.result c.serve_lines-ended.new.handler.has_failed (sym c.run_end.ensures ∙ told))
 
 pub returns-clause-memory : goal.returns-clause-memory
@@ -40,23 +40,23 @@ returns-clause-ended g c =
 pub returns-clause-ready : goal.returns-clause-ready
 returns-clause-ready g c whole =
     ready_after g.D.Device.seen g.D.Device.may_leave g.D.Device.moment g.D.Device.left_since g.D.Device.faults g.met.D.Device.only_now g.met.D.Device.counts_now
-    c.args.kept.now c.serve_lines-ended.new.handler c.serve_lines-ended.ensures.talk.0 _ _ c.serve_lines-ended.result c.requires.ready c.serve_lines-ended.ensures.talk.2 c.serve_lines-ended.ensures.none_rests whole
+    c.args.journaled.now c.serve_lines-ended.new.handler c.serve_lines-ended.ensures.talk.0 _ _ c.serve_lines-ended.result c.requires.ready c.serve_lines-ended.ensures.talk.2 c.serve_lines-ended.ensures.none_rests whole
 
 pub returns-clause-any_moment : goal.returns-clause-any_moment
 returns-clause-any_moment g c =
     leaves_in g.D.Device.seen g.D.Device.may_leave g.D.Device.moment g.D.Device.left_since g.D.Device.faults g.met.D.Device.only_now g.met.D.Device.counts_now
-    c.args.kept.now c.serve_lines-ended.new.handler c.serve_lines-ended.ensures.talk.0 _ _ c.serve_lines-ended.result c.requires.ready c.serve_lines-ended.ensures.talk.2
+    c.args.journaled.now c.serve_lines-ended.new.handler c.serve_lines-ended.ensures.talk.0 _ _ c.serve_lines-ended.result c.requires.ready c.serve_lines-ended.ensures.talk.2
 
 pub returns-clause-begin : goal.returns-clause-begin
 returns-clause-begin g c =
     begin_in g.D.Device.seen g.D.Device.may_leave g.D.Device.moment g.D.Device.left_since g.D.Device.faults g.met.D.Device.only_now g.met.D.Device.counts_now
-    c.args.kept.now c.serve_lines-ended.new.handler c.serve_lines-ended.ensures.talk.0 _ _ c.serve_lines-ended.result c.requires.ready c.serve_lines-ended.ensures.talk.2
+    c.args.journaled.now c.serve_lines-ended.new.handler c.serve_lines-ended.ensures.talk.0 _ _ c.serve_lines-ended.result c.requires.ready c.serve_lines-ended.ensures.talk.2
 
 pub returns-clause-track : goal.returns-clause-track
 returns-clause-track g c =
     ap (λ (b : Beginning). b.track)
     (begin_in g.D.Device.seen g.D.Device.may_leave g.D.Device.moment g.D.Device.left_since g.D.Device.faults g.met.D.Device.only_now g.met.D.Device.counts_now
-    c.args.kept.now c.serve_lines-ended.new.handler c.serve_lines-ended.ensures.talk.0 _ _ c.serve_lines-ended.result c.requires.ready c.serve_lines-ended.ensures.talk.2)
+    c.args.journaled.now c.serve_lines-ended.new.handler c.serve_lines-ended.ensures.talk.0 _ _ c.serve_lines-ended.result c.requires.ready c.serve_lines-ended.ensures.talk.2)
 
 pub returns-clause-session : goal.returns-clause-session
 returns-clause-session g c = (
@@ -64,17 +64,17 @@ returns-clause-session g c = (
   c.serve_lines-ended.ensures.talk.1,
   rw c.run_end.ensures
       (kept_session g.D.Device.seen g.D.Device.may_leave g.D.Device.moment g.D.Device.left_since g.D.Device.faults g.met.D.Device.only_now g.met.D.Device.counts_now
-      c.args.kept.now c.serve_lines-ended.new.handler c.serve_lines-ended.ensures.talk.0 _ _ c.serve_lines-ended.result (g.W.Sink.failed c.serve_lines-ended.new.writer) c.serve_lines-ended.ensures.none_rests c.requires.ready c.serve_lines-ended.ensures.talk.2 c.serve_lines-ended.ensures.write),
+      c.args.journaled.now c.serve_lines-ended.new.handler c.serve_lines-ended.ensures.talk.0 _ _ c.serve_lines-ended.result (g.W.Sink.failed c.serve_lines-ended.new.writer) c.serve_lines-ended.ensures.none_rests c.requires.ready c.serve_lines-ended.ensures.talk.2 c.serve_lines-ended.ensures.write),
 )
 
 pub returns-clause-answers : goal.returns-clause-answers
 returns-clause-answers g c =
     rw c.run_end.ensures
     (ok_told c.serve_lines-ended.result c.serve_lines-ended.new.handler.has_failed
-    (AnswersAll c.args.kept.now.history c.serve_lines-ended.new.handler.history (g.R.Source.left c.args.reader.now) (g.W.Sink.written c.args.writer.now) (g.W.Sink.written c.serve_lines-ended.new.writer))
+    (AnswersAll c.args.journaled.now.history c.serve_lines-ended.new.handler.history (g.R.Source.left c.args.reader.now) (g.W.Sink.written c.args.writer.now) (g.W.Sink.written c.serve_lines-ended.new.writer))
     (λ whole.
     kept_answers g.D.Device.seen g.D.Device.may_leave g.D.Device.moment g.D.Device.left_since g.D.Device.faults g.met.D.Device.only_now g.met.D.Device.counts_now
-    c.args.kept.now c.serve_lines-ended.new.handler c.serve_lines-ended.ensures.talk.0 _ _ _ _ c.serve_lines-ended.result c.known.ensures.form c.requires.ready c.serve_lines-ended.ensures.none_rests c.serve_lines-ended.ensures.end c.serve_lines-ended.ensures.talk.1 c.serve_lines-ended.ensures.talk.2 whole))
+    c.args.journaled.now c.serve_lines-ended.new.handler c.serve_lines-ended.ensures.talk.0 _ _ _ _ c.serve_lines-ended.result c.known.ensures.form c.requires.ready c.serve_lines-ended.ensures.none_rests c.serve_lines-ended.ensures.end c.serve_lines-ended.ensures.talk.1 c.serve_lines-ended.ensures.talk.2 whole))
 
 pub returns-clause-handed_on : goal.returns-clause-handed_on
 returns-clause-handed_on g c =

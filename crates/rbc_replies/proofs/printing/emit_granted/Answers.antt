@@ -14,9 +14,9 @@ returns g c =
 pub emit_certificate-requires-after_bounds : goal.emit_certificate-requires-after_bounds
 emit_certificate-requires-after_bounds g c κs within =
     let a = c.args.granted.now.authority.now in
-    (omega arith, loss_of _ _ _ _ a.speeds a.end c.args.granted.now.speeds_fit c.speeds-speeds.ensures.steps c.speeds-speeds.ensures.end)
+    (omega arith, loss_of _ _ _ _ a.speeds a.end c.args.granted.now.speeds_lost c.speeds-speeds.ensures.steps c.speeds-speeds.ensures.end)
 
 pub emit_certificate-requires-2-after_bounds : goal.emit_certificate-requires-2-after_bounds
 emit_certificate-requires-2-after_bounds g c κs within =
     let a = c.args.granted.now.authority.now in
-    (omega arith, loss_of _ _ _ _ a.grades a.end c.args.granted.now.grades_fit c.grades-grades.ensures.steps c.grades-grades.ensures.end)
+    (omega arith, loss_of _ _ _ _ a.grades a.end c.args.granted.now.grades_lost c.grades-grades.ensures.steps c.grades-grades.ensures.end)

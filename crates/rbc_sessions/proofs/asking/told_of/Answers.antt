@@ -35,8 +35,8 @@ invariant_of-result c =
     let authority = c.authority-authority.ensures.authority in
     record {
       told = c.message-message.ensures ∙ ap message_bytes (sym authority);
-      speeds_fit = speeds_lose candidate c.authority-authority.result.now known.best authority c.losses-losses.result.speeds c.speeds.result.now
+      speeds_lost = speeds_lose candidate c.authority-authority.result.now known.best authority c.losses-losses.result.speeds c.speeds.result.now
           c.losses-losses.ensures.speeds (c.speeds.ensures ∙ ap (λ (v : View). record { steps = v.speeds; end = metres_shown v }) view);
-      grades_fit = grades_lose candidate c.authority-authority.result.now known.best authority c.losses-losses.result.grades c.grades.result.now
+      grades_lost = grades_lose candidate c.authority-authority.result.now known.best authority c.losses-losses.result.grades c.grades.result.now
           c.losses-losses.ensures.grades (c.grades.ensures ∙ ap (λ (v : View). record { steps = v.grades; end = metres_shown v }) view);
     }
