@@ -7,6 +7,7 @@ from contracts import items_of, product_crates, public_functions
 from crates_txt import ROOT, read_listed
 
 PAGE = "docs/promises.md"
+LIMITS = "docs/limits.md"
 MOST_WORDS = 25
 IDENTIFIER = re.compile(r"[PTN]-[A-Z]+-\d+")
 HEADING = re.compile(r"## .*: ([A-Z]+) \((.*)\)")
@@ -162,6 +163,20 @@ def cited_in_vain(rows):
             for name, line in cited_in(path) if name not in {row.name for row in rows}]
 
 
+def wrong_in_the_limits(rows):
+    """docs/limits.md tells of each test in which sections of the page rows of what is only tested name it. Cases are those of `tests/program`."""
+    sections = {}
+    for row in rows:
+        for named in re.findall(r"`([^`]*)`", row.cells[0]) if row.kind() == "T" else []:
+            test = "tests/program" if named.startswith("tests/cases/") else named.split("::")[0]
+            sections.setdefault(test, set()).add(row.name.rpartition("-")[0])
+    with open(f"{ROOT}/{LIMITS}", encoding="utf-8") as file:
+        told = {test: listed for tests, listed in re.findall(r"^\| ((?:`[\w/]+`(?:, )?)+) \| .* \| (.*) \|$", file.read(), re.M)
+                for test in re.findall(r"`([^`]*)`", tests)}
+    return [f"{LIMITS}: {test} stands at {', '.join(sorted(names))}" for test, names in sections.items()
+            if names - set(re.findall(r"T-[A-Z]+", told.get(test, "")))]
+
+
 def promised_nowhere(rows):
     """The clauses of functions that crates of the product hand out, which stand under no promise."""
     covered = {(clause.path, clause.line) for row in rows for _, clause in row.clauses}
@@ -181,4 +196,4 @@ def read_page():
         elif row.kind() == "T":
             resolve_tests(row, faults)
     faults += wrong_in_the_edits(rows, edits) + wrong_in_the_tests(rows, cited) + cited_in_vain(rows)
-    return rows, cited, faults + promised_nowhere(rows)
+    return rows, cited, faults + wrong_in_the_limits(rows) + promised_nowhere(rows)
