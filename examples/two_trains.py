@@ -9,13 +9,24 @@ midnight in units of 10 ms, as T_TRAIN does: 06:00 is 2160000."""
 
 import socket
 import sys
+import time
+
+
+def connected(port, tries=300):
+    """A socket to the centre. It may not be ready yet: so it is tried for half a minute."""
+    for _ in range(tries):
+        try:
+            return socket.create_connection(("127.0.0.1", port), timeout=60)
+        except ConnectionRefusedError:
+            time.sleep(0.1)
+    sys.exit(f"nobody listens at port {port}")
 
 
 class Connection:
     """A connection to the centre: each request has one reply."""
 
     def __init__(self, port):
-        self.socket = socket.create_connection(("127.0.0.1", port), timeout=60)
+        self.socket = connected(port)
         self.replies = self.socket.makefile("r", encoding="ascii")
 
     def request(self, line):
