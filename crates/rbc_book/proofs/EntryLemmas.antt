@@ -13,15 +13,14 @@ use Rattle.rbc_model.specs.Events.{cut_at, with_authority, with_train, without_t
 use Rattle.rbc_model.specs.Lines.{Line}
 use Rattle.rbc_model.specs.Placing.{through}
 use Rattle.rbc_model.specs.Histories.{AuthoritiesAreApart}
-use Rattle.rbc_extent.specs.OnTracks.{LineOnTrack}
 use Rattle.rbc_extent.specs.TrainsOnTracks.{TrainOnTrack}
 use Rattle.rbc_scene_laws.specs.Good.{IsGoodTrain}
 use Rattle.rbc_scene_laws.proofs.BasicLemmas.{EachPair, recursion_from_AllPairs, the_some}
 use Rattle.rbc_scene_laws.proofs.GivingBackLemmas.{IsCut, AuthoritiesAreApart-cut_at}
 use Rattle.rbc_scene_laws.proofs.TrainListLemmas.{Differ, swap}
-use Rattle.rbc_book.specs.Books.{Book, HoldsOfTrain, IsGoodBook, scene_of, book_with, book_without, number_in, train_in}
+use Rattle.rbc_book.specs.Books.{Book, IsGoodBook, scene_of, book_with, book_without, number_in, train_in}
 use Rattle.rbc_book.specs.Entries.{on_track, entry_of, number_on, trains_of, book_of, AreEntries}
-use Rattle.rbc_book.proofs.GoodBookLemmas.{good_book-empty, good_book-with, good_book-without}
+use Rattle.rbc_book.proofs.GoodBookLemmas.{good_book-with, good_book-without}
 use Rattle.rbc_model.proofs.BasicLemmas.{find-passes, number_turned}
 
 unlike : (a b n : ℕ) → a ≡ n → ((a ≡ b) → ⊥) → (b == n) ≡ false
@@ -147,9 +146,6 @@ module _ (track : Track) where
 
   pub differ : (es : List (ℕ × TrainOnTrack)) → AreEntries track es → EachPair Differ (trains_of es)
   differ es are = let g = are.good in recursion_from_AllPairs Differ (trains_of es) g.numbers_differ
-
-  pub entries-none : (es : List (ℕ × TrainOnTrack)) → es ≡ [] → AreThoseOf (record { track = track; trains = [] }) es
-  entries-none es e = made [] es e (good_book-empty track)
 
   entries-get : (es : List (ℕ × TrainOnTrack)) (n : ℕ) → AreEntries track es → lookup (nat_eq n) es ≡ option_map (on_track track) (train_in (book_of track es) n)
   entries-get es n are = ap (lookup (nat_eq n)) are.keyed ∙ lookup-entries n (trains_of es)

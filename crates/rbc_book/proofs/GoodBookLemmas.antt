@@ -1,8 +1,7 @@
 -- Books stay good: a train put in whose authority is apart from the others', a train taken out.
-use Rattle.std.proofs.Common.{ℕ, [], arith}
+use Rattle.std.proofs.Common.{ℕ}
 use Rattle.std.specs.Prelude.{◌==◌, not}
 use Rattle.std.proofs.lemmas.List.Elements.{All-from_recursion, recursion_from_All, All-filter}
-use Rattle.rbc_model.specs.Tracks.{Track}
 use Rattle.rbc_model.specs.Trains.{Train}
 use Rattle.rbc_model.specs.Events.{with_train}
 use Rattle.rbc_model.specs.Histories.{AuthoritiesAreApart}
@@ -10,13 +9,6 @@ use Rattle.rbc_scene_laws.specs.Good.{IsGoodTrain}
 use Rattle.rbc_scene_laws.proofs.TrainListLemmas.{each_with_train}
 use Rattle.rbc_scene_laws.proofs.BookLemmas.{NumbersDiffer-with_train, NumbersDiffer-without_train, AuthoritiesAreApart-without_train}
 use Rattle.rbc_book.specs.Books.{Book, IsGoodBook, scene_of, book_with, book_without}
-
-pub good_book-empty : (track : Track) → IsGoodBook (record { track = track; trains = [] })
-good_book-empty track = record {
-  trains = λ k d h. absurd (omega arith);
-  numbers_differ = λ i j d h k. absurd (omega arith);
-  apart = λ i j d h k. absurd (omega arith);
-}
 
 pub good_book-with : (book : Book) (train : Train) → IsGoodBook book → IsGoodTrain book.track train → AuthoritiesAreApart book.track (with_train (scene_of book.trains) train) → IsGoodBook (book_with book train)
 good_book-with book train good fine apart =

@@ -1,7 +1,6 @@
 -- A section's leg on a line: where it is found, and what a train has of it.
-use Rattle.std.proofs.Common.{◌≡◌, ℕ, ◌+◌, ◌<◌, Bool, true, false, cond, [], ◌∷◌, ◌++◌, length, get_or, drop, Option, Some, None, refl, sym, ap, ◌∙◌, subst, arith, zero-add, add-zero}
+use Rattle.std.proofs.Common.{◌≡◌, ℕ, ◌+◌, Bool, true, false, cond, [], ◌∷◌, ◌++◌, Option, Some, None, refl, sym, ap, ◌∙◌, subst, arith, zero-add}
 use Rattle.std.specs.Prelude.{option_map, ◌==◌, ◌||◌, not}
-use Rattle.std.proofs.lemmas.List.{drop_more, drop_all}
 use Rattle.rbc_model.specs.declared.places.Direction.{Direction}
 use Rattle.rbc_model.specs.declared.places.Direction.TheVariants.{Rising, Falling}
 use Rattle.rbc_model.specs.declared.places.Leg.{Leg}
@@ -24,47 +23,6 @@ use Rattle.rbc_model.proofs.MetreLemmas.{line_length-cons}
 
 module _ (track : Track) (section : ℕ) where
   -- ---- found leg by leg
-
-  pub farther_none : (o : Option LegPlace) → option_map (farther 0) o ≡ o
-  farther_none None = refl
-  farther_none (Some p) = ap (λ n. Some (record { leg = p.leg; begin = n; metres = p.metres })) (zero-add p.begin)
-
-  farther_more : (a b : ℕ) (o : Option LegPlace) → option_map (farther a) (option_map (farther b) o) ≡ option_map (farther (a + b)) o
-  farther_more a b None = refl
-  farther_more a b (Some p) = ap (λ n. Some (record { leg = p.leg; begin = n; metres = p.metres })) (let e : a + (b + p.begin) ≡ a + b + p.begin = omega arith in e)
-
-  here_by : (t : Bool) (begin : ℕ) (leg : Leg) (o : Option LegPlace) → t ≡ true → option_map (farther begin) (cond t (Some (at_start track leg)) o) ≡ Some (record { leg = leg; begin = begin; metres = metres_of track leg.section })
-  here_by true begin leg o e = ap (λ n. Some (record { leg = leg; begin = n; metres = metres_of track leg.section })) (add-zero begin)
-  here_by false begin leg o e = cc
-
-  on_by : (t : Bool) (begin metres : ℕ) (leg : Leg) (o : Option LegPlace) → t ≡ false
-      → option_map (farther begin) (cond t (Some (at_start track leg)) (option_map (farther metres) o)) ≡ option_map (farther (begin + metres)) o
-  on_by true begin metres leg o e = cc
-  on_by false begin metres leg o e = farther_more begin metres o
-
-  -- the legs from an index on, of which the first begins here
-  module _ (legs : Line) (i begin : ℕ) (leg : Leg) (within : i < length legs) (is : leg ≡ get_or legs i leg) where
-    parts : drop i legs ≡ leg ∷ drop (i + 1) legs
-    parts = drop_more legs i leg within ∙ ap (λ l. l ∷ drop (i + 1) legs) (sym is)
-
-    pub found_here : (leg.section == section) ≡ true → option_map (farther begin) (leg_place track (drop i legs) section) ≡ Some (record { leg = leg; begin = begin; metres = metres_of track leg.section })
-    found_here e =
-        ap (λ l. option_map (farther begin) (leg_place track l section)) parts
-        ∙ here_by (leg.section == section) begin leg (option_map (farther (metres_of track leg.section)) (leg_place track (drop (i + 1) legs) section)) e
-
-    pub found_later : (leg.section == section) ≡ false
-        → option_map (farther (begin + metres_of track leg.section)) (leg_place track (drop (i + 1) legs) section) ≡ option_map (farther begin) (leg_place track (drop i legs) section)
-    found_later e =
-        sym (on_by (leg.section == section) begin (metres_of track leg.section) leg (leg_place track (drop (i + 1) legs) section) e)
-        ∙ ap (λ l. option_map (farther begin) (leg_place track l section)) (sym parts)
-
-    pub length_later : begin + line_length track (drop i legs) ≡ begin + metres_of track leg.section + line_length track (drop (i + 1) legs)
-    length_later =
-        ap (λ l. begin + line_length track l) parts ∙ ap (λ n. begin + n) (line_length-cons track leg (drop (i + 1) legs))
-        ∙ (let e : begin + (metres_of track leg.section + line_length track (drop (i + 1) legs)) ≡ begin + metres_of track leg.section + line_length track (drop (i + 1) legs) = omega arith in e)
-
-  pub found_nowhere : (legs : Line) (i begin : ℕ) (o : Option LegPlace) → length legs < i + 1 → option_map (farther begin) (leg_place track (drop i legs) section) ≡ o → None ≡ o
-  found_nowhere legs i begin o past e = ap (λ l. option_map (farther begin) (leg_place track l section)) (sym (drop_all i legs (omega arith))) ∙ e
 
   -- ---- what the line is around it
 

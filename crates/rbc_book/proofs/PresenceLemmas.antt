@@ -284,9 +284,6 @@ present-without track xs n x old new differ are found size now =
           ∙ tally_less-without track n s xs differ;
     }
 
-pub present-empty : (track : Track) (tallies : List Tally) → length tallies ≡ length track.sections → ((s : ℕ) → tally_at tallies s ≡ nobody) → ArePresent track [] tallies
-present-empty track tallies size empty = record { as_many = size; few = omega arith; numbers = tt; each = empty }
-
 -- ---- who is found by it
 
 abbrev has : ℕ → Train → Bool

@@ -11,7 +11,7 @@ use Rattle.rbc_book.specs.declared.places.LegPlace.{LegPlace}
 abbrev pub at_start : Track → Leg → LegPlace
 at_start track leg = record { leg = leg; begin = 0; metres = metres_of track leg.section }
 
--- the same leg, which begins this many metres farther on
+-- the leg, which begins this many metres farther on
 abbrev pub farther : ℕ → LegPlace → LegPlace
 farther metres place = record { leg = place.leg; begin = metres + place.begin; metres = place.metres }
 

@@ -76,7 +76,7 @@ certified kind request track steps lost rows packet given made chosen greatest l
       reply_of kind joined steps lost rows packet (rw (← ends) loses) (rw (← ends) packs),
     ))
 
--- the same, where the track, the profile and the packet are told by the levels and fields that the kind has
+-- what is certified of a kind, where the track, the profile and the packet are told by the levels and fields that the kind has
 pub certified_as : {V : Type 0} (kind : Kind V) (levels : Levels V) (fields : Bool → ℕ → List (ℕ × V) → List (FieldName × ℕ))
     → kind.levels ≡ levels → kind.packet ≡ fields
     → (request : StepsRequest V) (track profile : StepFunction V) (lost : ℕ) (rows : List (List ℕ)) (packet : List ℕ)

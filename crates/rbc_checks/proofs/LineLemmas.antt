@@ -2,7 +2,7 @@
 use Rattle.std.proofs.Common.{ℕ, List, ◌++◌, Option, ℤ}
 use Rattle.std.specs.Option.{option_map}
 
--- steps in front of those of a profile
+-- steps in front of a profile's steps
 abbrev pub with_steps : List (ℕ × ℤ) → Option (List (ℕ × ℤ) × ℕ) → Option (List (ℕ × ℤ) × ℕ)
 with_steps front read = option_map (λ r. (front ++ r.0, r.1)) read
 

@@ -1,4 +1,4 @@
--- The rows of a block: those of a table, and the lines behind them.
+-- The rows of a block: a table's rows, and the lines behind them.
 use Rattle.std.proofs.Common.{◌≡◌, ℕ, suc, ◌+◌, ◌==◌, Bool, true, false, List, [], ◌∷◌, ◌++◌, Option, Some, None, refl, sym, ap, ◌∙◌, arith, length, append-nil, if◌then◌else◌}
 use Rattle.std.specs.Global.{Vec}
 use Rattle.std.proofs.lemmas.Bool.{eq-eqb, eqb-true}
@@ -77,10 +77,6 @@ module _ (table : List (Vec ℕ)) where
       ∙ ap (λ k. numbered 1 (prices_of table) ++ PriceLine k prices.items ∷ []) (let n = length_of in omega arith)
       ∙ ap (λ l. numbered 1 (prices_of table) ++ l ∷ []) (sym is)
       ∙ ap (λ rows. rows ++ line ∷ []) (sym (append-nil (numbered 1 (prices_of table))))
-
-no_rows_behind : (others : List ReadLine) (more : ReadLine) → no_rows (others ++ more ∷ []) ≡ None
-no_rows_behind [] more = refl
-no_rows_behind (line ∷ others) more = refl
 
 -- none of the lines is the next row, and so it is with one more
 pub still_no_row : (j : ℕ) (others : List ReadLine) (more : ReadLine) → (others ≡ [] → ⊥) → rows_of j (lines_view others) ≡ no_rows others

@@ -16,7 +16,7 @@ lost_text false = []
 abbrev pub reply_text : Reply → List ℕ
 reply_text reply = said_text reply.said ++ lost_text reply.lost
 
--- The line stands behind those of the open block; or memory was refused for it, and no block is open.
+-- The line stands behind the lines of the open block; or memory was refused for it, and no block is open.
 abbrev pub Keeps : Checking → Result ReadLine Part → Bool → Checking → Type 0
 Keeps before read lost after = (said : CheckLine) → IsSaid read said
     → LeavesOpen (before.block ++ said ∷ []) before.refused [] (lost_text lost) after

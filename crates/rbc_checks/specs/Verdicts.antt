@@ -32,7 +32,7 @@ is_refusal (Grade told) = false
 is_refusal (Refused reason) = true
 is_refusal Memory = true
 
--- the same of a block, if there is one
+-- what is written of a verdict, if there is one
 abbrev pub said_text : Option Verdict → List ℕ
 said_text None = []
 said_text (Some verdict) = verdict_line verdict
@@ -52,12 +52,12 @@ abbrev pub rows_verdict : {V : Type 0} → Levels V → ℕ → StepFunction V �
 rows_verdict levels limit track profile told found =
     in_shape found >>= λ rows. with_loss (told == last_price levels limit track rows) (price_check levels limit track profile rows)
 
--- the same from the steps on, which have to be a profile
+-- the verdict on a track with steps, which have to be a profile
 abbrev pub steps_verdict : {V : Type 0} → Levels V → ℕ → StepFunction V → List (ℕ × V) → ℕ → Option (List (List ℕ)) → Result (Unit {0}) Reason
 steps_verdict levels limit track steps told found =
     demand (is_none (profile_fault levels track.end steps)) Shape >> rows_verdict levels limit track (record { steps = steps; end = track.end }) told found
 
--- The parts are those of a request and of steps, whatever rows and loss come with them; or there are none, and each such block is refused so.
+-- The parts are a request's and the steps', whatever rows and loss come with them; or there are none, and each such block is refused so.
 abbrev pub ArePartsOf : {V : Type 0} → Levels V → (ℤ → Option V) → StepsRequest V → List (ℕ × ℤ) → Result (Parts V) (OrMemory Reason) → Type 0
 ArePartsOf levels value_of request words (Ok parts) = (told : ℕ) (lines : List CheckLine)
     → verdict_of levels value_of request words told lines ≡ steps_verdict levels parts.limit parts.track parts.steps.items told (rows_of 1 lines)

@@ -58,7 +58,7 @@ pub(crate) fn certify_speeds(
 ///
 /// # Errors
 ///
-/// Those of [`certify_speeds`].
+/// The reasons of [`certify_speeds`].
 pub(crate) fn certify_grades(
     spare: &mut Spare,
     request: StepsRequest<Grade>,

@@ -27,7 +27,7 @@ use std::fs::Files;
 use std::sync::Arc;
 use thiserror::Error;
 
-/// How the lines of a track begin, which may stand before those of the scene.
+/// How the lines of a track begin, which may stand before the lines of the scene.
 const TRACK: &[u8] = b"track ";
 
 /// Why a centre can't begin with what a file tells.

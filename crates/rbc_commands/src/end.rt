@@ -42,7 +42,7 @@ pub(crate) fn watch_input<
 /// Reads up to the end of the input, or up to a line `end`. An input that can't be read has ended.
 fn read_to_end(input: &mut impl Read) {
     let mut piece = [0; PIECE];
-    let mut line = Line { matched: Some(0) };
+    let mut line = EndLine { matched: Some(0) };
     for _ in 0..u64::MAX {
         match input.read(&mut piece) {
             Ok(0) => return,
@@ -59,11 +59,11 @@ fn read_to_end(input: &mut impl Read) {
 
 /// How far the line that is read is the word, if it is so far.
 #[derive(Drop)]
-struct Line {
+struct EndLine {
     matched: Option<usize>,
 }
 
-impl Line {
+impl EndLine {
     /// Goes on through these bytes. Whether a line that is the word ends in them.
     fn is_found_in(&mut self, bytes: &[u8]) -> bool {
         bytes.iter().any(|byte| self.is_found_at(*byte))

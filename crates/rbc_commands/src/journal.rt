@@ -355,8 +355,8 @@ fn resumed<'r, 't, R: Files<File = File> + AllocGlobal + Threads + Clock + Sync>
     ensures begins { IfOk result (λ opened. BeginsAsFile opened.0.history (seen (past_of opened.0.journal.device))) }
 {
     let Begun { record, scene } = begin_in(rt.alloc(), track, read.text, most)?;
-    let journaled = recovered(rt, record, read, found, tally)?;
-    Ok((journaled, scene))
+    let record = recovered(rt, record, read, found, tally)?;
+    Ok((record, scene))
 }
 
 /// The record that a journal tells, with its journal, whose commits are not counted, and the version of the scene that it begins
@@ -364,7 +364,7 @@ fn resumed<'r, 't, R: Files<File = File> + AllocGlobal + Threads + Clock + Sync>
 ///
 /// # Errors
 ///
-/// Those of [`opened`].
+/// The failures of [`opened`].
 fn untallied<'r, R: Files<File = File> + AllocGlobal + Threads + Clock + Eprint + Sync>(
     rt: &'r R,
     place: &JournalPaths,
@@ -382,7 +382,7 @@ fn untallied<'r, R: Files<File = File> + AllocGlobal + Threads + Clock + Eprint 
 ///
 /// # Errors
 ///
-/// Those of [`opened`].
+/// The failures of [`opened`].
 fn tallied<'r, 't, R: Files<File = File> + AllocGlobal + Threads + Clock + Eprint + Sync>(
     rt: &'r R,
     place: &JournalPaths,
@@ -431,14 +431,14 @@ fn recovered<'r, 't, R: Files<File = File> + AllocGlobal + Threads + Clock + Syn
     ensures begin { IfOk result (λ opened. begin_of opened.history ≡ begin_of empty) }
     ensures beginning { IfOk result (λ opened. beginning_of (counted (seen (past_of opened.journal.device))) ≡ beginning_of (counted read.now.text.now)) }
 {
-    let mut history = empty;
-    replay(rt, rt.alloc(), &mut history, read.text)?;
+    let mut record = empty;
+    replay(rt, rt.alloc(), &mut record, read.text)?;
     if let Some(tally) = tally {
-        tally.reached(history.version());
+        tally.reached(record.version());
     }
     let file = found.replaced(rt, read.text, read.dropped)?;
     let device = Recorded::opened(Timed::new(file, rt, tally), read.text);
-    match JournaledRecord::over(rt.alloc(), history, read, device) {
+    match JournaledRecord::over(rt.alloc(), record, read, device) {
         Ok(record) => Ok(record),
         Err((OpeningFault::Device, file)) => Err(file_failed(&file)),
         Err((fault, _)) => Err(fault.into()),

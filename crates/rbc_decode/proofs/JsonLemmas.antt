@@ -174,11 +174,6 @@ speeds_text later [] = refl
 speeds_text later (item ∷ items) =
     speed_next later (said_in item) (all_said items) (λ l. parts_text (λ i. is_speed (said_in i)) (λ before i. if_said (speed_part before) (said_in i)) l items) (λ l. speeds_text l items)
 
--- an array behind its name
-array_text : (name key parts elements : List ℕ) → name ≡ 44 ∷ (quoted key ++ 58 ∷ 91 ∷ []) → parts ≡ elements → name ++ parts ≡ 44 ∷ (quoted key ++ 58 ∷ 91 ∷ elements)
-array_text name key parts elements named same =
-    ap (λ n. n ++ parts) named ∙ ap (λ l. 44 ∷ l) (append_assoc (quoted key) (58 ∷ 91 ∷ []) parts) ∙ ap (λ l. 44 ∷ (quoted key ++ 58 ∷ 91 ∷ l)) same
-
 -- ---- members
 
 member_step : (key : List ℕ) (value : Data) (ms : Members) → members_text true (member key value ms) ≡ member_part key value ++ members_text true ms

@@ -335,7 +335,7 @@ pub kind_start : (packet : Bool) (bytes : List ℕ) → reading_at packet bytes 
 kind_start true bytes = refl
 kind_start false bytes = refl
 
--- these fields in front of those of a reading are all, and it is found what was
+-- these fields in front of the fields of a reading are all, and it is found what was
 pub record IsRest (front : List Item) (whole later : Reading) : Type 0 where
   pub items : front ++ later.items ≡ whole.items
   pub found : later.found ≡ whole.found

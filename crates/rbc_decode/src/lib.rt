@@ -30,7 +30,7 @@ pub use spelling::Wrong;
 pub use walk::FieldWalk;
 
 /// The walk over the fields of a message and [`rbc_packet::read_message`] come to the same: no fault is found exactly
-/// where it is read, and else the fault that reading answers; the fields of a message that is read are those of its
+/// where it is read, and else the fault that reading answers; the fields of a message that is read are the fields of its
 /// authority's message; and what they say is what its authority says.
 pub fn messages_are_read_alike()
     ensures faults { FaultsAgree }

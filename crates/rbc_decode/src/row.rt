@@ -7,7 +7,7 @@ ghost use Rattle.rbc_decode.specs.Rows.{names_in, packet_number};
 use rbc_model::FieldName;
 use rbc_model::limits::{AUTHORITY_PACKET, GRADIENT_PACKET, SPEED_PACKET};
 
-/// A row of fields of a message, or of a packet alone. The rows come in this order; those of steps come once for each
+/// A row of fields of a message, or of a packet alone. The rows come in this order; rows of steps come once for each
 /// step behind the first.
 #[derive(Clone, Copy, Debug, PartialEq, Eq)]
 pub enum Row {

@@ -1,9 +1,8 @@
 -- Seats on duty, all together.
-use Rattle.std.proofs.Common.{◌≡◌, ℕ, ◌≤◌, Bool, true, List, [], ◌∷◌, ◌++◌, length, map, Option, Some, Result, Ok, Err, refl, sym, ap, ◌∙◌, subst, append_assoc, arith}
+use Rattle.std.proofs.Common.{◌≡◌, ℕ, Bool, true, List, [], ◌∷◌, ◌++◌, length, map, Option, Some, Result, Ok, Err, refl, sym, ap, ◌∙◌, subst, append_assoc, arith}
 use Rattle.std.proofs.Math.Seq.{take-append_seam}
-use Rattle.std.proofs.lemmas.List.{append-nil, length-append, length-map, map-append, map_push, nil_from_length}
+use Rattle.std.proofs.lemmas.List.{length-append, length-map, map-append, map_push}
 use Rattle.std.proofs.lemmas.List.Elements.{All-nil, All-cons}
-use Rattle.std.proofs.lemmas.Slice.Zip.{AllZip-long}
 use Rattle.std.specs.Prelude.{All, IfOk, take}
 use Rattle.std.specs.List.{AllZip}
 use Rattle.std.specs.Result.{result_ok}
@@ -17,14 +16,6 @@ use Rattle.rbc_duty.specs.Duties.{Duty, IsDuty, AreOnDuty}
 -- What was begun of all posts. As long as all could be, these are left.
 abbrev pub AreBegun : {S : Type 0} → List S → List S → List S → Bool → Type 0
 AreBegun {S} all left begun all_begun = (rest : List S) × (begun ++ rest ≡ all) × (all_begun ≡ true → rest ≡ left)
-
--- nothing is begun
-pub at_first : {S : Type 0} (all : List S) (all_begun : Bool) → AreBegun all all [] all_begun
-at_first all all_begun = (all, refl, λ _. refl)
-
--- a post is passed by, or no thread can be started for it
-pub passed_by : {S : Type 0} (all left rest begun : List S) (was now : Bool) → (now ≡ true → ⊥) → AreBegun all left begun was → AreBegun all rest begun now
-passed_by all left rest begun was now not under = (under.0, under.1, λ is. absurd (not is))
 
 the_same : {H : Type 0} (x y : H) → Some x ≡ Some y → x ≡ y
 the_same x y e = cc

@@ -22,7 +22,7 @@ pub record IsDuty {L P : Type 0} (kept : P → ℕ → Type 0) (duty : Duty L P)
   pub still_to_come : Option (List Coming)
   pub clients : Came duty.coming still_to_come (map (λ (v : Connection L P). v.came) visits)
   pub over : duty.lost ≡ true → NoneComes still_to_come
-  -- The seat has its old receipts, and behind them those of all visits, in order. What was kept before still is.
+  -- The seat has its old receipts, and behind them the receipts of all visits, in order. What was kept before still is.
   pub receipts : duty.after.seat.receipts ≡ duty.before.seat.receipts ++ gained_in_turn kept duty.before visits duty.after in_turn
   pub stays : StaysKept kept duty.before.committer duty.after.committer
 

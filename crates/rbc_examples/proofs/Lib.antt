@@ -24,4 +24,5 @@ pub mod RequestExamples
 pub mod ReplyExamples
 pub mod TrackLineExamples
 pub mod StepFunctionExamples
+pub mod UnitExamples
 mod AnswerExamples

@@ -84,7 +84,7 @@ refuses_overlong = refl
 pub refuses_tab : parse_session (codes "ask" ++ 9 ∷ codes "1") ≡ Err NotText
 refuses_tab = refl
 
--- commands are written in small letters; those of `rbc steps` are none
+-- commands are written in small letters; commands of `rbc steps` are none
 pub refuses_capital : parse_session (codes "Ask 1") ≡ Err Command
 refuses_capital = refl
 

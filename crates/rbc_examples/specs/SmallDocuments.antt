@@ -45,7 +45,7 @@ table_of _ = None
 abbrev pub small_document : Document Value
 small_document = record { as_number = number_of; as_text = text_of; as_list = items_of; as_table = table_of }
 
--- ---- the same from lists
+-- ---- documents from lists
 
 abbrev pub values_in : List Value → Values
 values_in [] = no_value

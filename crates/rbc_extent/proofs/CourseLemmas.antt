@@ -15,10 +15,6 @@ gained : (t : Bool) (line : Line) → t ≡ false → cond t None (Some line) �
 gained true line h = cc
 gained false line h = refl
 
-not_gained : (t : Bool) (line : Line) → t ≡ true → cond t None (Some line) ≡ None
-not_gained true line h = refl
-not_gained false line h = cc
-
 module _ (locks : Locks) (line : Line) where
   -- ---- ahead
 
@@ -31,12 +27,6 @@ module _ (locks : Locks) (line : Line) where
   pub ahead-gains : (last leg : Leg) → last_leg line ≡ Some last → next locks last ≡ Some leg → has_section line leg.section ≡ false → Some (line ++ leg ∷ []) ≡ longer_ahead locks line
   ahead-gains last leg e f h = sym (ahead_is last (Some leg) e f ∙ gained (has_section line leg.section) (line ++ leg ∷ []) h)
 
-  pub ahead-ends : (last : Leg) → last_leg line ≡ Some last → next locks last ≡ None → None ≡ longer_ahead locks line
-  ahead-ends last e f = sym (ahead_is last None e f)
-
-  pub ahead-returns : (last leg : Leg) → last_leg line ≡ Some last → next locks last ≡ Some leg → has_section line leg.section ≡ true → None ≡ longer_ahead locks line
-  ahead-returns last leg e f h = sym (ahead_is last (Some leg) e f ∙ not_gained (has_section line leg.section) (line ++ leg ∷ []) h)
-
   -- ---- back
 
   abbrev gain_back : Leg → Option Line
@@ -47,12 +37,6 @@ module _ (locks : Locks) (line : Line) where
 
   pub back-gains : (first leg : Leg) → first_leg line ≡ Some first → prev locks first ≡ Some leg → has_section line leg.section ≡ false → Some (leg ∷ line) ≡ longer_back locks line
   back-gains first leg e f h = sym (back_is first (Some leg) e f ∙ gained (has_section line leg.section) (leg ∷ line) h)
-
-  pub back-ends : (first : Leg) → first_leg line ≡ Some first → prev locks first ≡ None → None ≡ longer_back locks line
-  back-ends first e f = sym (back_is first None e f)
-
-  pub back-returns : (first leg : Leg) → first_leg line ≡ Some first → prev locks first ≡ Some leg → has_section line leg.section ≡ true → None ≡ longer_back locks line
-  back-returns first leg e f h = sym (back_is first (Some leg) e f ∙ not_gained (has_section line leg.section) (leg ∷ line) h)
 
 -- ---- such a leg is of the track and linked
 
@@ -71,8 +55,3 @@ module _ (track : Track) (locks : Locks) (good : IsGoodLocks track locks) where
 
   pub next-linked : (line : Line) (last leg : Leg) → last_leg line ≡ Some last → next locks last ≡ Some leg → (other : Leg) → last_leg line ≡ Some other → IsTrue (is_linked track other leg)
   next-linked line last leg e h other f = subst (λ (z : Leg). IsTrue (is_linked track z leg)) (the_some last other (sym e ∙ f)) (linked_next last leg h)
-
-  pub prev-linked : (line : Line) (first leg : Leg) → first_leg line ≡ Some first → prev locks first ≡ Some leg → (other : Leg) → first_leg line ≡ Some other → IsTrue (is_linked track leg other)
-  prev-linked line first leg e h other f = subst (λ (z : Leg). IsTrue (is_linked track leg z)) (the_some first other (sym e ∙ f)) (linked_prev first leg h)
-
--- ---- the set of sections with one more

@@ -41,7 +41,7 @@ module _ (track : Track) (locks : Locks) (known : Option Line) (report : Report)
   abbrev at_group : BaliseGroup → Result Finding Refusal
   at_group group = locating_step track locks (leg_told group report) known >>= at_start group
 
-  -- the same by cases
+  -- the placing by cases
   abbrev from_covered : BaliseGroup → Option Line → Result Placed Refusal
   from_covered group None = Err Unplaced
   from_covered group (Some line) = placed_on track group report line

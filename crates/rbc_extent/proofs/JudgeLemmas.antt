@@ -66,33 +66,11 @@ dropping-begin told start rear sections none has is all = record {
   few = omega (arith, length-line start.line.track start.line.legs is);
 }
 
--- the first leg stays
-stays_by : (t : Bool) (n m : ℕ) → t ≡ true → min (cond (not t) (1 + n) 0) m ≡ 0
-stays_by true n m h = omega arith
-stays_by false n m h = cc
-
-left-told : (track : Track) (told : Leg) (left : ℕ) (line : Line) (first : Leg) → first_leg line ≡ Some first → leg_eq told first ≡ true → left_of track told left line ≡ line
-left-told track told left [] first e h = cc
-left-told track told left (leg ∷ line) first e h =
-    ap (λ k. drop k (leg ∷ line))
-    (stays_by (leg_eq told leg) (position_or_len (leg_eq told) line) (legs_ending_by track left (leg ∷ line)) (ap (leg_eq told) (the_some leg first e) ∙ h))
-
-lies_by : (t : Bool) (n m : ℕ) → t ≡ true → min n (cond t 0 (1 + m)) ≡ 0
-lies_by true n m h = omega arith
-lies_by false n m h = cc
-
 pub lt_test : (a b : ℕ) → a < b → nat_lt a b ≡ true
 lt_test a b h = grind arith
 
 pub ge_test : (a b : ℕ) → b ≤ a → nat_lt a b ≡ false
 ge_test a b h = grind arith
-
-left-rear : (track : Track) (told : Leg) (left : ℕ) (line : Line) (first : Leg) → first_leg line ≡ Some first → left < metres_of track first.section → left_of track told left line ≡ line
-left-rear track told left [] first e h = cc
-left-rear track told left (leg ∷ line) first e h =
-    ap (λ k. drop k (leg ∷ line))
-    (lies_by (nat_lt left (metres_of track leg.section)) (position_or_len (leg_eq told) (leg ∷ line)) (legs_ending_by track (left - metres_of track leg.section) line)
-    (lt_test left (metres_of track leg.section) (let s : metres_of track leg.section ≡ metres_of track first.section = ap (λ (l : Leg). metres_of track l.section) (the_some leg first e) in omega arith)))
 
 -- it goes
 goes_by : (t u : Bool) (n m : ℕ) → t ≡ false → u ≡ false → min (cond (not t) (1 + n) 0) (cond u 0 (1 + m)) ≡ suc (min n m)
@@ -126,15 +104,6 @@ several-told told [] first e h has = cc
 several-told told (leg ∷ line) first e h has = let k = some_with_leg line told (told-goes told (leg ∷ line) first e h has) in omega arith
 
 module _ (told : Leg) (start : Walked) (rear sections : ℕ) where
-  pub dropping-told : (dropped left : ℕ) (now : Walked) (first : Leg) → IsDropping told start rear sections dropped left now → first_leg now.line.legs ≡ Some first → leg_eq told first ≡ true → now.line.legs ≡ left_of start.line.track told rear start.line.legs
-  dropping-told dropped left now first d e h = sym (left-told start.line.track told left now.line.legs first e h) ∙ d.rest
-
-  pub dropping-rear : (dropped left metres : ℕ) (now : Walked) (first : Leg) → IsDropping told start rear sections dropped left now → first_leg now.line.legs ≡ Some first → metres ≡ metres_of now.line.track first.section → left < metres
-      → now.line.legs ≡ left_of start.line.track told rear start.line.legs
-  dropping-rear dropped left metres now first d e m low =
-      let s : metres_of now.line.track first.section ≡ metres_of start.line.track first.section = ap (λ (t : Track). metres_of t first.section) d.way.track in
-      sym (left-rear start.line.track told left now.line.legs first e (omega arith)) ∙ d.rest
-
   pub dropping-more : (dropped left metres : ℕ) (now next : Walked) (first : Leg) → IsDropping told start rear sections dropped left now → first_leg now.line.legs ≡ Some first → leg_eq told first ≡ false → metres ≡ metres_of now.line.track first.section → metres ≤ left
       → IsSameWay now next → next.behind ≡ 0 → next.line.legs ≡ drop 1 now.line.legs → IsDropping told start rear sections (dropped + 1) (left - metres) next
   dropping-more dropped left metres now next first d e h m low way none is =
@@ -152,9 +121,6 @@ module _ (told : Leg) (start : Walked) (rear sections : ℕ) where
         few = let f = d.few in let n : length next.line.legs ≡ length (drop 1 now.line.legs) = ap length is in omega (arith, length-drop 1 now.line.legs);
       }
 
-  pub dropping-out : (dropped left : ℕ) (now : Walked) → IsDropping told start rear sections dropped left now → sections ≤ dropped → ⊥
-  dropping-out dropped left now d low = let some = some_with_leg now.line.legs told d.has in let f = d.few in absurd (omega arith)
-
 -- ---- while a walk goes back to the rear
 
 pub record IsBackFrom (group : BaliseGroup) (report : Report) (start : Walked) (beyond sections added : ℕ) (now : Walked) : Type 0 where
@@ -165,14 +131,6 @@ pub record IsBackFrom (group : BaliseGroup) (report : Report) (start : Walked) (
   pub beyond_is : origin_on start.line.track group report now.line.legs + beyond ≡ line_length start.line.track now.line.legs
 
 module _ (group : BaliseGroup) (report : Report) (start : Walked) (beyond sections : ℕ) where
-  pub back-begin : sections ≡ length start.line.track.sections → has_leg start.line.legs (leg_told group report) ≡ true → origin_on start.line.track group report start.line.legs + beyond ≡ line_length start.line.track start.line.legs → IsBackFrom group report start beyond sections 0 start
-  back-begin all has e = record {
-    rest = ap (λ n. lengthened n (longer_back start.locks) (has_rear start.line.track group report) start.line.legs) (let s : sections - 0 ≡ length start.line.track.sections = omega arith in s);
-    way = same_way start;
-    told = has;
-    beyond_is = e;
-  }
-
   pub back-length : (added metres : ℕ) (now : Walked) → IsBackFrom group report start beyond sections added now → metres ≡ line_length now.line.track now.line.legs → metres ≡ origin_on start.line.track group report now.line.legs + beyond
   back-length added metres now b m = m ∙ ap (λ (t : Track). line_length t now.line.legs) b.way.track ∙ sym b.beyond_is
 
@@ -208,14 +166,6 @@ pub record IsOnFrom (group : BaliseGroup) (report : Report) (start : Walked) (fr
   pub front_is : front ≡ front_on start.line.track group report now.line.legs
 
 module _ (group : BaliseGroup) (report : Report) (start : Walked) (front sections : ℕ) where
-  pub on-begin : sections ≡ length start.line.track.sections → has_leg start.line.legs (leg_told group report) ≡ true → front ≡ front_on start.line.track group report start.line.legs → IsOnFrom group report start front sections 0 start
-  on-begin all has e = record {
-    rest = ap (λ n. lengthened n (longer_ahead start.locks) (has_front start.line.track group report) start.line.legs) (let s : sections - 0 ≡ length start.line.track.sections = omega arith in s);
-    way = same_way start;
-    told = has;
-    front_is = e;
-  }
-
   pub on-test : (added metres : ℕ) (now : Walked) → IsOnFrom group report start front sections added now → metres ≡ line_length now.line.track now.line.legs → nat_le front metres ≡ has_front start.line.track group report now.line.legs
   on-test added metres now b m =
       ap (λ f. nat_le f metres) b.front_is ∙ ap (nat_le (front_on start.line.track group report now.line.legs)) (m ∙ ap (λ (t : Track). line_length t now.line.legs) b.way.track)

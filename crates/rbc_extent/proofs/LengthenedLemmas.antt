@@ -32,11 +32,6 @@ module _ (longer : Line → Option Line) (test : Line → Bool) where
   pub rest-stuck : (n i : ℕ) (line : Line) → i < n → test line ≡ false → None ≡ longer line → None ≡ lengthened (n - i) longer test line
   rest-stuck n i line low h e = one_less n i line None low h e
 
-  pub rest-out : (n i : ℕ) (line : Line) (t : Bool) → n ≤ i → t ≡ test line → cond t (Some line) None ≡ lengthened (n - i) longer test line
-  rest-out n i line t low e =
-      ap (λ (b : Bool). cond b (Some line) None) e
-      ∙ ap (λ j. lengthened j longer test line) (let s : 0 ≡ n - i = omega arith in s)
-
 module _ (longer : Line → Option Line) (test : Line → Bool) (n : ℕ) (start : Line) where
   -- some legs were added to the line that it started as, and the test has not passed yet
   pub record IsUnderWay (added : ℕ) (line : Line) : Type 0 where

@@ -10,7 +10,7 @@ use Rattle.rbc_model.specs.Answers.{RefusesOrMemory}
 use Rattle.rbc_model.specs.declared.memory.OrMemory.{OrMemory}
 use Rattle.rbc_model.specs.declared.memory.OrMemory.TheVariants.{Refused, Memory}
 
--- the same refusal, or memory
+-- what refuses one call refuses another, or memory was refused
 pub refuses-weaker : {X Y E : Type 0} (fault : OrMemory E) (a : Result X E) (b : Result Y E) → ((refusal : E) → a ≡ Err refusal → b ≡ Err refusal) → RefusesOrMemory fault a → RefusesOrMemory fault b
 refuses-weaker (Refused refusal) a b h r = h refusal r
 refuses-weaker Memory a b h r = tt

@@ -1,5 +1,5 @@
 -- Walks: what one leg more or less makes of the legs walked along, and where a section stands among them.
-use Rattle.std.proofs.Common.{◌≡◌, ℕ, zero, suc, ◌+◌, ◌-◌, ◌<◌, ◌≤◌, Bool, true, false, ◌||◌, [], ◌∷◌, ◌++◌, length, drop, take, Option, Some, None, refl, ap, sym, ◌∙◌, subst, arith, length-append, append_assoc}
+use Rattle.std.proofs.Common.{◌≡◌, ℕ, zero, suc, ◌+◌, ◌-◌, ◌<◌, ◌≤◌, Bool, true, false, ◌||◌, [], ◌∷◌, ◌++◌, length, take, Option, Some, None, refl, ap, sym, ◌∙◌, subst, arith, length-append, append_assoc}
 use Rattle.std.specs.Prelude.{◌==◌}
 use Rattle.std.specs.Option.{option_map_or}
 use Rattle.rbc_model.specs.declared.places.Leg.{Leg}
@@ -15,7 +15,6 @@ use Rattle.rbc_scene_laws.proofs.SpotLemmas.{line_length-append}
 use Rattle.rbc_scene_laws.proofs.OnLineLemmas.{OnLine, OnLine-IsLine, IsLine-OnLine, OnLine-push, OnLine-cons, OnLine-right, has_section-append}
 use Rattle.rbc_extent.specs.Walks.{legs_ahead, legs_behind, head, walked_legs, IsWalk}
 use Rattle.rbc_extent.proofs.CourseLemmas.{next-below, prev-below}
-use Rattle.std.proofs.lemmas.Bool.{or_right}
 use Rattle.rbc_model.proofs.MetreLemmas.{line_length-cons}
 use Rattle.rbc_model.proofs.StopLemmas.{last_leg-push}
 
@@ -80,18 +79,8 @@ module _ (locks : Locks) where
   -- ---- where a section stands
 
   module _ (section : ℕ) where
-    pub ahead-ended : (n : ℕ) (leg : Leg) → next locks leg ≡ None → has_section (legs_ahead locks leg n) section ≡ false
-    ahead-ended zero leg h = refl
-    ahead-ended (suc n) leg h = ap (λ (o : Option Leg). has_section (option_map_or (λ (m : Leg). m ∷ legs_ahead locks m n) o []) section) h
-
     ahead-next : (n : ℕ) (leg more : Leg) → next locks leg ≡ Some more → has_section (legs_ahead locks leg (suc n)) section ≡ (more.section == section || has_section (legs_ahead locks more n) section)
     ahead-next n leg more h = ap (λ (o : Option Leg). has_section (option_map_or (λ (m : Leg). m ∷ legs_ahead locks m n) o []) section) h
-
-    pub ahead-here : (n i : ℕ) (leg more : Leg) → i < n → next locks leg ≡ Some more → (more.section == section) ≡ true → has_section (legs_ahead locks leg (n - i)) section ≡ true
-    ahead-here n i leg more low h e =
-        ap (λ k. has_section (legs_ahead locks leg k) section) (let s : n - i ≡ suc (n - (i + 1)) = omega arith in s)
-        ∙ ahead-next (n - (i + 1)) leg more h
-        ∙ ap (λ (t : Bool). t || has_section (legs_ahead locks more (n - (i + 1))) section) e
 
     pub ahead-later : (n i : ℕ) (leg more : Leg) → i < n → next locks leg ≡ Some more → (more.section == section) ≡ false → has_section (legs_ahead locks more (n - (i + 1))) section ≡ has_section (legs_ahead locks leg (n - i)) section
     ahead-later n i leg more low h e =
@@ -100,30 +89,14 @@ module _ (locks : Locks) where
         ∙ ahead-next (n - (i + 1)) leg more h
         ∙ ap (λ (t : Bool). t || has_section (legs_ahead locks more (n - (i + 1))) section) e)
 
-    pub ahead-all : (n i : ℕ) (leg : Leg) → n ≤ i → has_section (legs_ahead locks leg (n - i)) section ≡ false
-    ahead-all n i leg low = ap (λ k. has_section (legs_ahead locks leg k) section) (let s : n - i ≡ 0 = omega arith in s)
-
-    pub behind-ended : (n : ℕ) (leg : Leg) → prev locks leg ≡ None → has_section (legs_behind locks leg n) section ≡ false
-    behind-ended zero leg h = refl
-    behind-ended (suc n) leg h = ap (λ (o : Option Leg). has_section (option_map_or (λ (b : Leg). legs_behind locks b n ++ b ∷ []) o []) section) h
-
     behind-prev : (n : ℕ) (leg more : Leg) → prev locks leg ≡ Some more → has_section (legs_behind locks leg (suc n)) section ≡ (has_section (legs_behind locks more n) section || (more.section == section || false))
     behind-prev n leg more h =
         ap (λ (o : Option Leg). has_section (option_map_or (λ (b : Leg). legs_behind locks b n ++ b ∷ []) o []) section) h
         ∙ has_section-append (legs_behind locks more n) (more ∷ []) section
 
-    or_true : (t u : Bool) → u ≡ true → (t || (u || false)) ≡ true
-    or_true t u e = or_right t (u || false) (ap (λ (v : Bool). v || false) e)
-
     or_nothing : (t u : Bool) → u ≡ false → (t || (u || false)) ≡ t
     or_nothing true u e = refl
     or_nothing false u e = ap (λ (v : Bool). v || false) e
-
-    pub behind-here : (n i : ℕ) (leg more : Leg) → i < n → prev locks leg ≡ Some more → (more.section == section) ≡ true → has_section (legs_behind locks leg (n - i)) section ≡ true
-    behind-here n i leg more low h e =
-        ap (λ k. has_section (legs_behind locks leg k) section) (let s : n - i ≡ suc (n - (i + 1)) = omega arith in s)
-        ∙ behind-prev (n - (i + 1)) leg more h
-        ∙ or_true (has_section (legs_behind locks more (n - (i + 1))) section) (more.section == section) e
 
     pub behind-later : (n i : ℕ) (leg more : Leg) → i < n → prev locks leg ≡ Some more → (more.section == section) ≡ false → has_section (legs_behind locks more (n - (i + 1))) section ≡ has_section (legs_behind locks leg (n - i)) section
     behind-later n i leg more low h e =
@@ -132,18 +105,9 @@ module _ (locks : Locks) where
         ∙ behind-prev (n - (i + 1)) leg more h
         ∙ or_nothing (has_section (legs_behind locks more (n - (i + 1))) section) (more.section == section) e)
 
-    pub behind-all : (n i : ℕ) (leg : Leg) → n ≤ i → has_section (legs_behind locks leg (n - i)) section ≡ false
-    behind-all n i leg low = ap (λ k. has_section (legs_behind locks leg k) section) (let s : n - i ≡ 0 = omega arith in s)
-
   -- ---- all legs
 
   module _ (known : Line) (turn : Leg) where
-    pub walked-has : (behind ahead section : ℕ)
-        → has_section (walked_legs locks known turn behind ahead) section ≡ (has_section (legs_behind locks (head known turn) behind) section || (has_section known section || (turn.section == section || has_section (legs_ahead locks turn ahead) section)))
-    walked-has behind ahead section =
-        has_section-append (legs_behind locks (head known turn) behind) (known ++ turn ∷ legs_ahead locks turn ahead) section
-        ∙ ap (λ (t : Bool). has_section (legs_behind locks (head known turn) behind) section || t) (has_section-append known (turn ∷ legs_ahead locks turn ahead) section)
-
     walked-length : (behind ahead : ℕ) → length (walked_legs locks known turn behind ahead) ≡ length (legs_behind locks (head known turn) behind) + (length known + (1 + length (legs_ahead locks turn ahead)))
     walked-length behind ahead =
         omega (arith, length-append (legs_behind locks (head known turn) behind) (known ++ turn ∷ legs_ahead locks turn ahead), length-append known (turn ∷ legs_ahead locks turn ahead))
@@ -260,10 +224,6 @@ module _ (track : Track) (locks : Locks) (turn : Leg) (ahead : ℕ) (first last 
   abbrev line_of : Line → Line
   line_of known = known ++ turn ∷ legs_ahead locks turn ahead
 
-  pub walk-shorter : (known : Line) → IsWalk track locks known turn 0 ahead first last metres → less ≡ metres_of track first.section → less ≤ metres
-  walk-shorter [] w e = let m = w.long in let f = the_some turn first w.begins in let s : metres_of track turn.section ≡ metres_of track first.section = ap (λ (l : Leg). metres_of track l.section) f in omega (arith, line_length-cons track turn (legs_ahead locks turn ahead))
-  walk-shorter (leg ∷ known) w e = let m = w.long in let f = the_some leg first w.begins in let s : metres_of track leg.section ≡ metres_of track first.section = ap (λ (l : Leg). metres_of track l.section) f in omega (arith, line_length-cons track leg (line_of known))
-
   some_later : (known : Line) → 0 < length (line_of known)
   some_later [] = omega arith
   some_later (leg ∷ known) = omega arith
@@ -331,7 +291,7 @@ module _ (track : Track) (locks : Locks) (turn : Leg) (first last : Leg) (metres
         long = (let m = w.long in let l : line_length track (turn ∷ legs_ahead locks turn ahead) ≡ line_length track (turn ∷ h.leg ∷ legs_ahead locks h.leg (ahead - 1)) = ap (line_length track) all in omega (arith, line_length-cons track turn (h.leg ∷ legs_ahead locks h.leg (ahead - 1))));
       }
 
--- ---- the same, as the code says it
+-- ---- as the code says it
 
 module _ (track : Track) (locks : Locks) (turn : Leg) (behind ahead : ℕ) (first last : Leg) (metres less : ℕ) (none : behind ≡ 0) where
   abbrev At : Line → Leg → ℕ → ℕ → Leg → ℕ → Type 0
@@ -355,16 +315,3 @@ module _ (track : Track) (locks : Locks) (turn : Leg) (behind ahead : ℕ) (firs
       let v = walk-turned track locks turn first last metres less ahead t (subst (λ n. At [] turn n ahead first metres) none w) m in
       subst (λ (l : Leg). At [] l behind (ahead - 1) l (metres - less)) (the_some t.leg leg (sym t.is ∙ e)) (subst (λ n. At [] t.leg n (ahead - 1) t.leg (metres - less)) (sym none) v)
   walk-turns (a ∷ known) leg h several e w m = absurd (omega arith)
-
-  -- and which legs these are
-  pub turned-legs : (known : Line) (leg : Leg) → length known ≡ 0 → 1 < length (walked_legs locks known turn behind ahead) → next locks turn ≡ Some leg → At known turn behind ahead first metres
-      → walked_legs locks known leg behind (ahead - 1) ≡ drop 1 (walked_legs locks known turn behind ahead)
-  turned-legs [] leg h several e w =
-      let t = turned-next [] h several w in
-      let legs : Leg → ℕ → Line = λ l n. legs_behind locks l n ++ l ∷ legs_ahead locks l (ahead - 1) in
-      let was : ℕ → Line = λ n. drop 1 (legs_behind locks turn n ++ turn ∷ legs_ahead locks turn ahead) in
-      ap (legs leg) none
-      ∙ ap (λ (l : Leg). legs l 0) (sym (the_some t.leg leg (sym t.is ∙ e)))
-      ∙ sym t.later
-      ∙ ap was (sym none)
-  turned-legs (a ∷ known) leg h several e w = absurd (omega arith)

@@ -1,5 +1,5 @@
 //! Reports judged without memory. The line of a report is walked along and not built, which is slow. This is done where
-//! there was no memory for the line, so that a report that is not placed is refused all the same.
+//! there was no memory for the line, so that a report that is not placed is refused nevertheless.
 
 ghost use Rattle.std.specs.Prelude.{◌≡◌, ◌+◌, ◌<◌, ◌≤◌, length, drop, min, None, Some, IsTrue, true, false, is_some, if◌then◌else◌};
 ghost use Rattle.std.specs.Arc.{arc_value};

@@ -14,7 +14,7 @@ use rbc_model::{Memory, Report, TrainId};
 use std::alloc::Global;
 use std::marker::Model;
 
-/// An authority, from one place up to another, which is left out. Empty ones are from a place to the same.
+/// An authority, from one place up to another, which is left out. Empty ones are from a place to itself.
 #[derive(Clone, Copy)]
 pub(crate) struct Authority {
     pub(crate) from: u32,

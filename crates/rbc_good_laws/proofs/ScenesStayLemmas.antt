@@ -43,7 +43,7 @@ use Rattle.rbc_good_laws.proofs.ToldLemmas.{told_scenes_decided}
 use Rattle.rbc_good_laws.proofs.StayLemmas.{RowsAreNeeded, after_told, count_replaced, count_reported, cut_report, cut_told, granted_told, last_report, rows_locked}
 
 module _ (track : Track) (sound : IsSound track) where
-  -- the same, with the trains by recursion
+  -- the scene stands as told, with the trains by recursion
   record Stands (scene : Scene) : Type 0 where
     rows : RowsAreNeeded track scene.locks
     trains : AllByRecursion (StandsAsTold track) scene.trains

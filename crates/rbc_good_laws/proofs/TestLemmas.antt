@@ -36,9 +36,6 @@ module _ (track : Track) (a b : Train) where
   Apart : Type 0
   Apart = (metre : Metre) → IsMetreOf track metre → IsTrue (authority_has track metre a) → IsTrue (authority_has track metre b) → ⊥
 
-  rising : ℕ → Leg
-  rising section = record { section = section; direction = Rising }
-
   -- a train has an offset of a section in its authority exactly where it lies in what it holds there
   has_offset : (train : Train) (metre : Metre) → IsMetreOf track metre → authority_has track metre train ≡ lies_in (offsets_held track metre.section train) metre.offset
   has_offset train metre inside = authority_has-span track (record { section = metre.section; direction = Rising }) metre.offset train inside

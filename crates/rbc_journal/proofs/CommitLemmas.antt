@@ -1,11 +1,11 @@
 -- A commit, device call by device call.
-use Rattle.std.proofs.Common.{◌≡◌, inl, ℕ, ◌+◌, ◌≤◌, List, [], ◌∷◌, ◌++◌, length, ◌∙◌, ap, subst, arith}
+use Rattle.std.proofs.Common.{◌≡◌, inl, ℕ, ◌+◌, List, [], ◌∷◌, ◌++◌, length, ◌∙◌, ap, subst}
 use Rattle.rbc_journal.specs.Device.{Holds, Torn, Follows, Only, Elapses, LeavesOnly}
 use Rattle.rbc_journal.specs.Gates.{counted, at_rest, staged_in, CountsBeforeOrAfter}
 use Rattle.rbc_journal.specs.Settled.{Waits}
 use Rattle.rbc_journal.proofs.LineLemmas.{are_lines}
 use Rattle.rbc_journal.proofs.MomentLemmas.{started, goes_on}
-use Rattle.rbc_journal.proofs.CrashLemmas.{with_behind, length-at_rest, length-with_behind, written_behind, written_gate, stage_crash, gate_crash}
+use Rattle.rbc_journal.proofs.CrashLemmas.{with_behind, written_behind, written_gate, stage_crash, gate_crash}
 
 module _ {D : Type 0} (seen : D → List ℕ) (may_leave : D → List ℕ → Type 0) (moment : D → ℕ) (left_since : D → ℕ → List ℕ → Type 0)
     (only_now : (file : D) (c : List ℕ) → left_since file (moment file) c → may_leave file c)
@@ -21,9 +21,6 @@ module _ {D : Type 0} (seen : D → List ℕ) (may_leave : D → List ℕ → Ty
 
   abbrev Goes : D → D → Type 0
   Goes one other = Elapses (moment one) (moment other) (left_since one) (left_since other) (may_leave other)
-
-  pub begins_within : gate + 1 ≤ length (seen old)
-  begins_within = omega (arith, ap length waits.file, length-at_rest lines gate waits.at (are_lines (seen old)))
 
   at_start : LeavesOnly moment left_since old old P
   at_start = started moment left_since old P (λ c left. inl (ap counted (waits.durable c (only_now old c left))))
@@ -44,9 +41,6 @@ module _ {D : Type 0} (seen : D → List ℕ) (may_leave : D → List ℕ → Ty
       module _ (holds : Holds (seen old) (gate + 1) bytes (seen written)) (same : seen kept ≡ seen written) (durable : Only (seen written) (may_leave kept)) where
         is_behind : seen written ≡ with_behind lines bytes
         is_behind = written_behind lines gate waits.at (are_lines (seen old)) bytes (seen written) (subst (λ f. Holds f (gate + 1) bytes (seen written)) waits.file holds)
-
-        pub gate_within : gate ≤ length (seen kept)
-        gate_within = omega (arith, ap length (same ∙ is_behind), length-with_behind lines gate waits.at (are_lines (seen old)) bytes)
 
         module _ (opened : D) (tears_gate : Follows (Torn gate 1) (may_leave kept) (may_leave opened)) (further : Goes kept opened) where
           second : (c : List ℕ) → may_leave opened c → P c

@@ -1,9 +1,9 @@
 -- How the first lines of a file are read.
-use Rattle.std.proofs.Common.{◌≡◌, ℕ, ◌-◌, ◌<◌, Bool, true, false, List, [], ◌∷◌, ◌++◌, length, All, Some, None, take, drop, refl, sym, ◌∙◌, ap, subst, arith, length-append, take-append-drop, codes, ◌||◌, if◌then◌else◌, ◌&&◌, ◌==◌, nat_lt}
+use Rattle.std.proofs.Common.{◌≡◌, ℕ, ◌-◌, Bool, true, false, List, [], ◌∷◌, ◌++◌, length, All, Some, None, take, drop, refl, sym, ◌∙◌, ap, subst, arith, length-append, take-append-drop, codes, ◌||◌, if◌then◌else◌, ◌&&◌, ◌==◌, nat_lt}
 use Rattle.std.specs.Prelude.{not, bytes_eq}
 use Rattle.std.specs.List.{list_any}
-use Rattle.std.proofs.lemmas.Bool.{and_left, and_right, lt-ltb, eqb-true, or_right}
-use Rattle.std.proofs.lemmas.List.{append-nil, take_at, drop_at}
+use Rattle.std.proofs.lemmas.Bool.{and_left, and_right, eqb-true, or_right}
+use Rattle.std.proofs.lemmas.List.{take_at}
 use Rattle.std.proofs.lemmas.List.Folds.{list_any-append}
 use Rattle.std.proofs.lemmas.List.Elements.{All-nil, All-cons}
 use Rattle.std.proofs.lemmas.Slice.Eq.{bytes_eq-Decides}
@@ -11,9 +11,9 @@ use Rattle.rbc_journal.specs.Gates.{counted, text, IsLine}
 use Rattle.rbc_journal.specs.Seals.{is_comment, seal_line, seal_of}
 use Rattle.rbc_journal.specs.Headers.{title, track_mark, named_in_header, header, behind_mark, sized, is_header, digest_in}
 use Rattle.rbc_journal.specs.Puts.{BeginsWithHeader}
-use Rattle.rbc_journal.specs.Reading.{is_first_format, tail_of}
+use Rattle.rbc_journal.specs.Reading.{is_first_format}
 use Rattle.rbc_journal.proofs.LineLemmas.{counted-line}
-use Rattle.rbc_journal.proofs.PutLemmas.{text-snoc, lines_short}
+use Rattle.rbc_journal.proofs.PutLemmas.{text-snoc}
 
 -- ---- a journal of the format before
 
@@ -43,33 +43,6 @@ with_comment bytes tail lines line rest after read found is =
     let any : list_any is_comment (counted bytes) ≡ true =
     ap (list_any is_comment) (read ∙ ap (λ (l : List (List ℕ)). lines ++ l) found) ∙ some_comment lines line (counted after) is in
     sym (no_first (nat_lt 0 (length (counted bytes))) (list_any is_comment (counted bytes)) (bytes_eq tail (35 ∷ [])) any)
-
-module _ (bytes : List ℕ) (lines : List (List ℕ)) (rest : List ℕ) (split : bytes ≡ text lines ++ rest) (read : counted bytes ≡ lines ++ counted rest) (end : counted rest ≡ []) where
-  all_lines : counted bytes ≡ lines
-  all_lines = read ∙ ap (λ (l : List (List ℕ)). lines ++ l) end ∙ append-nil lines
-
-  rest_tail : tail_of bytes ≡ rest
-  rest_tail =
-      ap (λ (l : List (List ℕ)). drop (length (text l)) bytes) all_lines ∙ ap (λ (l : List ℕ). drop (length (text lines)) l) split
-      ∙ drop_at (text lines) rest (length (text lines)) refl
-
-  pub without_lines : length rest ≡ length bytes → false ≡ is_first_format (counted bytes) (tail_of bytes)
-  without_lines same =
-      let none : length lines ≡ 0 = omega (arith, lines_short lines, ap length split, length-append (text lines) rest) in
-      sym (and_left (nat_lt 0 (length (counted bytes)) && not (list_any is_comment (counted bytes))) (bytes_eq (tail_of bytes) (35 ∷ []))
-      (and_left (nat_lt 0 (length (counted bytes))) (not (list_any is_comment (counted bytes))) (ap (nat_lt 0) (ap length all_lines ∙ none))))
-
-  pub with_lines : (length rest ≡ length bytes → ⊥) → list_any is_comment lines ≡ false → bytes_eq rest (35 ∷ []) ≡ is_first_format (counted bytes) (tail_of bytes)
-  with_lines some none =
-      let any : list_any is_comment (counted bytes) ≡ false = ap (list_any is_comment) all_lines ∙ none in
-      let long : 0 < length (counted bytes) = subst (λ (l : List (List ℕ)). 0 < length l) (sym all_lines) (at_least lines (λ nil. some (sym (ap length (split ∙ ap (λ (l : List (List ℕ)). text l ++ rest) nil))))) in
-      sym (ap (λ (b : Bool). b && not (list_any is_comment (counted bytes)) && bytes_eq (tail_of bytes) (35 ∷ [])) (lt-ltb 0 (length (counted bytes)) long)
-      ∙ ap (λ (b : Bool). not b && bytes_eq (tail_of bytes) (35 ∷ [])) any
-      ∙ ap (λ (l : List ℕ). bytes_eq l (35 ∷ [])) rest_tail)
-    where
-      at_least : (lines : List (List ℕ)) → (lines ≡ [] → ⊥) → 0 < length lines
-      at_least [] none = absurd (none refl)
-      at_least (line ∷ more) none = omega arith
 
 -- ---- the header's lines
 

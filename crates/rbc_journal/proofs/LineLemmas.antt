@@ -16,9 +16,6 @@ text-append (line ∷ a) b =
 
 -- ---- inside a line
 
-feed : (line rest : List ℕ) → lines_from (Some line) (10 ∷ rest) ≡ line ∷ counted rest
-feed line rest = refl
-
 pub no_feed : (line rest : List ℕ) (byte : ℕ) → byte ≢ 10 → lines_from (Some line) (byte ∷ rest) ≡ lines_from (Some (line ++ byte ∷ [])) rest
 no_feed line rest byte differs = grind (arith, nat_tests)
 
@@ -83,9 +80,6 @@ are_lines file = are_from None file tt
 -- ---- one byte after the other
 
 module _ (bytes : List ℕ) (at : ℕ) (within : at < length bytes) where
-  pub feed_at : get_or bytes at 0 ≡ 10 → lines_from (Some (take at bytes)) (drop at bytes) ≡ take at bytes ∷ counted (drop (at + 1) bytes)
-  feed_at is = ap (λ (l : List ℕ). lines_from (Some (take at bytes)) l) (drop_more bytes at 0 within ∙ ap (λ (b : ℕ). b ∷ drop (at + 1) bytes) is)
-
   pub more_at : get_or bytes at 0 ≢ 10 → lines_from (Some (take at bytes)) (drop at bytes) ≡ lines_from (Some (take (at + 1) bytes)) (drop (at + 1) bytes)
   more_at differs =
       ap (λ (l : List ℕ). lines_from (Some (take at bytes)) l) (drop_more bytes at 0 within)

@@ -106,7 +106,7 @@ put_chain whole before put seal inner form right =
     ∙ with_right whole before put seal form right
     ∙ ap (λ (w : List (List ℕ)). at_put w seal) (append_assoc whole put (seal_line seal ∷ []))
 
--- behind the same front
+-- behind one front
 pub same_behind : (front a b : List ℕ) → bytes_eq (front ++ a) (front ++ b) ≡ bytes_eq a b
 same_behind front a b = elim (cases_Bool (bytes_eq a b)) [
   | inl same ↦ same_bytes (front ++ a) (front ++ b) (ap (λ (l : List ℕ). front ++ l) ((bytes_eq-Decides a b).0 same)) ∙ sym same

@@ -1,5 +1,5 @@
 -- What a file with a right header is read as.
-use Rattle.std.proofs.Common.{◌≡◌, inl, inr, ℕ, ◌+◌, ◌-◌, ◌≤◌, Bool, false, List, [], ◌∷◌, ◌++◌, length, All, Some, None, Ok, Err, take, drop, refl, sym, ◌∙◌, ap, subst, arith, append_assoc, length-append, codes, if◌then◌else◌, ◌==◌}
+use Rattle.std.proofs.Common.{◌≡◌, inl, inr, ℕ, ◌+◌, ◌-◌, Bool, false, List, [], ◌∷◌, ◌++◌, length, All, Some, None, Ok, Err, take, drop, refl, sym, ◌∙◌, ap, subst, arith, append_assoc, length-append, codes, if◌then◌else◌, ◌==◌}
 use Rattle.std.specs.Prelude.{fold, bytes_eq}
 use Rattle.std.proofs.lemmas.Bool.{cases_eq, eq-eqb, ne_eqb, and_from}
 use Rattle.std.proofs.lemmas.List.{append-nil, take_at, drop_at}
@@ -65,9 +65,6 @@ dropped_shut seal (gate ∷ rest) dropped is = elim (cases_eq gate 32) [
 
 module _ (bytes digest behind : List ℕ) (puts : List (List ℕ)) (seal rest : List ℕ) (begins : BeginsWithHeader bytes digest behind) (are : ArePuts (seal_in digest) behind puts seal rest)
     (none : first_put seal [] (counted rest) ≡ None) where
-  abbrev all : List (List ℕ)
-  all = header digest ++ puts
-
   all_split : bytes ≡ text (header digest ++ puts) ++ rest
   all_split =
       begins.split ∙ ap (λ (l : List ℕ). text (header digest) ++ l) are.split ∙ sym (append_assoc (text (header digest)) (text puts) rest)
@@ -139,9 +136,6 @@ module _ (bytes digest behind : List ℕ) (puts : List (List ℕ)) (seal rest : 
   text_of =
       ap (λ (l : List ℕ). take (length bytes - length rest) l) all_split
       ∙ take_at (text (header digest ++ puts)) rest (length bytes - length rest) (omega (arith, ap length all_split, length-append (text (header digest ++ puts)) rest))
-
-  pub shorter : length rest ≤ length bytes
-  shorter = omega (arith, ap length all_split, length-append (text (header digest ++ puts)) rest)
 
   module _ (shown : List ℕ) (is_text : shown ≡ take (length bytes - length rest) bytes) where
     shown_is : shown ≡ text (header digest ++ puts)

@@ -1,23 +1,22 @@
 -- What stages a line.
 use Rattle.std.proofs.Common.{◌≡◌, ℕ, ◌-◌, ◌<◌, Bool, false, List, [], ◌∷◌, ◌++◌, length, All, Some, None, take, drop, refl, sym, ◌∙◌, ap, subst, arith, append_assoc, length-append, ◌==◌, if◌then◌else◌}
-use Rattle.std.specs.Prelude.{◌&&◌, not, is_ok, bytes_eq}
+use Rattle.std.specs.Prelude.{◌&&◌, is_ok, bytes_eq}
 use Rattle.std.proofs.lemmas.List.{take_at}
-use Rattle.std.proofs.lemmas.List.Elements.{All-nil, All-cons, All-append, All-weaker, filter-append}
+use Rattle.std.proofs.lemmas.List.Elements.{All-nil, All-cons, All-append, All-weaker}
 use Rattle.hex.specs.Hex.{decode_sized}
-use Rattle.rbc_journal.specs.Seals.{is_comment, has_seal_form}
-use Rattle.rbc_journal.specs.Journal.{told_of, IsTold, IsNote, IsPutLine}
+use Rattle.rbc_journal.specs.Seals.{has_seal_form}
+use Rattle.rbc_journal.specs.Journal.{IsTold, IsNote, IsPutLine}
 use Rattle.rbc_journal.specs.Gates.{counted, text, at_rest, behind, staged_in, IsLine}
 use Rattle.rbc_journal.proofs.LineLemmas.{text-append, are_lines, counted-at_rest}
 use Rattle.rbc_journal.proofs.CrashLemmas.{gate_behind}
 use Rattle.rbc_journal.proofs.PutLemmas.{Inner, All-snoc}
-use Rattle.rbc_journal.proofs.ToldLemmas.{told_line}
 
 -- what is staged for lines stands for just these
 pub staged-behind : (lines : List (List ℕ)) → All IsLine lines → staged_in (behind lines) ≡ lines
 staged-behind [] are = refl
 staged-behind (line ∷ lines) are = ap counted (gate_behind line lines) ∙ counted-at_rest (line ∷ lines) are
 
--- the same without the closed gate at its end
+-- what is staged for lines, without the closed gate at its end
 abbrev pub unfinished_behind : List ℕ → List (List ℕ) → List ℕ
 unfinished_behind line lines = line ++ 10 ∷ text lines
 
@@ -77,13 +76,6 @@ are_inner lines are = All-weaker IsPutLine Inner (λ line is. is.no_seal) lines 
 -- one line more may be staged
 pub put_more : (lines more : List (List ℕ)) (line : List ℕ) → more ≡ lines ++ line ∷ [] → All IsPutLine lines → IsPutLine line → All IsPutLine more
 put_more lines more line adds are is = subst (All IsPutLine) (sym adds) (All-snoc IsPutLine lines line are is)
-
-told_snoc : (lines : List (List ℕ)) (line : List ℕ) → told_of (lines ++ line ∷ []) ≡ told_of lines ++ told_of (line ∷ [])
-told_snoc lines line = filter-append (λ line. not (is_comment line)) lines (line ∷ [])
-
--- a line that is told is told behind the others
-pub told_more : (lines more : List (List ℕ)) (line : List ℕ) → more ≡ lines ++ line ∷ [] → is_comment line ≡ false → told_of more ≡ told_of lines ++ line ∷ []
-told_more lines more line adds is = ap told_of adds ∙ told_snoc lines line ∙ ap (λ (ls : List (List ℕ)). told_of lines ++ ls) (told_line line [] is)
 
 -- ---- one line more
 

@@ -28,7 +28,7 @@ text (line ∷ lines) = 32 ∷ line ++ 10 ∷ text lines
 abbrev pub at_rest : List (List ℕ) → List ℕ
 at_rest lines = text lines ++ 35 ∷ []
 
--- the same behind the first gate: what is written behind a closed gate for these lines
+-- what is written behind a closed gate for such lines: they at rest, without the first gate
 abbrev pub behind : List (List ℕ) → List ℕ
 behind [] = []
 behind (line ∷ lines) = line ++ 10 ∷ at_rest lines

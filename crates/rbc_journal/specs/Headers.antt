@@ -59,7 +59,7 @@ abbrev pub sized : ℕ → Option (List ℕ) → Option (List ℕ)
 sized size None = None
 sized size (Some bytes) = if length bytes == size then Some bytes else None
 
--- whether lines are those of a header of format 2 but for the digest: the first names the format, and the third is the right seal of both
+-- whether lines are a header of format 2 but for the digest: the first names the format, and the third is the right seal of both
 abbrev pub is_header : List ℕ → List ℕ → List ℕ → Bool
 is_header first second third = bytes_eq first (title ++ codes "2") && bytes_eq third (seal_line (seal_of [] (first ∷ second ∷ [])))
 

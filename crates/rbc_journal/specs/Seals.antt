@@ -27,7 +27,7 @@ has_seal_form [] = false
 has_seal_form (mark ∷ []) = false
 has_seal_form (mark ∷ space ∷ digits) = (mark == 35) && (space == 32) && is_ok (decode_sized digits 8)
 
--- Lines, read from the front: those of whole puts with their seals, the last seal, the lines behind it, and whether each seal was the right one. Behind a wrong
+-- Lines, read from the front: whole puts with their seals, the last seal, the lines behind it, and whether each seal was the right one. Behind a wrong
 -- one nothing is read.
 pub record Chain : Type 0 where
   pub whole : List (List ℕ)

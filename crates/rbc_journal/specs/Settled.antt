@@ -8,11 +8,11 @@ use Rattle.rbc_journal.specs.declared.journal.Journal.{Journal}
 use Rattle.rbc_journal.specs.declared.fault.JournalFault.{JournalFault}
 use Rattle.rbc_journal.specs.declared.fault.JournalFault.TheVariants.{Memory, Full, Device as File}
 
--- all lines that are staged, and not yet in the file: those that are told, and the notes behind them
+-- all lines that are staged, and not yet in the file: lines that are told, and the notes behind them
 abbrev pub staged_lines : {D : Type 0} → Journal D → List (List ℕ)
 staged_lines journal = staged_in journal.pending.items
 
--- those of them that are told
+-- the staged lines that are told
 abbrev pub staged : {D : Type 0} → Journal D → List (List ℕ)
 staged journal = told_of (staged_lines journal)
 

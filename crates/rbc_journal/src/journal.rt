@@ -16,7 +16,7 @@ use crate::seal::{DIGITS, SEAL_LINE, line_of, seal_of};
 use crate::{Device, DeviceFailed, JournalFault};
 use std::alloc::Global;
 
-/// What stands in a file beside a line: its gate and its line feed, and a seal with those of its own, in bytes.
+/// What stands in a file beside a line: its gate and its line feed, and a seal with its own gate and line feed, in bytes.
 const OVERHEAD: usize = SEAL_LINE + 4;
 
 /// The longest file that is opened, in bytes, and how long it may grow.
@@ -37,7 +37,7 @@ pub struct Journal<D: Device> {
 
 impl<D: Device> Journal<D> {
     /// Opens a journal of lines in whole puts, with the last of their seals: a new file with their text and a closed gate
-    /// takes the place of the file, which stands for the same. No line is staged. It may crash too.
+    /// takes the place of the file, which stands for these lines too. No line is staged. It may crash too.
     ///
     /// # Errors
     /// `Full`, before the file is asked for anything, or `Device`. The file comes back, with all that counts in it.

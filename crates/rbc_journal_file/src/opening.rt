@@ -77,7 +77,7 @@ pub fn open<'a, R: Files<File = File> + AllocGlobal>(
 /// The file of this path, locked, if there is one.
 ///
 /// # Errors
-/// Those of [`open`].
+/// The errors of [`open`].
 fn locked<R: Files<File = File>>(rt: &R, path: &str) -> Result<Option<File>, OpenFault> {
     if is_link(rt, path) {
         return Err(refused("a link that leads to no file"));

@@ -78,9 +78,6 @@ pub record Front (bytes rest : List ℕ) (count : ℕ) : Type 0 where
   pub are : All IsLine lines
   pub size : length lines ≡ count
 
-pub no_front : (bytes : List ℕ) → Front bytes bytes 0
-no_front bytes = record { lines = []; split = refl; read = refl; are = All-nil IsLine; size = refl }
-
 module _ (bytes rest : List ℕ) (count : ℕ) (front : Front bytes rest count) where
   pub next_front : (line after : List ℕ) → counted rest ≡ line ∷ counted after → rest ≡ 32 ∷ line ++ 10 ∷ after → IsLine line → Front bytes after (count + 1)
   next_front line after tells reads is = record {
@@ -93,9 +90,6 @@ module _ (bytes rest : List ℕ) (count : ℕ) (front : Front bytes rest count) 
     are = All-append IsLine front.lines (line ∷ []) front.are (All-cons IsLine line [] is (All-nil IsLine));
     size = omega (arith, front.size, length-append front.lines (line ∷ []));
   }
-
-  pub shorter : length rest ≤ length bytes
-  shorter = omega (arith, ap length front.split, length-append (text front.lines) rest)
 
   shown_text : take (length bytes - length rest) bytes ≡ text front.lines
   shown_text =

@@ -58,7 +58,7 @@ telling_by lines (Err fault) = Err fault
 abbrev pub telling_beside : Option (List ℕ) → List ℕ → Result Telling ReadFault
 telling_beside given file = telling_by (counted file) (reading file (unwrap_or given (own_digest file)))
 
--- the same where none is given; an error where it is no journal of format 2
+-- what is told of a file, where no digest is given; an error where it is no journal of format 2
 abbrev pub telling : List ℕ → Result Telling ReadFault
 telling file = telling_by (counted file) (reading file (own_digest file))
 

@@ -83,7 +83,7 @@ pub trait Watched {
     /// before.
     ///
     /// # Errors
-    /// Those of [`LookFailed`].
+    /// Its cases: [`LookFailed`].
     fn look(&mut self) -> Result<bool, LookFailed>
         ensures same { IfOk result (λ is_new. is_new ≡ false → found self.new ≡ found self.old) };
 

@@ -94,7 +94,7 @@ fn damage_of(fault: ReadFault) -> Option<u64>
 /// Whether a centre would go on from a file: on the track of the digest that is given, or of the one that the file names.
 ///
 /// # Errors
-/// Those of [`read`].
+/// The errors of [`read`].
 pub fn check(bytes: &[u8], given: Option<[u8; 64]>) -> Result<(), ReadFault>
     ensures { result ≡ checked (reading bytes.now (unwrap_or given (own_digest bytes.now))) }
 {
@@ -108,7 +108,7 @@ pub fn check(bytes: &[u8], given: Option<[u8; 64]>) -> Result<(), ReadFault>
 /// The digest of a track, whose file is read: at most 16,777,216 bytes.
 ///
 /// # Errors
-/// Those of [`read_whole`].
+/// The errors of [`read_whole`].
 pub fn digest_of<R: Source>(alloc: Global, reader: &mut R) -> Result<[u8; 64], WholeFault>
     requires { R.failed reader.old ≡ false }
     ensures digest { IfOk result (λ digest. (bytes : List ℕ) × Consumes (R.left reader.old) (R.left reader.new) bytes

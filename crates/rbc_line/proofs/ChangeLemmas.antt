@@ -4,11 +4,10 @@ use Rattle.std.proofs.lemmas.List.{take-append-drop, length-take-le, take_all}
 use Rattle.std.proofs.Math.Seq.{take-append_seam}
 use Rattle.rbc_model.specs.declared.places.Leg.{Leg}
 use Rattle.rbc_model.specs.Tracks.{Track, metres_of, is_linked}
-use Rattle.rbc_model.specs.SoundTracks.{IsInForm, IsSound}
-use Rattle.rbc_model.specs.Lines.{Line, IsLine, first_leg, has_section, last_leg, line_length}
+use Rattle.rbc_model.specs.Lines.{Line, first_leg, has_section, last_leg, line_length}
 use Rattle.rbc_scene_laws.proofs.BoundLemmas.{line_length-small}
 use Rattle.rbc_scene_laws.proofs.LengtheningLemmas.{linked_from_below, linked_to_below}
-use Rattle.rbc_scene_laws.proofs.OnLineLemmas.{OnLine-IsLine, IsLine-OnLine, OnLine-left, OnLine-right, OnLine-push, OnLine-cons, OnLine-one}
+use Rattle.rbc_scene_laws.proofs.OnLineLemmas.{OnLine-IsLine, IsLine-OnLine, OnLine-left, OnLine-right, OnLine-push, OnLine-cons}
 use Rattle.rbc_scene_laws.proofs.SpotLemmas.{line_length-append}
 use Rattle.rbc_line.specs.OnTracks.{IsLineOfLength}
 use Rattle.rbc_line.proofs.LegLemmas.{some_first}
@@ -19,9 +18,6 @@ module _ (track : Track) where
   -- a line's places fit its type
   pub length_at_most : (legs : Line) (total : ℕ) → IsLineOfLength track legs total → total ≤ 409600000
   length_at_most legs total l = omega (arith, line_length-small track legs l.sound l.form l.line, l.metres)
-
-  pub of_one : (leg : Leg) → IsInForm track → IsSound track → leg.section < length track.sections → IsLine track (leg ∷ [])
-  of_one leg form sound low = IsLine-OnLine track (leg ∷ []) (OnLine-one track leg low)
 
   -- ---- a leg more
 
@@ -81,7 +77,7 @@ module _ (track : Track) where
         metres = omega (arith, l.metres, parts_metres legs left);
       }
 
-  -- ---- the same, as the code says it
+  -- ---- as the code says it
 
   -- the legs from one index on are fewer metres than all
   pub rest_is : (legs : Line) (left : ℕ) → take (length legs - left) (drop left legs) ≡ drop left legs

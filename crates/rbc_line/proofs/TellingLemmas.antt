@@ -14,9 +14,6 @@ module _ {V : Type 0} where
   none_told [] h = refl
   none_told (row ∷ rows) h = let low = ltb-true row.0 0 (all_split (λ start. nat_lt start 0) row.0 (starts_of rows) h).0 in absurd (omega arith)
 
-  pub tells_none : (level : ℕ → Option V) → Tells [] 0 level
-  tells_none level = record { rising = λ h. absurd (omega arith); inside = refl; values = λ x h. absurd (omega arith) }
-
   -- one row more: at its start and behind it stands its value
   before_row : (rows : List (ℕ × V)) (n x : ℕ) (v : V) → x < n → value_at (rows ++ (n, v) ∷ []) x ≡ value_at rows x
   before_row rows n x v h = value_at-append rows ((n, v) ∷ []) x ∙ rw (lt-leb n x h) refl

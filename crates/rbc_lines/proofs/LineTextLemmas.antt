@@ -28,7 +28,7 @@ train_lines-cut track scene train =
     ap (λ l. first ++ l) (flat_map-append line_of way (stands_line train ∷ holds_line train ∷ next_line track scene train ∷ []))
     ∙ ap (λ l. first ++ (flat_map line_of way ++ (line_of (stands_line train) ++ (line_of (holds_line train) ++ l)))) (sym (one_line (next_line track scene train)))
 
--- the same of what is handed over
+-- the lines of a train, by the numbers that are handed over
 pub train_lines-is : (track : Track) (scene : Scene) (train : Train) (report : Report) (rear front from to : ℕ)
     → report ≡ train.report → rear ≡ train.rear → front ≡ train.front → from ≡ train.from → to ≡ train.to
     → flat_map line_of (train_lines track scene train)
@@ -82,7 +82,7 @@ scene_lines-cut track version scene =
     ∙ ap (λ l. first ++ (l ++ codes "done\n")) (flat_map-append line_of locks trains)
     ∙ ap (λ l. first ++ l) (append_assoc (flat_map line_of locks) (flat_map line_of trains) (codes "done\n"))
 
--- the same where the locks are handed over
+-- the lines of a scene, by the locks that are handed over
 pub scene_lines-is : (track : Track) (version : ℕ) (scene : Scene) (locks : Locks) → locks ≡ scene.locks
     → scene_lines track version scene
     ≡ line_of (codes "scene" ∷ decimal version ∷ [])

@@ -57,6 +57,6 @@ pub later_shorter : (legs more : Line) → (length legs == 0) ≡ false → more
 later_shorter [] more some back = absurd (let never : ⊥ = cc in never)
 later_shorter (leg ∷ legs) more some back = let shorter = ap length back ∙ length-drop 64 (leg ∷ legs) in omega arith
 
--- what holds of all legs holds of those of a piece, and of those behind it
+-- what holds of all legs holds of the legs of a piece, and of the legs behind it
 pub each_of_piece : (P : Leg → Type 0) (legs piece more : Line) → All P legs → piece ≡ take 64 legs → more ≡ drop 64 legs → All P piece × All P more
 each_of_piece P legs piece more all front back = (subst (All P) (sym front) (All-take P 64 legs all), subst (All P) (sym back) (All-drop P 64 legs all))

@@ -94,9 +94,6 @@ module _ (track : Track) (form : IsInForm track) (sound : IsSound track) (names 
   link_back link of =
       ap₂ (λ from to. let l : Link = record { from = from; to = to } in l) (leg_back link.from of.from) (leg_back link.to of.to)
 
-  group_leg : BaliseGroup → Leg
-  group_leg group = record { section = group.section; direction = group.nominal }
-
   group_back : (group : BaliseGroup) → GroupStands track sound group → group_of track.sections (named_group track group) ≡ group
   group_back group stands =
       ap (λ (leg : Leg). let g : BaliseGroup = record { name = group.name; section = leg.section; offset = group.offset; nominal = group.nominal } in g)

@@ -117,7 +117,7 @@ next_table-with_row number locks table leg before t room =
       ];
     }
 
--- the same for the rows and the table as they are written
+-- a leg more that is locked behind another, in the rows and the table as they are written
 pub next_table-row_behind : (number : ℕ) (rows now : Locks) (table after : List NextLegs) (leg before : Leg) (index : ℕ) (o : Option Leg) → IsNextTable rows table → rows ≡ now → HasRoom now (leg, o) → index ≡ leg.section → o ≡ Some before
     → after ≡ with_next table before (Some leg) → IsNextTable (slice_set rows index (Some (record { direction = leg.direction; route = number; before = o }))) after
 next_table-row_behind number rows now table after leg before index o t e room at is written =

@@ -18,7 +18,7 @@ use std::marker::Model;
 /// Which sections of a track the interlocking has locked, each in a direction, for a route, and behind a leg if there
 /// is one. No section has two locks, and no leg stands before two locked sections.
 ///
-/// All calls that take a section, a leg or a route mean those of the track whose locks these are.
+/// All calls that take a section, a leg or a route mean one of the track whose locks these are.
 #[derive(Drop)]
 pub struct Locks {
     rows: Vec<Option<Lock>>,

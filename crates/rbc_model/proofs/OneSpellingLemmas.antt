@@ -32,10 +32,6 @@ ahead v run runs x h = rw (le-leb run.0 x h) (kept (value_at runs x) run.1 v)
     kept None a v = refl
     kept (Some w) a v = refl
 
--- and before it that of the one before
-before : {V : Type 0} (low : ℕ) (v : V) (runs : List (ℕ × V)) (x : ℕ) → rises_above low (starts_of runs) ≡ true → x ≤ low → value_from v runs x ≡ Some v
-before low v runs x e h = rw (none_started low runs x e h) refl
-
 module _ {V : Type 0} (levels : Levels V) (lawful : IsLawful levels) (n : ℕ) where
   same_of : (v w : V) → IsInRange levels v → w ≡ v → is_same levels w v ≡ true
   same_of v w r e = let here : levels.at_most v v ≡ true = lawful.ordered.reflexive v r in rw (e, here) refl

@@ -85,9 +85,6 @@ module _ {V : Type 0} (kind : Kind V) (back : IsReadBack kind) (command name : L
   runs_are_row first second = (first, (second, words_are (run_word kind) runs (each_so (λ run is. run_is_word kind back run is) runs are)))
 
 module _ (section : Section) (is : IsToldSection section) where
-  abbrev behind_section : Section → List (List ℕ)
-  behind_section s = s.name ∷ decimal s.metres ∷ []
-
   abbrev speeds_row : Section → Row
   speeds_row s = codes "speeds" ∷ s.name ∷ run_words speed_kind s.speeds
 
@@ -265,16 +262,10 @@ module _ (parts : Parts) (are : AreTold parts) where
   steps_read : (i n : ℕ) → 1 ≤ n → n ≤ MOST_STEPS → number_at i 1 MOST_STEPS (decimal n) ≡ Ok n
   steps_read i n some few = allowed-decimal 1 MOST_STEPS n (Number i) some few (lit< tt)
 
-  behind_sections : List Row
-  behind_sections = from_links parts.links parts.groups parts.routes
-
   -- the rows behind the first, joined the other way
   in_order : (sections links groups routes : List Row) → (((sections ++ links) ++ groups) ++ routes) ++ end_rows ≡ sections ++ (links ++ (groups ++ (routes ++ end_rows)))
   in_order sections links groups routes =
       append_assoc ((sections ++ links) ++ groups) routes end_rows ∙ append_assoc (sections ++ links) groups (routes ++ end_rows) ∙ append_assoc sections links (groups ++ (routes ++ end_rows))
-
-  abbrev rows_behind_first : List Row
-  rows_behind_first = (((flat_map section_rows parts.sections ++ map link_row parts.links) ++ map group_row parts.groups) ++ map route_row parts.routes) ++ end_rows
 
   pub parts_read : parts_in (part_rows parts) ≡ Ok parts
   parts_read =

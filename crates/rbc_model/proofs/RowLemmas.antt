@@ -57,11 +57,6 @@ rows_read ((word ∷ words) ∷ rows) are =
 
 -- ---- legs
 
--- a name with a direction's sign behind it
-sign_of : Direction → ℕ
-sign_of Rising = 43
-sign_of Falling = 45
-
 signed_name_read : (name : List ℕ) (sign : ℕ) (direction : Direction) → is_name name ≡ true → direction_in (sign ∷ []) ≡ Some direction
     → leg_in (name ++ sign ∷ []) ≡ Some (record { section = name; direction = direction })
 signed_name_read name sign direction named signed =

@@ -1,15 +1,14 @@
 -- Ends that a message can give, in either format, and the units of their profiles.
-use Rattle.std.proofs.Common.{◌≡◌, ℕ, ℤ, ◌%◌, ◌<◌, ◌≤◌, ◌^◌, Bool, true, false, ◌⊎◌, inl, inr, List, Some, refl, arith, subst, nat_le, ◌==◌, if◌then◌else◌}
+use Rattle.std.proofs.Common.{◌≡◌, ℕ, ℤ, ◌%◌, ◌<◌, ◌≤◌, Bool, true, false, ◌⊎◌, inl, inr, Some, refl, arith, nat_le, ◌==◌, if◌then◌else◌}
 use Rattle.std.proofs.lemmas.Bool.{le-leb, eqb-true, eq-eqb, or_cases, and_from, lt-leb}
-use Rattle.rbc_model.specs.declared.limits.TheConstants.{LAST_COUNTRY, LAST_GROUP, MOST_STEPS}
 use Rattle.rbc_model.specs.declared.places.Format.{Format}
 use Rattle.rbc_model.specs.declared.places.Format.TheVariants.{Near, Far}
 use Rattle.rbc_model.specs.GroupNames.{GroupName}
-use Rattle.rbc_model.specs.Levels.{Levels, speed_levels, grade_levels}
+use Rattle.rbc_model.specs.Levels.{Levels}
 use Rattle.rbc_model.specs.Profiles.{StepFunction, starts_of, are_multiples, IsProfile}
 use Rattle.rbc_model.specs.Results.{is_from_to}
 use Rattle.rbc_model.specs.Scales.{farthest, is_expressible, is_in_tens, unit_of}
-use Rattle.rbc_model.specs.Messages.{Authority, IsAuthority, is_writable, authority_of}
+use Rattle.rbc_model.specs.Messages.{Authority, is_writable, authority_of}
 use Rattle.rbc_model.proofs.CountingLemmas.{both_of}
 use Rattle.rbc_model.proofs.FrameLemmas.{limits_of}
 
@@ -72,11 +71,6 @@ one_or_ten end = by_test (nat_le end 32000)
 pub some_unit : (end : ℕ) → 0 < unit_of end
 some_unit end = elim (one_or_ten end) [ inl e ↦ omega arith | inr e ↦ omega arith ]
 
--- a profile in single metres whose cuts are multiples of the unit is one in units
-pub in_units_of : {V : Type 0} (levels : Levels V) (unit limit n : ℕ) (steps : List (ℕ × V)) → IsProfile levels 1 limit n steps → are_multiples unit (starts_of steps) ≡ true
-    → IsProfile levels unit limit n steps
-in_units_of levels unit limit n steps p whole = record { starts = p.starts; in_units = whole; few = p.few; values = p.values }
-
 -- ---- authorities
 
 -- a message can give a profile with an end and cuts in units
@@ -95,17 +89,3 @@ module _ (time : ℕ) (group : GroupName) (nominal : Bool) (speeds : StepFunctio
   -- profiles with one end that a message can give make it
   pub makes_authority : grades.end ≡ speeds.end → is_writable speeds ≡ true → is_writable grades ≡ true → authority_of time group nominal speeds grades ≡ Some parts
   makes_authority ends s g = let same : (grades.end == speeds.end) ≡ true = eq-eqb grades.end speeds.end ends in rw (same, s, g) refl
-
-  -- and it is an authority
-  pub authority_made : time < 2 ^ 32 → group.country ≤ LAST_COUNTRY → group.number ≤ LAST_GROUP → grades.end ≡ speeds.end → is_writable speeds ≡ true → is_writable grades ≡ true
-      → IsProfile speed_levels 1 MOST_STEPS speeds.end speeds.steps → IsProfile grade_levels 1 MOST_STEPS grades.end grades.steps → IsAuthority Far parts
-  authority_made late country number ends s g fast steep =
-      let cuts = (writable_said grades g).1 in
-      record {
-        time = late;
-        country = country;
-        number = number;
-        end = (writable_said speeds s).0;
-        speeds = in_units_of speed_levels (unit_of speeds.end) MOST_STEPS speeds.end speeds.steps fast (writable_said speeds s).1;
-        grades = subst (λ end. IsProfile grade_levels (unit_of end) MOST_STEPS end grades.steps) ends (in_units_of grade_levels (unit_of grades.end) MOST_STEPS grades.end grades.steps steep cuts);
-      }

@@ -13,6 +13,6 @@ abbrev pub AnswersAs : {X Y E : Type 0} → (X → Y) → Result X (OrMemory E) 
 AnswersAs view (Ok x) answer = answer ≡ Ok (view x)
 AnswersAs view (Err fault) answer = RefusesOrMemory fault answer
 
--- the same where the value is seen as it is
+-- The call answers what the definition says, unless memory was refused. Its value is seen as it is.
 abbrev pub AnswersOrMemory : {X E : Type 0} → Result X (OrMemory E) → Result X E → Type 0
 AnswersOrMemory result answer = AnswersAs (λ x. x) result answer

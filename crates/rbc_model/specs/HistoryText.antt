@@ -34,9 +34,6 @@ entry_request track (Heard told) = told_request track told
 entry_request track (Granted grant) = Ask grant.train
 
 -- its line, without its line feed
-abbrev pub told_line : Track → Told → List ℕ
-told_line track told = said_line (told_request track told)
-
 abbrev pub entry_line : Track → Entry → List ℕ
 entry_line track entry = said_line (entry_request track entry)
 

@@ -1,4 +1,4 @@
--- Lines of requests: the faults that come before those of the words, and words that are read as numbers.
+-- Lines of requests: the faults that come before the words' faults, and words that are read as numbers.
 use Rattle.std.specs.Prelude.{ℕ, not, List, length, Option, Some, None, Result, Ok, Err, nat_lt, if◌then◌else◌}
 use Rattle.std.specs.Option.{option_map_or}
 use Rattle.rbc_model.specs.declared.limits.TheConstants.{LONGEST_LINE}

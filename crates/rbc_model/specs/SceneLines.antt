@@ -116,7 +116,7 @@ train_lines track scene train =
 
 -- ---- the scene
 
--- the lines of the locks, and then those of the trains in order of arrival
+-- the lines of the locks, and then the trains' lines in order of arrival
 abbrev pub scene_body : Track → Scene → List Row
 scene_body track scene = locked_lines track 0 scene.locks ++ flat_map (train_lines track scene) scene.trains
 

@@ -258,13 +258,13 @@ module _ {D : Type 0} (document : Document D) where
     routes ← entries_at route_at RouteTable top RouteKey keys.routes
     Ok (record { format = keys.format; speed_steps = keys.speed_steps; grade_steps = keys.grade_steps; sections = sections; links = links; groups = groups; routes = routes })
 
-  -- the track that a file tells, or its first fault: those of its tables, and then those of the track
+  -- the track that a file tells, or its first fault: of its tables, and then of the track
   abbrev pub track_at : List (List ℕ × D) → Result Track FileFault
   track_at members = do
     parts ← parts_at (record { table = Top; number = 1; members = members })
     result_map_both (λ track. track) BadTrack (track_of parts)
 
-  -- the same of a text that may be none of the file's language
+  -- the track that a text tells, or its first fault: first of all that it is none of the file's language
   abbrev pub track_in_file : Option (List (List ℕ × D)) → Result Track FileFault
   track_in_file None = Err Toml
   track_in_file (Some members) = track_at members

@@ -1,4 +1,4 @@
-//! The numbers of sections and routes in their track, and those of trains.
+//! The numbers of sections and routes in their track, and the numbers of trains.
 ghost use Rattle.std.specs.Prelude.{◌≡◌};
 
 use std::marker::Model;

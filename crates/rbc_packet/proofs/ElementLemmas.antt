@@ -26,7 +26,7 @@ in_front-twice first second (Ok (later, rest)) = ap (λ xs. Ok (xs, rest)) (sym 
 in_front-twice first second (Err fault) = refl
 
 module _ {V : Type 0} (layout : Layout V) (levels : Levels V) (unit end : ℕ) where
-  -- The steps so far are those of a profile of `count`, and they are read from all bits where the elements left are read from the bits left.
+  -- The steps so far are the first ones of a profile of `count`, and they are read from all bits where the elements left are read from the bits left.
   pub record AreRead (first : V) (count index last : ℕ) (all bits : List Bool) (steps : List (ℕ × V)) : Type 0 where
     pub reads : steps_at layout unit end first (count - 1) all ≡ in_front steps (elements_at layout unit end last (count - index) bits)
     pub risen : HaveRisen levels (unit * last) steps

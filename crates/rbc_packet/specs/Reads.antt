@@ -8,7 +8,7 @@ abbrev pub Reads : {A : Type 0} → Reader A → List Bool → List Bool → Res
 Reads reader old new (Ok x) = reader old ≡ Ok (x, new)
 Reads reader old new (Err fault) = reader old ≡ Err fault
 
--- the same for a call whose value is seen as the reader's
+-- the call does as a reader, and its value is seen as the reader's
 abbrev pub ReadsAs : {A B : Type 0} → (B → A) → Reader A → List Bool → List Bool → Result B Fault → Type 0
 ReadsAs view reader old new (Ok x) = reader old ≡ Ok (view x, new)
 ReadsAs view reader old new (Err fault) = reader old ≡ Err fault

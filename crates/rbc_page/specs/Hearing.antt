@@ -15,7 +15,7 @@ use Rattle.rbc_page.specs.declared.head.Status.TheVariants.{BadRequest, NotFound
 
 -- ---- texts
 
--- the same letters, whether they are great or small
+-- whether two texts have the same letters, great or small
 abbrev pub is_alike : List ℕ → List ℕ → Bool
 is_alike text other = bytes_eq (map to_ascii_lowercase text) (map to_ascii_lowercase other)
 

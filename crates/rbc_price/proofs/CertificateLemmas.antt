@@ -48,19 +48,10 @@ module _ (shape : Bool) (above high : Option Reason) (attained steps : Bool) whe
   abbrev checks : Result (Unit {0}) Reason
   checks = demand shape Shape >> (unless_some above >> (unless_some high >> (demand attained NotAttained >> demand steps Steps)))
 
-  pub stop_at_shape : shape ≡ false → Err Shape ≡ checks
-  stop_at_shape a = rw a refl
-
   module _ (is : shape ≡ true) where
-    pub stop_above : (reason : Reason) → Err reason ≡ unless_some above → Err reason ≡ checks
-    stop_above reason b = refused reason above (unless_some high >> (demand attained NotAttained >> demand steps Steps)) b ∙ rw is refl
-
     module _ (below : Ok tt ≡ unless_some above) where
       no_above : above ≡ None
       no_above = no_reason above below
-
-      pub stop_high : (reason : Reason) → Err reason ≡ unless_some high → Err reason ≡ checks
-      stop_high reason b = refused reason high (demand attained NotAttained >> demand steps Steps) b ∙ rw (is, no_above) refl
 
       module _ (low : Ok tt ≡ unless_some high) where
         no_high : high ≡ None

@@ -1,7 +1,6 @@
 -- The columns of a table, and the least values of their stretches.
-use Rattle.std.proofs.Common.{◌≡◌, refl, ap, sym, ◌∙◌, arith, ℕ, zero, suc, ◌+◌, ◌-◌, ◌%◌, ◌<◌, ◌≤◌, Bool, true, false, [], ◌∷◌, ◌++◌, length, length-append, Some, slice_index, get_or, inl, inr, if◌then◌else◌}
+use Rattle.std.proofs.Common.{◌≡◌, refl, ap, sym, ◌∙◌, arith, ℕ, zero, suc, ◌+◌, ◌-◌, ◌%◌, ◌<◌, ◌≤◌, false, [], ◌∷◌, ◌++◌, length, length-append, Some, slice_index, get_or, inl, inr}
 use Rattle.std.proofs.lemmas.List.{length-map}
-use Rattle.rbc_model.specs.declared.limits.TheConstants.{TEN_METRES}
 use Rattle.rbc_model.specs.Levels.{Levels, IsInRange, IsAtMost, IsLawful}
 use Rattle.rbc_model.specs.Profiles.{StepFunction, IsTrackFunction, starts_of, value_at}
 use Rattle.rbc_model.specs.PriceTables.{breaks_of, least_value, cost}
@@ -19,10 +18,6 @@ use Rattle.rbc_price.specs.Costs.{stretch_value, is_stretch_at_most, IsCostAt}
 use Rattle.rbc_price.proofs.CostLemmas.{cost_at}
 use Rattle.rbc_model.proofs.ScaleLemmas.{some_unit}
 use Rattle.rbc_model.proofs.ScanLemmas.{le_or_lt}
-
-some_of : (test : Bool) → 0 < (if test then 1 else TEN_METRES)
-some_of true = omega arith
-some_of false = omega arith
 
 module _ {V : Type 0} (levels : Levels V) (lawful : IsLawful levels) (track : StepFunction V) (function : IsTrackFunction levels track.end track.steps)
     (whole : track.end % unit_of track.end ≡ 0) where

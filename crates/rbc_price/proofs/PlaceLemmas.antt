@@ -30,10 +30,6 @@ module _ {V : Type 0} (levels : Levels V) (track : StepFunction V) (rows : List 
   first_of_fewer Judged Fewer None of f = λ other judged high. f other (of other.from other.to high.on high.column judged) high
   first_of_fewer Judged Fewer (Some place) of f = (f.0, λ other judged high. f.1 other (of other.from other.to high.on high.column judged) high)
 
-  -- of no pairs
-  pub first_of_none : (Judged : ℕ → ℕ → Type 0) → ((from to : ℕ) → Judged from to → ⊥) → IsFirst levels track rows Judged None
-  first_of_none Judged none = λ other judged. absurd (none other.from other.to judged)
-
   earlier_of : (One Other Both : ℕ → ℕ → Type 0) (a b : PricePlace) (test : Bool) → comes_before b a ≡ test → ((from to : ℕ) → from < to → to ≤ stretches_of track → Both from to → One from to ⊎ Other from to)
       → IsFirst levels track rows One (Some a) → IsFirst levels track rows Other (Some b) → IsFirst levels track rows Both (Some (if test then b else a))
   earlier_of One Other Both a b true e of f g = (

@@ -1,5 +1,5 @@
 -- The shape of a table: what it says, test by test.
-use Rattle.std.proofs.Common.{◌≡◌, refl, sym, ℕ, ◌%◌, ◌≤◌, List, length, Bool, true, false, ◌&&◌, ◌==◌, nat_le, min}
+use Rattle.std.proofs.Common.{◌≡◌, ℕ, ◌%◌, ◌≤◌, List, length, Bool, true, ◌&&◌, ◌==◌, nat_le, min}
 use Rattle.std.specs.List.{list_all}
 use Rattle.std.proofs.lemmas.Bool.{eqb-true, eq-eqb, le-leb, leb-true, and_from}
 use Rattle.rbc_model.specs.declared.limits.TheConstants.{MOST_STEPS}
@@ -53,21 +53,3 @@ module _ {V : Type 0} (levels : Levels V) (limit : ℕ) (track profile : StepFun
       let in_units = and_from (ends && (track.end % unit_of track.end == 0)) (are_multiples (unit_of track.end) (starts_of profile.steps)) whole s.in_units in
       let count = and_from units (length rows == min limit (stretches_of track)) in_units (eq-eqb (length rows) (min limit (stretches_of track)) s.count) in
       and_from (units && (length rows == min limit (stretches_of track))) (list_all (λ row. length row == stretches_of track) rows) count s.wide
-
-  not_true : (test : Bool) → (test ≡ true → ⊥) → false ≡ test
-  not_true true never = absurd (never refl)
-  not_true false never = refl
-
-  -- it has not, where one of its tests fails
-  pub no_shape : (IsShaped → ⊥) → false ≡ has_shape levels limit track profile rows
-  no_shape never = not_true (has_shape levels limit track profile rows) (λ e. never (shaped e))
-
-  same_test : (a b : Bool) → (a ≡ true → b ≡ true) → (b ≡ true → a ≡ true) → a ≡ b
-  same_test true true f g = refl
-  same_test true false f g = sym (f refl)
-  same_test false true f g = g refl
-  same_test false false f g = refl
-
-  -- where all others hold, the shape is that of the rows
-  pub shape_by_rows : (wide : Bool) → (wide ≡ true → IsShaped) → (IsShaped → wide ≡ true) → wide ≡ has_shape levels limit track profile rows
-  shape_by_rows wide there back = same_test wide (has_shape levels limit track profile rows) (λ e. has_shape_of (there e)) (λ e. back (shaped e))

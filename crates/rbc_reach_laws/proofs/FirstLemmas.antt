@@ -41,7 +41,7 @@ IsNearest-unique test low end a b x y = by_order (le_or_lt a b) (le_or_lt b a)
     by_order (inl h) (inr k) = absurd (nearer_one test low end a b x y k)
     by_order (inl h) (inl k) = omega arith
 
--- ---- another test that says the same
+-- ---- a test that passes where another one does
 
 pub IsFirstFrom-same : (test other : ℕ → Bool) (low high i : ℕ) → ((j : ℕ) → low ≤ j → j < high → test j ≡ other j) → IsFirstFrom test low high i → IsFirstFrom other low high i
 IsFirstFrom-same test other low high i same f =
@@ -71,12 +71,6 @@ IsNearest-same test other low end i same f =
     }
 
 -- ---- one stretch after the other
-
-the_some : (a b : ℕ) → Some a ≡ Some b → a ≡ b
-the_some a b h = cc
-
-at_start : (x : ℕ) (o : Option ℕ) (i : ℕ) → option_or (Some x) o ≡ Some i → x ≡ i
-at_start x o i e = cc
 
 pub IsFound-then : (test : ℕ → Bool) (low mid next high : ℕ) (a b : Option ℕ) → mid ≤ high → next ≡ max low mid → IsFound test low mid a → IsFound test next high b → IsFound test low high (option_or a b)
 IsFound-then test low mid next high None b far e f g = record {
@@ -157,10 +151,6 @@ IsNearest-nearer test other low end high i (Some x) far f g = by_order (le_or_lt
           passes = λ k. or_right (test x) (other x) y.passes;
           before = λ j l u. or_from (test j) (other j) (f.before j l (omega arith)) (y.before j l u);
         })
-
-or_joined : (p q r : Bool) → ((p || q) || r) ≡ (p || (q || r))
-or_joined true q r = refl
-or_joined false q r = refl
 
 -- two tests of each of some things
 pub IsNearest-each : {X : Type 0} (one two : X → ℕ → Bool) (first second : X → Option ℕ) (low end high : ℕ) (xs : List X) (test : ℕ → Bool) (i : ℕ) → end ≤ high

@@ -28,9 +28,6 @@ twice : (m k : ℕ) → k < m → k ≡ m - 1 - (m - 1 - k)
 twice m k h = omega arith
 
 module _ (track : Track) (section : ℕ) where
-  leg_towards : Direction → Leg
-  leg_towards direction = record { section = section; direction = direction }
-
   on_leg : (d e : Direction) (q a b k : ℕ) → k < metres_of track section →
       (nat_le a (q + metres_before track (metre_of_leg track (record { section = section; direction = e }) k) (record { section = section; direction = d })) && nat_lt (q + metres_before track (metre_of_leg track (record { section = section; direction = e }) k) (record { section = section; direction = d })) b)
       ≡ lies_in (span_met (direction_eq d e) (metres_of track section) q a b) k

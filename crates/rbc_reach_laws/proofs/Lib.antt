@@ -9,4 +9,3 @@ pub mod ObstacleLemmas
 pub mod WalkLemmas
 pub mod LoopLemmas
 pub mod ShownLemmas
-pub mod TwiceLemmas

@@ -1,62 +1,21 @@
--- The same as loops may find it: over all trains, over all pairs of legs, and along legs that are looked up on the way.
-use Rattle.std.proofs.Common.{◌≡◌, ℕ, zero, suc, ◌+◌, ◌-◌, max, Bool, true, false, not, cond, List, [], ◌∷◌, ◌++◌, length, Option, Some, None, refl, ap, sym, subst, ◌∙◌, arith, nat_lt}
-use Rattle.std.specs.Prelude.{fold, ◌==◌, if◌then◌else◌, option_and_then}
+-- A walk along legs that are looked up on the way comes to what the walk along the line comes to.
+use Rattle.std.proofs.Common.{◌≡◌, ℕ, zero, suc, ◌+◌, ◌-◌, Bool, true, false, [], ◌∷◌, ◌++◌, length, Option, Some, None, refl, ap, sym, ◌∙◌, nat_lt}
+use Rattle.std.specs.Prelude.{if◌then◌else◌, option_and_then}
 use Rattle.std.specs.Option.{option_map_or}
-use Rattle.std.proofs.lemmas.Bool.{eqb-true, not-true, or_parts}
 use Rattle.std.proofs.lemmas.List.{append-nil, append_assoc}
 use Rattle.rbc_model.specs.declared.places.Leg.{Leg}
 use Rattle.rbc_model.specs.declared.refusals.Obstacle.{Obstacle}
 use Rattle.rbc_model.specs.declared.refusals.Obstacle.TheVariants.{Own}
-use Rattle.rbc_model.specs.Tracks.{Track, metres_of, direction_eq}
+use Rattle.rbc_model.specs.Tracks.{Track, metres_of}
 use Rattle.rbc_model.specs.Lines.{Line, has_section, last_leg}
-use Rattle.rbc_model.specs.SoundTracks.{sections_differ}
 use Rattle.rbc_model.specs.Locks.{Locks, next, longer_ahead, lengthened_fully}
 use Rattle.rbc_model.specs.Trains.{Train}
 use Rattle.rbc_model.specs.Scenes.{Scene}
 use Rattle.rbc_model.specs.Obstacles.{way}
 use Rattle.rbc_model.specs.Views.{reach, stop}
-use Rattle.rbc_reach_laws.specs.Spans.{span_met, leg_span, first_in}
-use Rattle.rbc_reach_laws.specs.Nearest.{nearer, leg_reach, leg_stop, end_obstacle, walk, nearest_pairs, walk_then, walk_on}
-use Rattle.rbc_reach_laws.proofs.BasicLemmas.{and_left, and_right}
+use Rattle.rbc_reach_laws.specs.Nearest.{leg_reach, leg_stop, end_obstacle, walk, walk_then, walk_on}
 use Rattle.rbc_reach_laws.proofs.WalkLemmas.{reach-walk, stop-walk}
-use Rattle.rbc_model.proofs.BasicLemmas.{if_past}
 use Rattle.rbc_model.proofs.StopLemmas.{last_leg-push}
-
--- ---- all trains, with one left out
-
-one_kept : {X Y : Type 0} (f : Y → X → Y) (t : Bool) (y : Y) (x : X) (xs : List X) → fold f y (cond t (x ∷ xs) xs) ≡ fold f (if t then f y x else y) xs
-one_kept f true y x xs = refl
-one_kept f false y x xs = refl
-
--- ---- all pairs of legs
-
-nothing_nearer : (place start p : ℕ) → place ≡ nearer place (first_in start p (0, 0))
-nothing_nearer place start p = sym (ap (nearer place) (if_past (Some (max start (p + 0))) None (max start (p + 0)) (p + 0) (omega arith)))
-
-module _ (track : Track) (start p : ℕ) (leg : Leg) (a b : ℕ) where
-  -- no leg of the section, nothing nearer
-  no_pairs : (q place : ℕ) (line : Line) → has_section line leg.section ≡ false → nearest_pairs track start p leg q a b place line ≡ place
-  no_pairs q place [] h = refl
-  no_pairs q place (other ∷ line) h =
-      let s = nearer place (first_in start p (span_met (direction_eq other.direction leg.direction) (metres_of track leg.section) q a b)) in
-      ap (λ (t : Bool). nearest_pairs track start p leg (q + metres_of track other.section) a b (if t then s else place) line) ((or_parts (other.section == leg.section) (has_section line leg.section) h).0)
-      ∙ no_pairs (q + metres_of track other.section) place line ((or_parts (other.section == leg.section) (has_section line leg.section) h).1)
-
-  by_section : (t : Bool) (q n place : ℕ) (span : ℕ × ℕ) (line : Line) → (t ≡ true → has_section line leg.section ≡ false) →
-      ((place : ℕ) → nearest_pairs track start p leg (q + n) a b place line ≡ nearer place (first_in start p (leg_span track leg (q + n) a b line))) →
-      nearest_pairs track start p leg (q + n) a b (if t then nearer place (first_in start p span) else place) line ≡ nearer place (first_in start p (if t then span else leg_span track leg (q + n) a b line))
-  by_section true q n place span line alone rest = no_pairs (q + n) (nearer place (first_in start p span)) line (alone refl)
-  by_section false q n place span line alone rest = rest place
-
-  -- on a line that has each section once
-  pub nearest_pairs-span : (q place : ℕ) (line : Line) → sections_differ line ≡ true → nearest_pairs track start p leg q a b place line ≡ nearer place (first_in start p (leg_span track leg q a b line))
-  nearest_pairs-span q place [] d = nothing_nearer place start p
-  nearest_pairs-span q place (other ∷ line) d =
-      by_section (other.section == leg.section) q (metres_of track other.section) place (span_met (direction_eq other.direction leg.direction) (metres_of track leg.section) q a b) line
-      (λ e. subst (λ s. has_section line s ≡ false) (eqb-true other.section leg.section e) (not-true (has_section line other.section) (and_left (not (has_section line other.section)) (sections_differ line) d)))
-      (λ place. nearest_pairs-span (q + metres_of track other.section) place line (and_right (not (has_section line other.section)) (sections_differ line) d))
-
--- ---- legs that are looked up on the way
 
 -- the legs that a line gains
 abbrev pub gained : ℕ → Locks → Line → Line

@@ -40,7 +40,7 @@ abbrev first_at : Scene → Train → (Metre → Train → Bool) → Option Metr
 first_at scene train has o = option_and_then (λ metre. option_map (λ (other : Train). other.report.train) (find (has metre) (others scene train))) o
 
 module _ (track : Track) (scene : Scene) (train : Train) where
-  -- the reasons but those of the way's end
+  -- the reasons but for the way's end
   abbrev on_way : Option Leg → ℕ → Line → ℕ → Option Obstacle
   on_way before p line k =
       first_some

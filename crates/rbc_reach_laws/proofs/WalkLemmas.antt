@@ -32,13 +32,13 @@ module _ (track : Track) (scene : Scene) (train : Train) where
       ((false || limit_at track train j) || at_leg (λ b l k. lies_in (unlocked_span track scene.locks b l) k) track before line (j - p))
       || list_any (λ other. at_leg (λ b l k. lies_in (extent_span track other l) k) track before line (j - p) || at_leg (λ b l k. lies_in (authority_span track other l) k) track before line (j - p)) (others scene train)
 
-  -- the same of a single leg
+  -- whether some reason stands at the place j, on a leg that begins at the place p
   abbrev reason_on : Option Leg → ℕ → Leg → ℕ → Bool
   reason_on before p leg j =
       ((false || limit_at track train j) || lies_in (unlocked_span track scene.locks before leg) (j - p))
       || list_any (λ other. lies_in (extent_span track other leg) (j - p) || lies_in (authority_span track other leg) (j - p)) (others scene train)
 
-  -- tests that are the same, each by its part
+  -- tests that are equal, each by its part
   parts_same : (l u v : Bool) (f g h k : Train → Bool) → u ≡ v → ((o : Train) → f o ≡ g o) → ((o : Train) → h o ≡ k o) →
       (((false || l) || u) || list_any (λ o. f o || h o) (others scene train)) ≡ (((false || l) || v) || list_any (λ o. g o || k o) (others scene train))
   parts_same l u v f g h k e p q =
@@ -273,12 +273,3 @@ module _ (track : Track) (scene : Scene) (train : Train) where
       walk-stands None 0 line
       ∙ ap (stands None 0 line) reach-walk
       ∙ sym (stop_at line (reach track scene train) near)
-
-  -- ---- Law 3, with no walk: the obstacle named, from the reach
-
-  pub stop-before_end : reach track scene train < way_end track scene train → stop track scene train ≡ unwrap_or (obstacle_by_legs track scene train None 0 (way track scene train) (reach track scene train)) Own
-  stop-before_end h = ap (λ o. unwrap_or o Own) (obstacle_on-legs track scene train (way track scene train) (reach track scene train) h)
-
-  pub stop-at_end : (leg : Leg) → reach track scene train ≡ way_end track scene train → last_leg (way track scene train) ≡ Some leg → stop track scene train ≡ end_obstacle scene leg
-  stop-at_end leg e last =
-      ap (λ i. unwrap_or (obstacle_on track scene train (way track scene train) i) Own) e ∙ obstacle_on-end track scene train (way track scene train) leg last

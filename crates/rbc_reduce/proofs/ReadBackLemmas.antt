@@ -1,5 +1,5 @@
 -- The steps that are read off the greatest sound table, as they are pushed.
-use Rattle.std.proofs.Common.{◌≡◌, ◌≢◌, refl, ap, sym, ◌∙◌, arith, subst, ℕ, zero, suc, ◌+◌, ◌-◌, ◌%◌, ◌<◌, ◌≤◌, List, [], ◌∷◌, ◌++◌, Some, length, get_or, reverse, option_map}
+use Rattle.std.proofs.Common.{◌≡◌, ◌≢◌, refl, ap, sym, ◌∙◌, arith, subst, ℕ, suc, ◌+◌, ◌-◌, ◌%◌, ◌<◌, ◌≤◌, List, [], ◌∷◌, ◌++◌, Some, length, get_or, reverse, option_map}
 use Rattle.std.specs.Global.{Vec}
 use Rattle.std.proofs.lemmas.List.{length-map}
 use Rattle.rbc_model.specs.Levels.{Levels, IsLawful}
@@ -10,7 +10,7 @@ use Rattle.rbc_table_laws.specs.Breaks.{IsLowest}
 use Rattle.rbc_table_laws.specs.Stretches.{AreBreaksFor, cost_of_step}
 use Rattle.rbc_table_laws.specs.PriceRows.{prices_of}
 use Rattle.rbc_table_laws.specs.Tracebacks.{IsOnWay, IsTracedTo, IsStepBack, IsFound, IsReadOff}
-use Rattle.rbc_table_laws.proofs.SearchLemmas.{traced_none, traced_more, traced_whole}
+use Rattle.rbc_table_laws.proofs.SearchLemmas.{traced_more, traced_whole}
 use Rattle.rbc_table_laws.proofs.ReadOffLemmas.{read_of_trace}
 use Rattle.rbc_table_laws.proofs.TableLawLemmas.{searches_are_found}
 use Rattle.rbc_table_laws.proofs.StretchLemmas.{stretches_for, breaks_to_end, least_is}
@@ -26,10 +26,6 @@ module _ {V : Type 0} (levels : Levels V) (lawful : IsLawful levels) (track : St
 
   width : stretch_count levels unit limit track.end track.steps ≡ length breaks - 1
   width = stretches_for unit track breaks are levels limit
-
-  -- the table has a row
-  pub some_row : 1 ≤ limit → 0 < length rows
-  some_row some = let count = rows_are in let m = width in let two = are.some in omega arith
 
   abbrev pub IsTraced : ℕ → List (ℕ × V) → ℕ → ℕ → Type 0
   IsTraced count back j to = IsTracedTo levels unit limit track.end track.steps (prices_of rows) count (stretch_count levels unit limit track.end track.steps) back j to
@@ -50,15 +46,6 @@ module _ {V : Type 0} (levels : Levels V) (lawful : IsLawful levels) (track : St
         ap (price_in rows k) (sym width) ∙ e ∙ sym last_price_is ∙ ap (price_in rows count) width in
         first k low high (here ∙ price)
 
-    pub begun : (to : ℕ) → to ≡ length breaks - 1 → IsTraced count [] count to × IsOn count to
-    begun to e =
-        let row = rows_are in
-        let on = found.begins count some (omega arith) (λ k low high same. none_before k low high (same ∙ last_price_is)) in
-        let there : stretch_count levels unit limit track.end track.steps ≡ to = width ∙ sym e in (
-          subst (λ x. IsTraced count [] count x) there (traced_none levels unit limit track.end track.steps (prices_of rows) count (stretch_count levels unit limit track.end track.steps)),
-          subst (λ x. IsOn count x) there on,
-        )
-
     -- ---- and where it ends
 
     pub read_off : (back : List (ℕ × V)) (to : ℕ) → IsTraced count back 0 to → IsOn 0 to
@@ -71,10 +58,6 @@ module _ {V : Type 0} (levels : Levels V) (lawful : IsLawful levels) (track : St
         read_of_trace levels unit limit track.end track.steps (prices_of rows) count back (omega arith) last_price_is none_before whole
 
   -- ---- one step
-
-  pub some_column : (j to : ℕ) → IsOn (suc j) to → 0 < to
-  some_column j zero on = let none = on.go_on refl in absurd (omega arith)
-  some_column j (suc to) on = omega arith
 
   pub some_break : (j to : ℕ) → suc j ≤ length rows → to ≤ length breaks - 1 → IsOn (suc j) to
       → (i : ℕ) × (i < to) × (price_in rows j i + cost_of_step levels unit track i to ≡ price_in rows (suc j) to)

@@ -19,17 +19,17 @@ row_at rows index = option_map_or (λ row. row.items) (slice_get rows index) []
 abbrev pub AreSmall : (ℕ → ℕ) → Type 0
 AreSmall price = (i : ℕ) → price i ≤ MOST_LOSS
 
--- The row behind the one of this index has one price more: the cheapest with one step more than those of this row.
+-- The row behind the one of this index has one price more: the cheapest with one step more than the prices of this row have.
 abbrev pub IsPriceMore : List ℕ → (ℕ → List ℕ) → (ℕ → List ℕ) → ℕ → Type 0
 IsPriceMore costs old new j =
     (price : ℕ) × (new (suc j) ≡ old (suc j) ++ price ∷ []) × IsCheapest (price_up_to (old j)) (slice_index costs) (length costs) price
 
--- of `count` rows with `columns` columns, those of as many steps as columns, or more, are alike: no step is left for them
+-- of `count` rows with `columns` columns, the rows of as many steps as columns, or more, are alike: no step is left for them
 abbrev pub AreAlike : ℕ → ℕ → (ℕ → List ℕ) → Type 0
 AreAlike columns count row = (j : ℕ) → columns ≤ suc j → suc j < count → row (suc j) ≡ row j
 
 -- Each of the first `count` rows has one price more: in the first row it is what one step costs, and in each later one the
--- cheapest with one step more than those of the row before.
+-- cheapest with one step more than the prices of the row before have.
 pub record IsColumnMore (costs : List ℕ) (count : ℕ) (old new : ℕ → List ℕ) : Type 0 where
   pub first : new 0 ≡ old 0 ++ slice_index costs 0 ∷ []
   pub later : (j : ℕ) → suc j < count → IsPriceMore costs old new j

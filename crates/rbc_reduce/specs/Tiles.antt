@@ -35,7 +35,7 @@ module _ {N : Type 0} (number : N → ℕ) (rows : List (Vec N)) where
   ArePricesOf costs k group = (j : ℕ) (four : Four N) → slice_get group j ≡ Some four
       → IsCheapest (price_up_to (row_in number rows j)) (slice_index (map number costs)) (length (row_in number rows j) + 1) (number (nth_of four k))
 
-  -- The prices are those of four columns behind the first one.
+  -- The prices are the prices of the four columns behind the first one.
   pub record IsGroup (columns : List (Vec N)) (group : List (Four N)) : Type 0 where
     pub count : length group + 1 ≡ length rows
     pub prices : (k : ℕ) (column : Vec N) → k < 4 → slice_get columns (1 + k) ≡ Some column → ArePricesOf column.items k group

@@ -6,7 +6,7 @@ use rbc_costs::{Total, cheapest};
 use rbc_model::Memory;
 use std::alloc::Global;
 
-/// Puts a price behind those of a row.
+/// Puts a price behind the prices of a row.
 pub(crate) fn add_price<N: Total>(
     rows: &mut Vec<Vec<N>>,
     row: usize,
@@ -23,7 +23,7 @@ pub(crate) fn add_price<N: Total>(
     Ok(())
 }
 
-/// Puts the same price behind those of each row from `first` on.
+/// Puts one price behind the prices of each row from `first` on.
 fn add_to_each<N: Total>(rows: &mut Vec<Vec<N>>, first: usize, price: N) -> Result<(), Memory>
     requires { first ≤ length rows.old.items }
     ensures size { length rows.new.items ≡ length rows.old.items }
@@ -38,7 +38,7 @@ fn add_to_each<N: Total>(rows: &mut Vec<Vec<N>>, first: usize, price: N) -> Resu
     Ok(())
 }
 
-/// Puts the price up to the next break behind those of each row from `first` on. From the one before it on they are alike,
+/// Puts the price up to the next break behind the prices of each row from `first` on. From the one before it on they are alike,
 /// and so is the least with one step more.
 fn add_to_alike<N: Total>(rows: &mut Vec<Vec<N>>, first: usize, costs: &[N]) -> Result<(), Memory>
     requires some { 0 < first }
@@ -61,8 +61,8 @@ fn add_to_alike<N: Total>(rows: &mut Vec<Vec<N>>, first: usize, costs: &[N]) -> 
     add_to_each(rows, first, price)
 }
 
-/// Puts the price up to the next break behind those of each row below `end` but the first: the least with one step more
-/// than those of the row before it, where that step costs so much.
+/// Puts the price up to the next break behind the prices of each row below `end` but the first: the least with one step more
+/// than the prices of the row before it, where that step costs so much.
 fn add_cheapest<N: Total>(rows: &mut Vec<Vec<N>>, end: usize, costs: &[N]) -> Result<(), Memory>
     requires some { 0 < end }
     requires inside { end ≤ length rows.old.items }
@@ -84,7 +84,7 @@ fn add_cheapest<N: Total>(rows: &mut Vec<Vec<N>>, end: usize, costs: &[N]) -> Re
     Ok(())
 }
 
-/// Puts the prices up to the next break behind those of each row, where one step costs so much up to there. Rows of as
+/// Puts the prices up to the next break behind the prices of each row, where one step costs so much up to there. Rows of as
 /// many steps as there are breaks so far, or more, are alike, and so are their prices.
 pub(crate) fn add_column<N: Total>(rows: &mut Vec<Vec<N>>, costs: &[N]) -> Result<(), Memory>
     requires some { 0 < length rows.old.items }

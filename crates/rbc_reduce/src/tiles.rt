@@ -121,7 +121,7 @@ pub(crate) struct Begun {
     pub index: usize,
 }
 
-/// Finishes a column that is begun: puts its prices behind those of each row. `costs` tells what one step costs up to it, and
+/// Finishes a column that is begun: puts its prices behind the prices of each row. `costs` tells what one step costs up to it, and
 /// `least` for each row but the last the prices with which it is begun.
 pub(crate) fn add_begun<V: Level, N: Total>(
     track: &Runs<V>,

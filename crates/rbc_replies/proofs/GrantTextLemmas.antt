@@ -1,22 +1,17 @@
 -- The lines of a grant as the pieces that are printed one behind another.
 use Rattle.std.proofs.Common.{◌≡◌, ℕ, List, [], ◌∷◌, ◌++◌, ℤ, sym, ap, ◌∙◌, append_assoc}
-use Rattle.std.specs.Prelude.{codes, decimal}
-use Rattle.std.specs.Fmt.{signed_decimal}
-use Rattle.rbc_model.specs.declared.refusals.Obstacle.{Obstacle}
+use Rattle.std.specs.Prelude.{codes}
 use Rattle.rbc_model.specs.Kinds.{Kind, speed_kind, grade_kind}
 use Rattle.rbc_model.specs.Levels.{Levels}
-use Rattle.rbc_model.specs.Messages.{Authority, message_bytes}
+use Rattle.rbc_model.specs.Messages.{message_bytes}
 use Rattle.rbc_model.specs.Profiles.{StepFunction, value_at, loss}
-use Rattle.rbc_model.specs.SessionReply.{obstacle_words, grant_reply}
-use Rattle.rbc_model.specs.StepsReply.{track_line, profile_line, certificate}
-use Rattle.rbc_model.specs.Histories.{Grants}
+use Rattle.rbc_model.specs.StepsReply.{track_line, profile_line}
 use Rattle.rbc_model.specs.Tracks.{Track}
-use Rattle.rbc_model.specs.Views.{View}
 use Rattle.rbc_model.specs.Words.{line_of, hex_of}
 use Rattle.rbc_words.specs.Replies.{certificate_lines}
 use Rattle.rbc_words.specs.declared.steps_reply.Basis.{Basis}
 use Rattle.rbc_replies.specs.declared.replies.ToldGrant.{ToldGrant}
-use Rattle.rbc_words.specs.PriceText.{prices_of, prices_text}
+use Rattle.rbc_words.specs.PriceText.{prices_text}
 use Rattle.rbc_replies.specs.Certificates.{certificate_text, IsLossOn}
 use Rattle.rbc_replies.specs.Replies.{grant_line, grant_text}
 
@@ -67,7 +62,7 @@ grant_text-own track granted =
     ∙ append_assoc (first ++ message) speeds (grades ++ codes "done\n")
     ∙ append_assoc first message (speeds ++ (grades ++ codes "done\n"))
 
--- the same of what is handed over
+-- the text of a grant, by the message and the profiles that are handed over
 pub grant_text-is : (track : Track) (granted : ToldGrant) (message : List ℕ) (speeds : StepFunction ℕ) (grades : StepFunction ℤ)
     → message ≡ message_bytes granted.authority.now
     → speeds.steps ≡ granted.authority.now.speeds → speeds.end ≡ granted.authority.now.end
@@ -83,30 +78,3 @@ grant_text-is track granted message speeds grades same_message speed_steps speed
     ∙ ap (λ se. lines message speeds.steps se a.grades a.end) (sym speed_end)
     ∙ ap (λ gs. lines message speeds.steps speeds.end gs a.end) (sym grade_steps)
     ∙ ap (λ ge. lines message speeds.steps speeds.end grades.steps ge) (sym grade_end)
-
--- What is printed is the reply to the train that was shown this and is granted that, where what is lent is theirs.
-pub grant_text-is_reply : (track : Track) (granted : ToldGrant) (view : View) (grant : Grants)
-    → granted.train ≡ grant.train → granted.from ≡ grant.from → granted.authority.now ≡ grant.authority → granted.obstacle ≡ grant.obstacle
-    → granted.speeds.limit ≡ view.speed_steps → granted.speeds.track.now.steps ≡ view.speeds
-    → granted.grades.limit ≡ view.grade_steps → granted.grades.track.now.steps ≡ view.grades
-    → grant_text track granted ≡ grant_reply track granted.version view grant (prices_of granted.speeds.prices.now) (prices_of granted.grades.prices.now)
-grant_text-is_reply track granted view grant train from authority obstacle speed_steps speeds grade_steps grades =
-    let first : ℕ → ℤ → Authority → Obstacle → List ℕ =
-    λ t f a o. line_of (codes "granted" ∷ decimal t ∷ decimal granted.version ∷ signed_decimal f ∷ decimal a.end ∷ obstacle_words track o) in
-    let shown : ℕ → List (ℕ × ℕ) → ℕ → List (ℕ × ℤ) → ℕ → ℤ → Authority → Obstacle → List ℕ =
-    λ sl sr gl gr t f a o.
-    first t f a o
-    ++ message_line (message_bytes a)
-    ++ certificate speed_kind (record { limit = sl; runs = sr; end = a.end }) a.speeds (prices_of granted.speeds.prices.now)
-    ++ certificate grade_kind (record { limit = gl; runs = gr; end = a.end }) a.grades (prices_of granted.grades.prices.now)
-    ++ line_of (codes "done" ∷ []) in
-    let s = granted.speeds in
-    let r = granted.grades in
-    ap (λ sl. shown sl s.track.now.steps r.limit r.track.now.steps granted.train granted.from granted.authority.now granted.obstacle) speed_steps
-    ∙ ap (λ sr. shown view.speed_steps sr r.limit r.track.now.steps granted.train granted.from granted.authority.now granted.obstacle) speeds
-    ∙ ap (λ gl. shown view.speed_steps view.speeds gl r.track.now.steps granted.train granted.from granted.authority.now granted.obstacle) grade_steps
-    ∙ ap (λ gr. shown view.speed_steps view.speeds view.grade_steps gr granted.train granted.from granted.authority.now granted.obstacle) grades
-    ∙ ap (λ t. shown view.speed_steps view.speeds view.grade_steps view.grades t granted.from granted.authority.now granted.obstacle) train
-    ∙ ap (λ f. shown view.speed_steps view.speeds view.grade_steps view.grades grant.train f granted.authority.now granted.obstacle) from
-    ∙ ap (λ a. shown view.speed_steps view.speeds view.grade_steps view.grades grant.train grant.from a granted.obstacle) authority
-    ∙ ap (λ o. shown view.speed_steps view.speeds view.grade_steps view.grades grant.train grant.from grant.authority o) obstacle

@@ -76,7 +76,7 @@ abbrev pub RefusalIsOfTrack : Track → SessionRefusal → Type 0
 RefusalIsOfTrack track (ToldBadEvent refusal) = EventIsOfTrack track refusal
 RefusalIsOfTrack track _ = Unit {0}
 
--- the same of any reply
+-- what a reply names stands in the track
 abbrev pub ReplyIsWhole : Track → SessionReply → Type 0
 ReplyIsWhole track (GrantedReply granted) = ObstacleIsOfTrack track granted.obstacle
 ReplyIsWhole track (Blocked train obstacle at version) = ObstacleIsOfTrack track obstacle

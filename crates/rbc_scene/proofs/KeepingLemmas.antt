@@ -194,20 +194,6 @@ module _ (track : Track) (scene : Scene) (number distance : ℕ) where
   pub gives_back : (to : ℕ) → end_given_back scene number distance ≡ Ok to → GivesBack track scene number distance to
   gives_back to h = gives_of (train_numbered scene number) to refl h
 
-  refused_by : (b : Bool) (x : ℕ) (y : Scene) (refusal : Refusal) → option_map_or (λ (t : ℕ). let r : Result ℕ Refusal = Ok t in r) (cond b (Some x) None) (Err (YieldRange number)) ≡ Err refusal → cond b (Ok y) (Err (YieldRange number)) ≡ Err refusal
-  refused_by true x y refusal h = cc
-  refused_by false x y refusal h = cc
-
-  refused_of : (o : Option Train) (refusal : Refusal)
-      → option_map_or (λ (train : Train). option_map_or (λ (t : ℕ). let r : Result ℕ Refusal = Ok t in r) (end_cut train distance) (Err (YieldRange number))) o (Err (UnknownTrain number)) ≡ Err refusal
-      → option_map_or (λ (t : Train). let r : Result Scene Refusal = cond (nat_lt (t.origin + distance) t.to && nat_le t.front (t.origin + distance) && nat_le t.from (t.origin + distance)) (Ok (with_train scene (cut_at track t (t.origin + distance)))) (Err (YieldRange number)) in r) o (Err (UnknownTrain number)) ≡ Err refusal
-  refused_of None refusal h = cc
-  refused_of (Some t) refusal h =
-      refused_by (nat_lt (t.origin + distance) t.to && nat_le t.front (t.origin + distance) && nat_le t.from (t.origin + distance)) (t.origin + distance) (with_train scene (cut_at track t (t.origin + distance))) refusal h
-
-  pub gives_nothing_back : (refusal : Refusal) → end_given_back scene number distance ≡ Err refusal → after_give_back track scene number distance ≡ Err refusal
-  gives_nothing_back refusal h = refused_of (train_numbered scene number) refusal h
-
 module _ (locks : Locks) (book : Book) (now : SceneOnTrack) (is : scene_on locks book ≡ now) (kept : IsKept (scene_on locks book)) (number distance to : ℕ) (h : end_given_back now.scene number distance ≡ Ok to) where
   given : GivesBack now.track now.scene number distance to
   given = gives_back now.track now.scene number distance to h

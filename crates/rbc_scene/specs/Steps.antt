@@ -28,7 +28,7 @@ abbrev pub StepsTo : Result (Unit {0}) Refusal → SceneOnTrack → SceneOnTrack
 StepsTo (Ok _) old new answer = (answer ≡ Ok new.scene) × (new.track ≡ old.track)
 StepsTo (Err refusal) old new answer = (answer ≡ Err refusal) × (new ≡ old)
 
--- the same, or memory was refused, and the scene is the old one
+-- The call changed the old scene into the new one that the definition names; or it was refused as that says, or memory was, and the scene is the old one.
 abbrev pub StepsOrMemory : Result (Unit {0}) (OrMemory Refusal) → SceneOnTrack → SceneOnTrack → Result Scene Refusal → Type 0
 StepsOrMemory (Ok _) old new answer = (answer ≡ Ok new.scene) × (new.track ≡ old.track)
 StepsOrMemory (Err fault) old new answer = RefusesOrMemory fault answer × (new ≡ old)
@@ -42,7 +42,7 @@ abbrev pub end_cut : Train → ℕ → Option ℕ
 end_cut train distance =
     let to = train.origin + distance in if nat_lt to train.to && nat_le train.front to && nat_le train.from to then Some to else None
 
--- the same for the train of this number, or why it may not
+-- the place at which the authority of the train of this number then ends, or why it may not give that back
 abbrev pub end_given_back : Scene → ℕ → ℕ → Result ℕ Refusal
 end_given_back scene number distance = option_map_or (λ train. option_map_or (λ to. Ok to) (end_cut train distance) (Err (YieldRange number))) (train_numbered scene number) (Err (UnknownTrain number))
 
@@ -56,7 +56,7 @@ abbrev pub IsReportTold : Told → Type 0
 IsReportTold (ToldReport report) = Unit {0}
 IsReportTold _ = ⊥
 
--- the same for whatever may happen
+-- an event names a route or a section of the track, if it names one
 abbrev pub IsEventOfTrack : Track → Event → Type 0
 IsEventOfTrack track (Tell told) = IsOfTrack track told
 IsEventOfTrack track (Grant train distance) = Unit {0}
@@ -83,7 +83,7 @@ abbrev pub granted_at_once : Track → Scene → ℕ → ℕ → Option Refusal
 granted_at_once track scene number distance =
     option_map_or (λ train. if is_out_of_range track train distance then Some NotSafe else None) (train_numbered scene number) (Some (UnknownTrain number))
 
--- the same for whatever may happen
+-- why an event is refused, where nothing has to grow to see it
 abbrev pub refused_at_once : Track → Scene → Event → Option Refusal
 refused_at_once track scene (Tell told) = told_at_once track scene told
 refused_at_once track scene (Grant train distance) = granted_at_once track scene train distance

@@ -374,8 +374,8 @@ impl Scene {
         let known = self.book.get(train)?;
         let line = known.line();
         known.known();
-        let most = line.length().checked_sub(known.origin())?;
-        if distance.metres() > most {
+        let farthest = line.length().checked_sub(known.origin())?;
+        if distance.metres() > farthest {
             return None;
         }
         Some((known.start(), known.origin() + distance.metres()))
@@ -423,7 +423,7 @@ impl Scene {
     ///
     /// # Errors
     ///
-    /// Those of the call for its kind. `Memory` is told of a report that is not refused, and of nothing else.
+    /// The errors of the call for its kind. `Memory` is told of a report that is not refused, and of nothing else.
     pub fn tell(&mut self, alloc: Global, told: &Told) -> Result<(), OrMemory<Refusal>>
         requires { IsOfTrack self.old.track told.now }
         ensures told { StepsOrMemory result self.old self.new (after_told self.old.track self.old.scene told.now) }
@@ -445,7 +445,7 @@ impl Scene {
     ///
     /// # Errors
     ///
-    /// Those of the call for its kind. `Memory` comes only for a report that is not refused, and for a grant, where
+    /// The errors of the call for its kind. `Memory` comes only for a report that is not refused, and for a grant, where
     /// memory is needed to see whether it is refused.
     pub fn apply(&mut self, alloc: Global, event: &Event) -> Result<(), OrMemory<Refusal>>
         requires { IsEventOfTrack self.old.track event.now }

@@ -15,7 +15,7 @@ use Rattle.rbc_scene_laws.proofs.AuthorityLemmas.{Apart, flip_apart}
 abbrev pub NumbersDiffer : Scene → Type 0
 NumbersDiffer scene = AllPairs Differ scene.trains
 
--- the train's authority is apart from those of all others
+-- the train's authority is apart from all others'
 abbrev pub IsApartFromOthers : Track → Scene → Train → Type 0
 IsApartFromOthers track scene train = All (λ (other : Train). (other.report.train == train.report.train) ≡ false → Apart track train other) scene.trains
 

@@ -1,5 +1,5 @@
 -- How large lines and scenes get: places fit 32 bits, and a scene has at most 1,024 trains.
-use Rattle.std.proofs.Common.{◌≡◌, ℕ, zero, suc, ◌*◌, ◌<◌, ◌≤◌, Bool, true, false, cond, max, not, List, [], ◌∷◌, length, map, Option, Some, None, refl, subst, arith, inl, inr, nat_lt, nat_le}
+use Rattle.std.proofs.Common.{◌≡◌, ℕ, zero, suc, ◌*◌, ◌<◌, ◌≤◌, true, false, not, List, [], ◌∷◌, length, map, subst, arith, inl, inr, nat_le}
 use Rattle.std.specs.Prelude.{◌==◌, slice_get}
 use Rattle.std.specs.Option.{option_map_or}
 use Rattle.std.specs.List.{list_all, list_any, AllByRecursion, IsDistinct}
@@ -10,11 +10,6 @@ use Rattle.rbc_model.specs.declared.places.Leg.{Leg}
 use Rattle.rbc_model.specs.Tracks.{Track, Section, metres_of}
 use Rattle.rbc_model.specs.SoundTracks.{IsSound, IsInForm, sections_differ}
 use Rattle.rbc_model.specs.Lines.{Line, IsLine, line_length, has_section}
-use Rattle.rbc_model.specs.Reports.{Report}
-use Rattle.rbc_model.specs.Locks.{Locks}
-use Rattle.rbc_model.specs.Trains.{Train}
-use Rattle.rbc_model.specs.Placing.{Placed, train_after, renumbered, old_origin}
-use Rattle.rbc_scene_laws.proofs.ReportingLemmas.{placed_train}
 use Rattle.rbc_scene_laws.proofs.BasicLemmas.{and_left, and_right}
 use Rattle.rbc_scene_laws.proofs.OnLineLemmas.{OnLine-IsLine}
 use Rattle.rbc_model.proofs.BasicLemmas.{flipped}
@@ -71,21 +66,3 @@ line_length-small track line sound form l =
     let few = sound.few_sections in
     let metres = metres_by_legs track line form in
     omega arith
-
--- ---- scenes
-
-report_if : (b : Bool) (x y : Train) (report : Report) → x.report ≡ report → y.report ≡ report → (cond b x y).report ≡ report
-report_if true x y report h k = h
-report_if false x y report h k = k
-
-report_of : (track : Track) (locks : Locks) (known : Option Train) (report : Report) (placed : Placed) → (train_after track locks known report placed).report ≡ report
-report_of track locks None report placed =
-    report_if (nat_lt placed.front placed.front) (placed_train track report placed placed.front placed.front) (placed_train track report placed placed.front placed.front) report refl refl
-report_of track locks (Some train) report placed =
-    let from : ℕ = max (renumbered (old_origin track locks report train.line) placed.origin train.from) placed.rear in
-    let to : ℕ = renumbered (old_origin track locks report train.line) placed.origin train.to in
-    let none : Train = placed_train track report placed placed.front placed.front in
-    let some : Train = placed_train track report placed from to in
-    report_if (nat_lt train.from train.to) (cond (nat_lt from to) some none) (cond (nat_lt placed.front placed.front) none none) report
-    (report_if (nat_lt from to) some none report refl refl)
-    (report_if (nat_lt placed.front placed.front) none none report refl refl)

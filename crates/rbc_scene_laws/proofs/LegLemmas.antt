@@ -95,7 +95,7 @@ any_between low high a (suc n) =
     ]
     same_test (inr past) = le-ltb (max (a + 1) low) (min (a + 1 + n) high) (omega arith) ∙ sym (le-ltb (max a low) (min (a + suc n) high) (omega arith))
 
--- whether the places from one up to another meet those of the leg
+-- whether the places from one up to another meet the places of the leg
 abbrev pub meets : ℕ → ℕ → ℕ → ℕ → Bool
 meets a b low high = nat_lt (max a low) (min b high)
 

@@ -19,7 +19,7 @@ pub record OnLine (track : Track) (line : Line) : Type 0 where
   pub differ : sections_differ line ≡ true
   pub linked : are_linked track line ≡ true
 
--- ---- the same as `IsLine`
+-- ---- `OnLine` says what `IsLine` says
 
 abbrev DifferentSections : Leg → Leg → Type 0
 DifferentSections a b = (a.section ≡ b.section) → ⊥

@@ -8,7 +8,7 @@ use Rattle.rbc_model.specs.Reports.{Report}
 use Rattle.rbc_model.specs.declared.tracks.BaliseGroup.{BaliseGroup}
 use Rattle.rbc_model.specs.declared.places.Leg.{Leg}
 use Rattle.rbc_model.specs.Tracks.{Track, metres_of, leg_eq}
-use Rattle.rbc_model.specs.Lines.{Line, line_length, has_leg, has_section, place_on, metres_to_group, place_of}
+use Rattle.rbc_model.specs.Lines.{Line, line_length, has_leg, has_section, place_on, metres_to_group}
 use Rattle.rbc_model.specs.SoundTracks.{sections_differ}
 use Rattle.rbc_model.specs.Placing.{leg_told, running_leg, origin_on}
 use Rattle.rbc_model.proofs.SamenessLemmas.{leg_eq-true}
@@ -124,17 +124,6 @@ module _ (track : Track) (group : BaliseGroup) (report : Report) where
   origin_is line p has there =
       if_has (has_leg line (record { section = group.section; direction = (leg_told group report).direction })) (place_on track line group.section (metres_to_group track group)) (ap (has_leg line) (leg_told-is group report) ∙ has)
       ∙ ap (λ o. unwrap_or o 0) there
-
-  if_yes : (t : Bool) (o : Option ℕ) → t ≡ true → cond t o None ≡ o
-  if_yes t o e = rw e refl
-
-  -- it is the place of the group
-  pub place_of-origin : (line : Line) → has_leg line (leg_told group report) ≡ true → place_of track line group (leg_told group report).direction ≡ Some (origin_on track group report line)
-  place_of-origin line has =
-      let p = place_on-some track group.section (metres_to_group track group) line (told_section line has) in
-      if_yes (has_leg line (record { section = group.section; direction = (leg_told group report).direction })) (place_on track line group.section (metres_to_group track group)) (ap (has_leg line) (leg_told-is group report) ∙ has)
-      ∙ p.1
-      ∙ ap Some (sym (origin_is line p.0 has p.1))
 
   -- legs behind don't move it
   pub origin-append_left : (a b : Line) → has_leg a (leg_told group report) ≡ true → origin_on track group report (a ++ b) ≡ origin_on track group report a

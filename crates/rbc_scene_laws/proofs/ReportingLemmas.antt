@@ -28,7 +28,7 @@ use Rattle.rbc_scene_laws.proofs.ThroughLemmas.{IsThrough, is_through}
 use Rattle.rbc_scene_laws.proofs.PlacingLemmas.{IsFound, is_found, IsStart, is_start, IsMoved, is_moved, HaveOrigins, origins}
 use Rattle.rbc_scene_laws.proofs.WithinLemmas.{good_within, good_empty}
 
--- ---- the same spot, counted on the line after and on the line before
+-- ---- a spot, counted on the line after and on the line before
 
 module _ (track : Track) (group : BaliseGroup) (report : Report) (known start line : Line) (a : IsAhead track known start) (m : IsMoved track group report start line) where
   abbrev gone : ℕ

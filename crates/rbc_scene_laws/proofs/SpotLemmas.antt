@@ -1,5 +1,5 @@
 -- Laws on lines: what stands at a place of a line from which legs were dropped, or to which legs were added.
-use Rattle.std.proofs.Common.{◌≡◌, ℕ, ◌+◌, ◌-◌, ◌<◌, ◌≤◌, [], ◌∷◌, ◌++◌, Some, None, refl, ap, sym, ◌∙◌, arith, inl, inr}
+use Rattle.std.proofs.Common.{◌≡◌, ℕ, ◌+◌, ◌-◌, ◌<◌, ◌≤◌, [], ◌∷◌, ◌++◌, Some, refl, ap, sym, ◌∙◌, arith, inl, inr}
 use Rattle.std.specs.Prelude.{option_map}
 use Rattle.std.proofs.lemmas.List.Sums.{sum_by-append}
 use Rattle.rbc_model.specs.declared.places.Leg.{Leg}
@@ -44,12 +44,6 @@ module _ {X : Type 0} (say : Leg → ℕ → X) (track : Track) where
         | inl past ↦ let ih = at_place-on line (i - m) x (sym (if_past (Some (say leg i)) (at_place say track line (i - m)) i m past) ∙ h) in omega (arith, line_length-cons track leg line)
         | inr here ↦ omega (arith, line_length-cons track leg line)
       ]
-
-  pub at_place-past : (line : Line) (i : ℕ) → line_length track line ≤ i → at_place say track line i ≡ None
-  at_place-past [] i h = refl
-  at_place-past (leg ∷ line) i h =
-      let m = metres_of track leg.section in
-      if_past (Some (say leg i)) (at_place say track line (i - m)) i m (omega (arith, line_length-cons track leg line)) ∙ at_place-past line (i - m) (omega (arith, line_length-cons track leg line))
 
   -- all that is said at a place is said of its spot
   pub at_place-spot : (line : Line) (i : ℕ) → at_place say track line i ≡ option_map (λ (p : Leg × ℕ). say p.0 p.1) (spot track line i)

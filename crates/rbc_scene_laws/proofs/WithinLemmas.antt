@@ -24,7 +24,7 @@ apart_within track scene train after there was apart within =
     (λ other beside unlike. within_apart track train after other line.differ within (beside unlike))
     (found_beside (Apart track) after.report.train scene.trains train (flip_apart track) there (recursion_from_AllPairs (Apart track) scene.trains apart))
 
--- the same train, by its number
+-- a good scene stays good with a train that has no metre more than the train of its number had
 pub good_within : (track : Track) (scene : Scene) (train after : Train) → train_numbered scene after.report.train ≡ Some train → IsGoodScene track scene → IsGoodTrain track after → IsWithin track train after → IsGoodScene track (with_train scene after)
 good_within track scene train after there good fine within =
     let is_it = λ (t : Train). t.report.train == after.report.train in

@@ -170,7 +170,7 @@ module _ (on : Track) (reading next : Reading) (now : IsRead on reading) where
   abbrev scene : Scene
   scene = reading.scene
 
-  -- the same scene at another stage
+  -- the scene at another stage
   staged : (stage : Stage) → FitsStage track scene stage → IsTold track stage → at_stage reading stage ≡ next → IsRead on next
   staged stage fit told is =
       subst (IsRead on) is (record { of_track = now.of_track; so = record { sound = now.so.sound; good = now.so.good; stage = fit }; told = now.told; tellable = now.tellable; train = told })

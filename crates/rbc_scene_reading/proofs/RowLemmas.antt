@@ -118,9 +118,6 @@ module _ (locks after : Locks) (leg : Leg) (number : ℕ) (before : Option Leg) 
   pub not_taken : taken_before locks before ≡ None
   not_taken = (unless_none LinkTaken (taken_before locks before) (Ok (with_row number locks (leg, before))) after ((unless_none (λ (l : Lock). Clash leg.section) (row locks leg.section) rest after is).1)).0
 
-  pub not_clashing : row locks leg.section ≡ None
-  not_clashing = (unless_none (λ (l : Lock). Clash leg.section) (row locks leg.section) rest after is).0
-
   pub is_with_row : with_row number locks (leg, before) ≡ after
   is_with_row =
       the_ok (with_row number locks (leg, before)) after

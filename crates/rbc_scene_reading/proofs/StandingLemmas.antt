@@ -75,9 +75,6 @@ module _ (track : Track) (running : Running) (rear front : ℤ) where
   pub no_rear : ((place : ℕ) → place_at running.origin rear ≡ Some place → line_length track legs < place) → where_told track running rear front ≡ None
   no_rear beyond = never_there (λ r f d e good told. let b = beyond r d in let x = good.rear in let y = good.front in let never : ⊥ = omega (arith, b, x, y) in never)
 
-  pub no_front : ((place : ℕ) → place_at running.origin front ≡ Some place → line_length track legs < place) → where_told track running rear front ≡ None
-  no_front beyond = never_there (λ r f d e good told. let b = beyond f e in let y = good.front in let never : ⊥ = omega (arith, b, y) in never)
-
   module _ (r f : ℕ) (rear_is : place_at running.origin rear ≡ Some r) (front_is : place_at running.origin front ≡ Some f) where
     abbrev report : Report
     report = running.report

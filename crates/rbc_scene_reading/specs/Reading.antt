@@ -53,7 +53,7 @@ abbrev pub row_fault : Refusal → SceneFault
 row_fault (TakenRefusal leg) = LinkTaken leg
 row_fault _ = Order
 
--- the locks with a row that its route needs, behind those of the sections before
+-- the locks with a row that its route needs, behind the rows of the sections before
 abbrev pub locks_with : Track → Locks → Leg → ℕ → Option Leg → Result Locks SceneFault
 locks_with track locks leg route before = do
   demand (is_needed track leg.section (record { direction = leg.direction; route = route; before = before })) (NotOfRoute leg.section route)

@@ -249,9 +249,6 @@ module _ (track : Track) where
   before_written : (i : ℕ) (word : List ℕ) (before : Option Leg) → track_leg_or_none_at track i word ≡ Ok before → word ≡ leg_or_none (option_map (named_leg track) before)
   before_written i word before h = by_dash (bytes_eq word (45 ∷ [])) refl h
     where
-      some_leg : LegName → Result (Option LegName) LineFault
-      some_leg leg = Ok (Some leg)
-
       by_dash : (dash : Bool) → bytes_eq word (45 ∷ []) ≡ dash → (cond dash (Ok None) (leg_at i word >>= (λ leg. Ok (Some leg))) >>= known_leg_or_none track i) ≡ Ok before
           → word ≡ leg_or_none (option_map (named_leg track) before)
       by_dash true e h = same_bytes word (45 ∷ []) e ∙ ap (λ (o : Option Leg). leg_or_none (option_map (named_leg track) o)) (the_ok None before h)

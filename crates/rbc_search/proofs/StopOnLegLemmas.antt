@@ -17,7 +17,6 @@ use Rattle.rbc_scene_laws.specs.Good.{IsGoodTrain}
 use Rattle.rbc_scene_laws.proofs.OnLineLemmas.{OnLine, OnLine-IsLine}
 use Rattle.rbc_reach_laws.specs.Spans.{first_in, unlocked_span, extent_span}
 use Rattle.rbc_reach_laws.specs.Nearest.{nearer, nearest_on, leg_reach, leg_stop, first_having}
-use Rattle.rbc_search.specs.declared.stretches.Span.{Span}
 use Rattle.rbc_search.specs.declared.stretches.Stretch.{Stretch}
 use Rattle.rbc_search.specs.Stretches.{stretches_of}
 use Rattle.rbc_search.specs.OnLegs.{first_from, free_of, clear_of, stop_met, stop_or, first_train, authority_met}
@@ -49,9 +48,6 @@ module _ (track : Track) (scene : Scene) (train : Train) (before : Option Leg) (
 
   abbrev clear : ℕ
   clear = clear_of (stretches_of track (others scene train) leg.section) (is_locked scene.locks before leg) leg.direction metres (start_of train - p) free
-
-  unlocked : Span
-  unlocked = record { low = 0; high = if is_locked scene.locks before leg then 0 else metres }
 
   pub leg_reach_is : leg_reach track scene train before p leg ≡ p + clear
   leg_reach_is =

@@ -41,9 +41,6 @@ module _ (track : Track) (train : Train) (section q : ℕ) (legs : Line) (i : �
       ∙ ap (λ l. stretch_of track train q leg ∷ l)
       (none_along track train section (q + metres_of track leg.section) rest (subst (λ s. has_section rest s ≡ false) (eqb-true leg.section section e) (lacks_rest line)))
 
-  pub along_later : (leg.section == section) ≡ false → after ≡ stretches_along track train section q (drop i legs)
-  along_later e = sym (ap (stretches_along track train section q) parts ∙ ap (λ b. cond b (stretch_of track train q leg ∷ after) after) e)
-
 -- ---- of all trains
 
 -- those that lack the section have nothing of it

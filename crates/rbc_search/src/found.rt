@@ -31,7 +31,7 @@ fn may_end(train: &Train, place: u32, end: u32) -> bool
     is_ahead(train, end) && end <= place && is_expressible(format, distance)
 }
 
-/// How far the way of a train is clear, what stands there, and the legs that its way begins with: those of its line,
+/// How far the way of a train is clear, what stands there, and the legs that its way begins with: its line's,
 /// and those ahead up to the reach.
 #[derive(Drop)]
 pub struct Reach {

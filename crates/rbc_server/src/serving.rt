@@ -171,7 +171,7 @@ fn first_sight<L: DeskName>(seats: &[Seat<L>]) -> Sight
 }
 
 /// Behind sessions the workers are told what these were told, and serve a sweep. What it granted is kept, and its outcomes are
-/// printed. The workers' seats join those of the sessions.
+/// printed. The workers' seats join the sessions' seats.
 ///
 /// # Errors
 ///

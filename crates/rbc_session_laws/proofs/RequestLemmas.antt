@@ -20,12 +20,6 @@ use Rattle.rbc_model.proofs.CountingLemmas.{both_of}
 use Rattle.rbc_steps.proofs.JoinedLemmas.{IsTrackFunction-joined}
 use Rattle.rbc_model.proofs.SaidLineLemmas.{bound, allowed}
 
--- ---- answers in a row
-
-demanded : {E : Type 0} (b : Bool) (e : E) (x : Unit {0}) → demand b e ≡ Ok x → b ≡ true
-demanded true e x h = refl
-demanded false e x h = cc
-
 -- ---- requests
 
 module _ {V : Type 0} (kind : Kind V) (format : Format) where

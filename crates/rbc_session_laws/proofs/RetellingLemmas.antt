@@ -174,7 +174,7 @@ entries_are_told_again begin before line entry h = again begin before entry line
 -- ---- histories that are retold
 
 module _ (begin : Beginning) where
-  -- the same, entry by entry behind those before
+  -- each entry is made again by its line, behind the entries before
   Retells : List Entry → List Entry → Type 0
   Retells before [] = Unit {0}
   Retells before (entry ∷ entries) = ((line_answer begin before (entry_line begin.track entry)).added ≡ Some entry) × Retells (before ++ entry ∷ []) entries

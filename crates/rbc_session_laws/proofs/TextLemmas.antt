@@ -1,4 +1,4 @@
--- The lines of what a session writes are those of its replies, so each reply that says that memory was refused is seen in what was written.
+-- The lines of what a session writes are the lines of its replies, so each reply that says that memory was refused is seen in what was written.
 use Rattle.std.proofs.Common.{◌≡◌, ◌≢◌, ℕ, ◌+◌, Bool, true, false, cond, List, [], ◌∷◌, ◌++◌, length, Option, Result, Ok, Err, ◌⊎◌, inl, inr, refl, ap, sym, ◌∙◌, subst, append_assoc, append-nil}
 use Rattle.std.specs.Prelude.{MatchBool, MatchResult, ◌==◌, codes, decimal}
 use Rattle.std.specs.Fmt.{signed_decimal}

@@ -62,7 +62,7 @@ module _ (begin : Beginning) (before : List Entry) (reply : List ℕ) (added : O
   abbrev pub IsGivenUp : Type 0
   IsGivenUp = IsRefused Memory
 
-  -- the same for what is told, where it is not refused before anything has to grow
+  -- memory was refused in the treatment of what is told, which nothing refuses before anything has to grow
   abbrev pub IsToldInVain : Told → Type 0
   IsToldInVain told = IsGivenUp × (is_refused_at_once begin.track (replay begin before) told ≡ false)
 

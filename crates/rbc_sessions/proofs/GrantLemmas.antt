@@ -3,7 +3,7 @@ use Rattle.std.proofs.Common.{◌≡◌, ℕ, ◌+◌, ◌<◌, Bool, true, fals
 use Rattle.std.proofs.Math.Seq.{take-append_seam}
 use Rattle.std.specs.Prelude.{All, IsPermutation, OnOk, slice_get}
 use Rattle.std.proofs.lemmas.List.{get_or_read, take-take}
-use Rattle.std.proofs.lemmas.List.Elements.{All-nil, All-cons, All-append, All-contains, All-head, All-more, All-tail, All-weaker, Contains-append_left, Contains-push}
+use Rattle.std.proofs.lemmas.List.Elements.{All-nil, All-append, All-contains, All-head, All-more, All-tail, All-weaker, Contains-append_left, Contains-push}
 use Rattle.std.proofs.lemmas.List.Sorted.{Contains-permutation}
 use Rattle.std.proofs.lemmas.Option.{slice_get_within}
 use Rattle.rbc_model.specs.Histories.{Beginning, Entry, Granted as GrantedEntry, Grants, Receipt, is_full, replay}
@@ -127,11 +127,6 @@ all_kept kept outcomes ranks has is =
     subst (λ n. n < length outcomes → AreKeptOf kept (get_or outcomes n d)) w.2 (here d) inside)
 
 -- ---- one outcome
-
--- what was granted is the entry of its receipt
-pub one_kept : (kept : ℕ → Type 0) (outcome : Outcome) (grant : Grant) → outcome.answer ≡ Granted grant → kept grant.receipt.place → AreKeptOf kept outcome
-one_kept kept outcome grant is k =
-    subst (λ a. All (λ (r : Receipt). kept r.place) (receipts_of a)) (sym is) (All-cons (λ (r : Receipt). kept r.place) grant.receipt [] k (All-nil (λ (r : Receipt). kept r.place)))
 
 -- the outcome with this number
 pub kept_at : (kept : ℕ → Type 0) (outcomes : List Outcome) (number : ℕ) (outcome : Outcome) → number < length outcomes → outcome ≡ get_or outcomes number outcome → AreKeptOf kept outcome

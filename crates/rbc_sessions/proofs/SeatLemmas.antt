@@ -1,24 +1,21 @@
 -- What is told and asked at a desk: the desk's answer as the reply to its line.
-use Rattle.std.proofs.Common.{◌≡◌, ℕ, ◌+◌, ◌<◌, ◌≤◌, true, false, List, length, Option, Some, None, is_some, Result, Ok, Err, refl, sym, ap, ◌∙◌, subst, inl, inr, ℤ, arith}
+use Rattle.std.proofs.Common.{◌≡◌, ℕ, ◌+◌, ◌<◌, ◌≤◌, false, List, length, Option, Some, None, Result, Ok, Err, sym, ap, ◌∙◌, subst, ℤ, arith}
 use Rattle.std.proofs.lemmas.Bool.{leb-false}
 use Rattle.std.specs.Prelude.{nat_le, IfOk}
-use Rattle.std.specs.Option.{option_map_or}
 use Rattle.std.specs.Result.{result_map_both}
-use Rattle.rbc_model.specs.Scenes.{Scene, train_numbered}
-use Rattle.rbc_model.specs.Trains.{Train}
+use Rattle.rbc_model.specs.Scenes.{Scene}
 use Rattle.rbc_model.specs.declared.memory.OrMemory.{OrMemory}
-use Rattle.rbc_model.specs.declared.memory.OrMemory.TheVariants.{Refused, Memory as NoMemory}
+use Rattle.rbc_model.specs.declared.memory.OrMemory.TheVariants.{Refused}
 use Rattle.rbc_model.specs.declared.refusals.Obstacle.{Obstacle}
-use Rattle.rbc_model.specs.declared.refusals.Refusal.TheVariants.{UnknownTrain as NoSuchTrain}
 use Rattle.rbc_model.specs.declared.refusals.ViewFault.{ViewFault}
 use Rattle.rbc_model.specs.declared.refusals.ViewFault.TheVariants.{UnknownTrain as NoTrainShown, Blocked as BlockedAt}
 use Rattle.rbc_model.specs.declared.reports.Told.{Told}
 use Rattle.rbc_model.specs.Answers.{RefusesOrMemory}
 use Rattle.rbc_model.specs.SoundTracks.{IsInForm, IsSound}
 use Rattle.rbc_model.specs.Tracks.{Track}
-use Rattle.rbc_model.specs.Views.{View, greatest_end, shown_up_to, view, view_of}
-use Rattle.rbc_model.specs.Histories.{Beginning, Entry, Receipt, replay, is_full}
-use Rattle.rbc_model.specs.SessionReply.{BadEvent, Full, Memory, accepted_reply, blocked_reply, refused_reply}
+use Rattle.rbc_model.specs.Views.{View, view}
+use Rattle.rbc_model.specs.Histories.{Beginning, Entry, Receipt, replay}
+use Rattle.rbc_model.specs.SessionReply.{accepted_reply, refused_reply}
 use Rattle.rbc_grant_laws.specs.Candidates.{IsCandidateOf}
 use Rattle.rbc_grant_laws.proofs.CandidateLemmas.{view-train}
 use Rattle.rbc_sweep.specs.Candidates.{HasChosenProfiles}
@@ -27,7 +24,7 @@ use Rattle.rbc_model.specs.declared.limits.TheConstants.{MOST_ENTRIES}
 use Rattle.rbc_sweep.specs.Entering.{entry_told}
 use Rattle.rbc_sweep.specs.Records.{IsRight, begin_on, begin_of, HistoryOnTrack, history_on}
 use Rattle.rbc_sweep.specs.AskFault.{AskFault}
-use Rattle.rbc_sweep.specs.AskFault.TheVariants.{UnknownTrain, Blocked, Full as FullToAsker}
+use Rattle.rbc_sweep.specs.AskFault.TheVariants.{Blocked}
 use Rattle.rbc_sweep.specs.Granted.{Granted as GrantedAtDesk}
 use Rattle.rbc_sweep.specs.Asking.{fault_at, IsAnswered, IsAnsweredThen}
 use Rattle.rbc_sweep.specs.Seats.{Seated}
@@ -40,8 +37,8 @@ use Rattle.rbc_model.specs.HistoryText.{IsToldOfTrack}
 use Rattle.rbc_sessions.specs.SeatTurns.{IsAnsweredSince}
 use Rattle.rbc_session_laws.specs.Turns.{AnswersAuthority, AnswersEvent}
 use Rattle.rbc_sessions.specs.Shown.{told_refusal, entry_granted_in, IsToldOf}
-use Rattle.rbc_sessions.proofs.AskingLemmas.{asked_answers, full_said, blocked_named, shown_named, granted_answers, told_whole}
-use Rattle.rbc_sessions.proofs.TellingLemmas.{entered_free, nothing_added, told_answers, not_told_answers, not_told_named}
+use Rattle.rbc_sessions.proofs.AskingLemmas.{blocked_named, shown_named, granted_answers, told_whole}
+use Rattle.rbc_sessions.proofs.TellingLemmas.{nothing_added, told_answers, not_told_answers, not_told_named}
 
 pub below_most : (most n : ℕ) → most ≤ MOST_ENTRIES → nat_le most n ≡ false → n < MOST_ENTRIES
 below_most most n bounded e = let few = leb-false most n e in omega (arith, bounded, few)
@@ -86,19 +83,7 @@ not_told_named_at_desk told fault track begun after sound of_track on since =
     not_told_named (history_on (begin_on track before.begin before.most) before.entries) told fault sound of_track
     (subst (λ t. RefusesOrMemory fault (entry_told (history_on (begin_on t before.begin before.most) before.entries) told)) is entered.0)
 
--- where a receipt was given, its place is one that a history may have
-pub told_below : (begun after : HistoryOnTrack) (told : Told) (receipt : Receipt) → IsToldThen begun after told (Ok receipt) → receipt.place < MOST_ENTRIES
-told_below begun after told receipt since =
-    let entered = since.entered in
-    let later = since.later in
-    let below = below_most since.before.most (length since.before.entries) later.right.bounded (entered_free since.before told receipt.entry entered.0) in omega (arith, entered.1)
-
 -- ---- what is asked
-
-not_seen : (r : Result View ViewFault) (version : ℕ) → result_map_both (λ s. s) (fault_at version) r ≡ Err UnknownTrain → r ≡ Err NoTrainShown
-not_seen (Ok s) version e = cc
-not_seen (Err NoTrainShown) version e = refl
-not_seen (Err (BlockedAt obstacle at)) version e = cc
 
 stopped_at : (r : Result View ViewFault) (version : ℕ) (obstacle : Obstacle) (at : ℤ) (seen_at : ℕ) → result_map_both (λ s. s) (fault_at version) r ≡ Err (Blocked obstacle at seen_at)
     → (r ≡ Err (BlockedAt obstacle at)) × (seen_at ≡ version)
@@ -108,15 +93,6 @@ stopped_at (Err (BlockedAt other place)) version obstacle at seen_at e =
     let same : other ≡ obstacle = cc in let placed : place ≡ at = cc in let version_told : seen_at ≡ version = cc in
     (ap (λ o. Err (BlockedAt o place)) same ∙ ap (λ p. Err (BlockedAt obstacle p)) placed, version_told)
 
--- a train that is there is shown an end, or what stands in its way
-some_end : (track : Track) (scene : Scene) (train : Train) (end : Option ℕ) → shown_up_to track scene train end ≡ Err NoTrainShown → ⊥
-some_end track scene train None e = cc
-some_end track scene train (Some end) e = cc
-
-seen_there : (track : Track) (scene : Scene) (found : Option Train) → is_some found ≡ true → option_map_or (view_of track scene) found (Err NoTrainShown) ≡ Err NoTrainShown → ⊥
-seen_there track scene None known e = cc
-seen_there track scene (Some train) known e = some_end track scene train (greatest_end track scene train) e
-
 module _ (begin : Beginning) (entries : List Entry) (train : ℕ) where
   abbrev there : HistoryOnTrack
   there = history_on begin entries
@@ -124,32 +100,8 @@ module _ (begin : Beginning) (entries : List Entry) (train : ℕ) where
   abbrev shown_there : Result View ViewFault
   shown_there = view begin.track (replay begin entries) train
 
-  pub asked_unknown : IsAnswered there train (Err (Refused UnknownTrain)) → AnswersAuthority begin entries (refused_reply begin.track (BadEvent (NoSuchTrain train))) None train
-  asked_unknown is =
-      asked_answers there train (refused_reply begin.track (BadEvent (NoSuchTrain train))) None (Err NoTrainShown) (not_seen shown_there (length entries) is) (refl, refl)
-
-  pub asked_blocked : (obstacle : Obstacle) (at : ℤ) (version : ℕ) → IsAnswered there train (Err (Refused (Blocked obstacle at version)))
-      → AnswersAuthority begin entries (blocked_reply begin.track train version at obstacle) None train
-  asked_blocked obstacle at version is =
-      let stop = stopped_at shown_there (length entries) obstacle at version is in
-      asked_answers there train (blocked_reply begin.track train version at obstacle) None (Err (BlockedAt obstacle at)) stop.0
-      (inl (ap (λ n. blocked_reply begin.track train n at obstacle) stop.1, refl))
-
   pub asked_blocked_named : (obstacle : Obstacle) (at : ℤ) (version : ℕ) → IsRight there → IsSound begin.track → IsAnswered there train (Err (Refused (Blocked obstacle at version))) → ObstacleIsOfTrack begin.track obstacle
   asked_blocked_named obstacle at version right sound is = let stop = stopped_at shown_there (length entries) obstacle at version is in blocked_named there train obstacle at right sound stop.0
-
-  pub asked_full : IsAnswered there train (Err (Refused FullToAsker)) → AnswersAuthority begin entries (refused_reply begin.track Full) None train
-  asked_full (full, (seen, is)) =
-      asked_answers there train (refused_reply begin.track Full) None (Ok seen) (viewed shown_there (length entries) seen is)
-      (inl (full_said there train seen (viewed shown_there (length entries) seen is) (is_full begin entries) full))
-
-  pub asked_given_up : IsAnswered there train (Err NoMemory) → AnswersAuthority begin entries (refused_reply begin.track Memory) None train
-  asked_given_up is = given_up shown_there refl
-    where
-      given_up : (seen : Result View ViewFault) → shown_there ≡ seen → AnswersAuthority begin entries (refused_reply begin.track Memory) None train
-      given_up (Ok view) e = asked_answers there train (refused_reply begin.track Memory) None (Ok view) e (inr (refl, refl))
-      given_up (Err (BlockedAt obstacle at)) e = asked_answers there train (refused_reply begin.track Memory) None (Err (BlockedAt obstacle at)) e (inr (refl, refl))
-      given_up (Err NoTrainShown) e = absurd (seen_there begin.track (replay begin entries) (train_numbered (replay begin entries) train) is e)
 
   module _ (granted : GrantedAtDesk) (is : IsAnswered there train (Ok granted)) where
     shown_to : shown_there ≡ Ok granted.candidate.view

@@ -268,7 +268,7 @@ module _ {L P : Type 0} (kept : P → ℕ → Type 0) where
         pending_then : List (List ℕ)
         pending_then = pending ++ line ∷ []
 
-        -- the turns from here on, with those of the lines that are pending then
+        -- the turns from here on, with the turns of the lines that are pending then
         Continues : Type 0
         Continues = (others : List (List ℕ)) → ArePending others next → Turned next.sitting after.sitting (others ++ lines) rest
 

@@ -27,7 +27,7 @@ use std::thread::Threads;
 ///
 /// # Errors
 ///
-/// `WriteFailed`, where the writer fails. What is granted is granted all the same.
+/// `WriteFailed`, where the writer fails. What is granted is granted nevertheless.
 pub(crate) fn ask<W: Sink>(
     rt: &(impl Threads + Sync),
     alloc: Global,
@@ -80,7 +80,7 @@ pub fn stopped(
 ///
 /// # Errors
 ///
-/// `WriteFailed`, where the writer fails. What is granted is granted all the same.
+/// `WriteFailed`, where the writer fails. What is granted is granted nevertheless.
 fn grant<W: Sink>(
     rt: &(impl Threads + Sync),
     alloc: Global,

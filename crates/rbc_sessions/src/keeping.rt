@@ -54,12 +54,12 @@ pub trait Keeper<L: DeskName> {
         requires sayable { IsSayable (request_view request.now) }
         ensures says { IfOk result (λ text. says text (request_view request.now)) };
 
-    /// Lays the line of the request that led to the entry of a receipt, by what the seat was told. It is kept with those of the entries
+    /// Lays the line of the request that led to the entry of a receipt, by what the seat was told. It is kept with the lines of the entries
     /// before it, once these are laid.
     fn lay<R: Wait>(&self, rt: &R, seat: &Seat<L>, receipt: &Receipt, text: Self::Text)
         requires told { (request : SessionLine) × says text request × AddsEntry seat.now.told receipt.now.place request };
 
-    /// Returns once the request that led to the entry of a receipt is kept, whose line was laid. It may wait until those of all
+    /// Returns once the request that led to the entry of a receipt is kept, whose line was laid. It may wait until the lines of all
     /// entries before it are laid, too. A request that the committer knows to be kept is not waited for.
     ///
     /// # Errors

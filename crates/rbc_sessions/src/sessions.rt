@@ -66,7 +66,7 @@ pub fn run<R: Source, W: Sink>(
     ensures answers { OnOk result (AnswersAll history.old history.new (R.left reader.old)
         (W.written writer.old) (W.written writer.new)) }
 
-    // The history is a session: the lines of its entries lead to them again, if those of the history before did.
+    // The history is a session: the lines of its entries lead to them again, if the lines of the history before did.
     ensures retold { IsRetold (begin_of history.old) history.old.entries
         → IsRetold (begin_of history.new) history.new.entries }
 

@@ -1,8 +1,8 @@
 -- Lines that are told, each with its reply and with the scene that it leads to.
 use Rattle.std.proofs.Common.{◌≡◌, ◌≢◌, ℕ, suc, ◌+◌, ◌≤◌, ◌<◌, Bool, true, false, cond, inl, inr, List, [], ◌∷◌, ◌++◌, length, Option, Some, None, Result, Ok, Err, refl, sym, ap, ap₂, ◌∙◌, subst, append_assoc, append-nil, arith}
-use Rattle.std.specs.Prelude.{map, codes, decimal}
+use Rattle.std.specs.Prelude.{codes, decimal}
 use Rattle.std.specs.Io.KnownBytes.{Appends, Consumes, IsAtEnd, Keeps}
-use Rattle.std.specs.List.{AllByRecursion, flat_map}
+use Rattle.std.specs.List.{AllByRecursion}
 use Rattle.std.proofs.KnownBytes.{Appends-kept, Appends-trans}
 use Rattle.std.proofs.Math.Nat.{min-eq_left}
 use Rattle.std.proofs.lemmas.List.Elements.{recursion_from_All}
@@ -14,7 +14,7 @@ use Rattle.rbc_model.specs.SessionReply.{SessionRefusal, Memory, refused_reply}
 use Rattle.rbc_model.specs.Sessions.{lines_of}
 use Rattle.rbc_model.specs.SoundTracks.{IsInForm}
 use Rattle.rbc_model.specs.Talks.{Answered, IsTalk}
-use Rattle.rbc_model.specs.TrackLines.{track_lines, named_parts, track_row, section_rows, link_row, group_row, route_row}
+use Rattle.rbc_model.specs.TrackLines.{track_lines}
 use Rattle.rbc_model.specs.Tracks.{Track}
 use Rattle.rbc_model.specs.Rows.{Row, rows_text}
 use Rattle.rbc_model.specs.Scenes.{Scene}
@@ -53,17 +53,6 @@ rows_behind (row ∷ rows) more ends = ends_behind (line_of row) (rows_text (row
 
 done_ends : EndsLine (rows_text ((codes "done" ∷ []) ∷ []))
 done_ends = record { front = codes "done"; is = refl }
-
-track_ends : (track : Track) → EndsLine (track_lines track)
-track_ends track =
-    let parts = named_parts track in
-    rows_behind
-    (track_row parts.format parts.speed_steps parts.grade_steps
-    ∷ flat_map section_rows parts.sections
-    ++ map link_row parts.links
-    ++ map group_row parts.groups
-    ++ map route_row parts.routes)
-    ((codes "done" ∷ []) ∷ []) done_ends
 
 scene_ends : (track : Track) (version : ℕ) (scene : Scene) → EndsLine (scene_lines track version scene)
 scene_ends track version scene = rows_behind ((codes "scene" ∷ decimal version ∷ []) ∷ scene_body track scene) ((codes "done" ∷ []) ∷ []) done_ends

@@ -70,7 +70,7 @@ fn print_request<W: Sink>(number: u32, line: &[u8], writer: &mut W) -> Result<()
 ///
 /// # Errors
 ///
-/// `Memory` where it was refused for the scene, `Write` where the writer failed. The line is answered all the same.
+/// `Memory` where it was refused for the scene, `Write` where the writer failed. The line is answered nevertheless.
 fn answer_line<W: Sink>(
     rt: &(impl Threads + Sync),
     alloc: Global,
@@ -100,7 +100,7 @@ fn answer_line<W: Sink>(
 ///
 /// # Errors
 ///
-/// `Memory` where it was refused for the scene, `Write` where the writer failed. The line is answered all the same.
+/// `Memory` where it was refused for the scene, `Write` where the writer failed. The line is answered nevertheless.
 fn tell_line<W: Sink>(
     rt: &(impl Threads + Sync),
     alloc: Global,

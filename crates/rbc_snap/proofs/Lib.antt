@@ -1,4 +1,3 @@
 pub mod LaterLemmas
-mod EventLemmas
 mod MomentLemmas
 mod StepLemmas

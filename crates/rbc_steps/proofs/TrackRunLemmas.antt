@@ -50,7 +50,7 @@ module _ {V : Type 0} (levels : Levels V) (lawful : IsLawful levels) where
       let before : IsTrackFunction levels (suc n) rows = made_of_one_more n level (λ x h. cover x (omega arith)) in
       rw here.1 (one_more (option_map_or (is_same levels here.0) (value_at rows (suc n)) false) (suc n) rows here.0 before here.2 refl)
 
-  -- so are those of one metre or more
+  -- so are the runs over one metre or more
   pub IsTrackFunction-runs_over : (n : ℕ) (level : ℕ → Option V) → 0 < n → IsCovered levels lawful n level → IsTrackFunction levels n (runs_over levels n level)
   IsTrackFunction-runs_over zero level some cover = absurd (omega arith)
   IsTrackFunction-runs_over (suc n) level some cover = made_of_one_more n level cover

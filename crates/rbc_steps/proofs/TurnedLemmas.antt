@@ -12,13 +12,6 @@ use Rattle.rbc_steps.specs.Mirrored.{start_or, mirrored}
 use Rattle.rbc_steps.proofs.JoinLemmas.{value_at-append, IsTrackFunction-append}
 use Rattle.rbc_steps.proofs.NegatedLemmas.{and_either_way}
 
--- the first row of an ascending list starts above the bound, and below the end
-start_after : {V : Type 0} (n low : ℕ) (rows : List (ℕ × V)) → low < n → rises_above low (starts_of rows) ≡ true → list_all (λ start. nat_lt start n) (starts_of rows) ≡ true → (low < start_or n rows) × (start_or n rows ≤ n)
-start_after n low [] h e i = (h, omega arith)
-start_after n low (row ∷ rows) h e i =
-    let a = all_split (λ start. nat_lt start n) row.0 (starts_of rows) i in
-    ((rises_split low row.0 (starts_of rows) e).0, omega (arith, ltb-true row.0 n a.0))
-
 none_low : {V : Type 0} (low x : ℕ) (rows : List (ℕ × V)) → rises_above low (starts_of rows) ≡ true → x ≤ low → value_at rows x ≡ None
 none_low low x [] e h = refl
 none_low low x (row ∷ rows) e h =

@@ -16,7 +16,7 @@ use Rattle.rbc_streams.proofs.LineLemmas.{lines_of_line, lines_of_last, lines_of
 
 -- ---- lines
 
--- the lines of the input, and of whatever comes unless it has ended, are the treated ones and those of what is pending
+-- the lines of the input, and of whatever comes unless it has ended, are the treated ones, and the lines of what is pending
 abbrev pub Splits : Bool → List ℕ → List (List ℕ) → List ℕ → Type 0
 Splits ended input treated pending = (more : List ℕ) → (ended ≡ true → more ≡ [])
     → lines_of (input ++ more) ≡ treated ++ lines_of (pending ++ more)

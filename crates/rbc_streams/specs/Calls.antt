@@ -13,7 +13,7 @@ abbrev pub noted : {E : Type 0} → Result ℕ E → ℕ → LastCall
 noted (Ok count) room = if count == 0 && nat_lt 0 room then NoByte else Bytes
 noted (Err fault) room = Fault
 
--- the same of a call that hands on what was written: it takes no byte
+-- a call that hands on what was written, as it is noted: it takes no byte
 abbrev pub noted_flush : {A E : Type 0} → Result A E → LastCall
 noted_flush (Ok done) = Bytes
 noted_flush (Err fault) = Fault

@@ -9,6 +9,6 @@ EmitsText old true new failed text = (new ≡ old) × (failed ≡ true)
 EmitsText old false new false text = Appends old new text
 EmitsText old false new true text = WritesPart old new text
 
--- the same of a sink before and behind the call, by what was written to it and whether a write has failed
+-- The text is written to a sink, by what was written to it before and behind the call, and whether a write had failed.
 pub record Emits {S : Type 0} (written : S → Option (List ℕ)) (failed : S → Bool) (old new : S) (words : List ℕ) : Type 0 where
   pub text : EmitsText (written old) (failed old) (written new) (failed new) words

@@ -58,11 +58,11 @@ Steps input now Line = GivesLine input now
 Steps input now Overlong = KeepsInput input now × IsOverlong input now.longest
 Steps input now End = KeepsInput input now × (input ≡ []) × (now.ended ≡ true)
 
--- the same of a step that may fail: then nothing that came is lost, no line that had ended is left, and the input did not end
+-- What a step that may fail did. Where it fails nothing that came is lost, no line that had ended is left, and the input did not end.
 abbrev pub Advances : {E : Type 0} → List ℕ → LineReading → Result Advance E → Type 0
 Advances input now result = MatchResult result (Steps input now) (λ _. KeepsInput input now × HasNoLineFeed input × (now.ended ≡ false))
 
--- The same of a step before whose reads what was written is handed on. Where that fails nothing is read.
+-- What a step did, before whose reads what was written is handed on. Where that fails nothing is read.
 abbrev pub Goes : List ℕ → LineReading → Result Advance SessionFault → Type 0
 Goes input now (Ok step) = Steps input now step
 Goes input now (Err ReadFault) = KeepsInput input now × HasNoLineFeed input × (now.ended ≡ false)

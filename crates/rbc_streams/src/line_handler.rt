@@ -48,7 +48,7 @@ pub trait LineHandler<C> {
     /// the reply may rest, up to one of the next calls.
     ///
     /// # Errors
-    /// The reply is not written whole: the writer failed, or the line handler did. The state is the next one all the same.
+    /// The reply is not written whole: the writer failed, or the line handler did. The state is the next one nevertheless.
     fn answer<T: Threads + Sync, W: Sink>(
         &mut self,
         rt: &T,

@@ -64,7 +64,7 @@ pub fn serve_lines<C, A: LineHandler<C>, R: Source, W: Sink>(
 /// not refused.
 ///
 /// # Errors
-/// Those of [`serve_lines`], but for `Memory`.
+/// The errors of [`serve_lines`], but for `Memory`.
 pub fn serve_lines_with<C, A: LineHandler<C>, R: Source, W: Sink>(
     rt: &(impl Threads + Sync),
     alloc: Global,

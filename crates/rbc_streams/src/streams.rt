@@ -64,7 +64,7 @@ pub trait Sink {
     /// The bytes that were written, where they are known.
     ghost written: { Self → Option (List ℕ) };
 
-    /// Those of them, at their end, that a buffer still holds back from whoever reads them.
+    /// The last of the bytes written: a buffer still holds them back from whoever reads.
     ghost held_back: { Self → List ℕ };
 
     /// Whether a write or a flush has failed.

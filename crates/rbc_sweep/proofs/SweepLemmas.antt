@@ -76,7 +76,7 @@ seats_gained had back has last others done outcomes crew finish is moved =
     HaveGained-moved had has (receipts_in others ++ receipts_in last) (granted outcomes)
     (HaveGained-trans had back has (receipts_in others) (receipts_in last) crew finish) (outcomes_granted last others done outcomes is moved)
 
--- each outcome is told to one of the seats: those of the crew, and then those of the last seat
+-- each outcome is told to one of the seats: the crew's, and then the last seat's
 pub outcomes_told : (had back has : List Seated) (gained more : List Receipt) (last others done : List Done) (outcomes : List Outcome) → HaveGained had back gained → HaveGained back has more
     → All (λ (d : Done). IsToldToOne back has d.outcome) last → All (λ (d : Done). IsToldToOne had back d.outcome) others
     → done ≡ last ++ others → IsPermutation (map outcome_of done) outcomes → All (IsToldToOne had has) outcomes

@@ -91,7 +91,7 @@ fn list_trains<L: DeskName, R: Wait>(
 }
 
 /// Serves each train of the desk's scene once, by one worker for each of the seats, and gives the seats back in their
-/// order. The trains are those of a history that goes on from what the first seat had been told, and each outcome is
+/// order. The trains are the trains of a history that goes on from what the first seat had been told, and each outcome is
 /// that of a history that goes on from what one of the seats had been told. The outcomes stand in the trains' order of
 /// arrival.
 ///

@@ -64,15 +64,3 @@ module _ {V : Type 0} (levels : Levels V) (lawful : IsLawful levels) (unit limit
               absurd (omega arith)
           | inr h ↦ h
         ]
-
--- cuts at any metre
-module _ {V : Type 0} (levels : Levels V) (lawful : IsLawful levels) (limit n : ℕ) (runs : List (ℕ × V)) (track : IsTrackFunction levels n runs)
-    (rows : List (List ℕ)) (sound : IsSoundTable levels 1 limit n runs rows) where
-  pub price_at_most_loss_by_metres : (steps : List (ℕ × V)) → Fits levels 1 limit n (value_at runs) steps
-      → table_at rows (row_count levels 1 limit n runs) (stretch_count levels 1 limit n runs) ≤ loss levels n (value_at runs) steps
-  price_at_most_loss_by_metres = price_at_most_loss levels lawful 1 limit n (omega arith) (omega arith) runs track rows sound
-
-  pub best_of_price_by_metres : (steps : List (ℕ × V)) → Fits levels 1 limit n (value_at runs) steps
-      → loss levels n (value_at runs) steps ≡ table_at rows (row_count levels 1 limit n runs) (stretch_count levels 1 limit n runs)
-      → IsBestProfile levels 1 limit n (value_at runs) steps
-  best_of_price_by_metres = best_of_price levels lawful 1 limit n (omega arith) (omega arith) runs track rows sound

@@ -9,7 +9,6 @@ pub mod BoundLemmas
 pub mod FilledTableLemmas
 pub mod TailLemmas
 pub mod AttainedPriceLemmas
-pub mod NeededStepLemmas
 pub mod ShorterProfileLemmas
 pub mod ShortestProfileLemmas
 pub mod PathLemmas

@@ -12,9 +12,6 @@ use Rattle.rbc_table_laws.proofs.TraceLemmas.{some_stretches}
 module _ {V : Type 0} (levels : Levels V) (unit limit n : ℕ) (runs : List (ℕ × V)) (rows : List (List ℕ)) where
   -- ---- the steps so far
 
-  pub traced_none : (r m : ℕ) → IsTracedTo levels unit limit n runs rows r m [] r m
-  traced_none r m = (refl, refl)
-
   pub traced_more : (r m : ℕ) (back : List (ℕ × V)) (j i' i : ℕ) (step : ℕ × V) → IsTracedTo levels unit limit n runs rows r m back (suc j) i'
       → IsStepBack levels unit limit n runs rows j i' i step → IsTracedTo levels unit limit n runs rows r m (back ++ step ∷ []) j i
   traced_more zero m [] j i' i step t s = absurd (let e = t.0 in omega arith)

@@ -6,7 +6,7 @@ use Rattle.rbc_model.specs.Levels.{Levels, IsInRange, IsAtMost, IsLawful}
 use Rattle.rbc_model.specs.Profiles.{StepFunction, IsTrackFunction, value_at, price_at}
 use Rattle.rbc_model.specs.PriceTables.{least_value, cost, stretch_count}
 use Rattle.rbc_table_laws.specs.Breaks.{AreBreaks, breaks_in, IsLowest, IsBelowAll, lost_below}
-use Rattle.rbc_table_laws.specs.Stretches.{AreBreaksFor, IsPart, cost_of_step}
+use Rattle.rbc_table_laws.specs.Stretches.{AreBreaksFor, IsPart}
 use Rattle.rbc_table_laws.proofs.SumLemmas.{sum_from, sum_of_same}
 use Rattle.rbc_table_laws.proofs.LeastLemmas.{other_lower}
 use Rattle.rbc_table_laws.proofs.TrackBreakLemmas.{in_track, up_to_end}
@@ -44,11 +44,7 @@ module _ {V : Type 0} (levels : Levels V) (lawful : IsLawful levels) (track : St
     pub lost_is : lost_below levels track (levels.floor least) from + cost levels (value_at track.steps) from to ≡ lost_below levels track (levels.floor least) to
     lost_is = by_run.lost_by_floor levels lawful track function (breaks_in track) of_track from to least end l
 
-    -- what is below all of the metres is below it
-    pub least_above : (given : V) → IsBelowAll levels track from to given → IsAtMost levels given least
-    least_above given below = below l.place least l.low l.high l.there
-
-  -- what is below the metres of a stretch is below those of a part of it
+  -- what is below the metres of a stretch is below the metres of a part of it
   pub below_part : (from to low high : ℕ) (given : V) → from ≤ low → high ≤ to → IsBelowAll levels track from to given → IsBelowAll levels track low high given
   below_part from to low high given a b below = λ x v from_low to_high there. below x v (omega arith) (omega arith) there
 
@@ -166,16 +162,6 @@ module _ {V : Type 0} (levels : Levels V) (lawful : IsLawful levels) (track : St
 
   -- the least value of both and that of the second
   module _ (from mid to : ℕ) (now last : V) (end : to ≤ track.end) (order : from ≤ mid) (both : IsLowest levels track from to now) (second : IsLowest levels track mid to last) where
-    range_now : IsInRange levels now
-    range_now = least_range from to now end both
-
-    range_last : IsInRange levels last
-    range_last = least_range mid to last end second
-
-    -- where the second's is no higher it is the least
-    pub least_same : levels.at_most last now ≡ true → now ≡ last
-    least_same e = let low = second.low in lawful.ordered.antisymmetric now last range_now range_last (both.below second.place last (omega arith) second.high second.there) e
-
     -- where it is higher the least one stands before it
     pub least_before : levels.at_most last now ≡ false → IsLowest levels track from mid now
     least_before e =
@@ -215,6 +201,3 @@ module _ {V : Type 0} (unit : ℕ) (track : StepFunction V) (breaks : List ℕ) 
 
   pub breaks_to_end : (i : ℕ) → i < length breaks → get_or breaks i 0 ≤ track.end
   breaks_to_end i h = let up = breaks_rise_to i (length breaks - 1) (omega arith) (omega arith) in let last = are.last in omega arith
-
-  pub cost_for : (levels : Levels V) (i i' : ℕ) → cost levels (value_at track.steps) (get_or breaks i 0) (get_or breaks i' 0) ≡ cost_of_step levels unit track i i'
-  cost_for levels i i' = ap (λ b. cost levels (value_at track.steps) (get_or b i 0) (get_or b i' 0)) are.are

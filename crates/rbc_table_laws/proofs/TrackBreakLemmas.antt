@@ -6,7 +6,7 @@ use Rattle.std.proofs.lemmas.Bool.{ltb-true, lt-ltb}
 use Rattle.std.proofs.lemmas.Option.{slice_get-get_or}
 use Rattle.rbc_model.specs.Levels.{Levels}
 use Rattle.rbc_model.specs.Profiles.{StepFunction, IsTrackFunction, value_at, starts_of, rises_above, rises_from_zero}
-use Rattle.rbc_model.specs.PriceTables.{stretch_count, breaks_of, with_number, rounded_down, rounded_up}
+use Rattle.rbc_model.specs.PriceTables.{breaks_of, with_number, rounded_down, rounded_up}
 use Rattle.rbc_table_laws.specs.Breaks.{AreBreaks}
 use Rattle.rbc_table_laws.proofs.RisingNumberLemmas.{Rises, rises_at}
 use Rattle.rbc_table_laws.proofs.BreakLemmas.{breaks_rise}
@@ -103,7 +103,7 @@ module _ {V : Type 0} (levels : Levels V) (n : ℕ) (runs : List (ℕ × V)) (tr
     flat = λ i x run at low high. flat n runs track.starts.rising i x run at low (omega (arith, next i));
   })
 
-  -- the same of the list in its definition
+  -- the list of breaks by its definition has the breaks
   pub in_track : AreBreaks (record { steps = runs; end = n }) (breaks_of 1 n (starts_of runs))
   in_track = are_breaks (breaks_of 1 n (starts_of runs)) (breaks_are n (starts_of runs) track.starts.rising track.starts.inside)
 
@@ -119,10 +119,6 @@ module _ {V : Type 0} (levels : Levels V) (n : ℕ) (runs : List (ℕ × V)) (tr
 -- ---- breaks of a track
 
 module _ {V : Type 0} (track : StepFunction V) (breaks : List ℕ) (are : AreBreaks track breaks) where
-  -- there are as many stretches between them as runs
-  pub stretches_are : (levels : Levels V) (limit : ℕ) → stretch_count levels 1 limit track.end track.steps ≡ length track.steps
-  stretches_are levels limit = let count = are.count in let same = ap length are.are in omega arith
-
   -- they rise
   rises_on : (i count : ℕ) → i + count ≤ length track.steps → get_or breaks i 0 ≤ get_or breaks (i + count) 0
   rises_on i zero h = let same : get_or breaks (i + zero) 0 ≡ get_or breaks i 0 = ap (λ k. get_or breaks k 0) (omega arith) in omega arith

@@ -9,7 +9,7 @@ use Rattle.rbc_model.specs.Profiles.{IsTrackFunction, starts_of}
 use Rattle.rbc_model.specs.PriceTables.{rounded_down, rounded_up, with_number, breaks_of}
 use Rattle.rbc_table_laws.specs.Stretches.{AreBreaksFor, AreWalked, break_behind, break_before}
 use Rattle.rbc_table_laws.proofs.RisingNumberLemmas.{Rises, Has, rises_at, not_between, whole_at}
-use Rattle.rbc_table_laws.proofs.BreakLemmas.{down_below, up_above, above_down, below_up, breaks_rise, has_end, has_down, has_up, breaks_whole, some_breaks, first_is, last_is, at_most_end, track_some}
+use Rattle.rbc_table_laws.proofs.BreakLemmas.{down_below, up_above, above_down, below_up, breaks_rise, has_end, has_down, has_up, breaks_whole, some_breaks, first_is, last_is, track_some}
 use Rattle.rbc_table_laws.proofs.TrackBreakLemmas.{breaks_are}
 use Rattle.rbc_model.proofs.ScanLemmas.{le_or_lt}
 use Rattle.rbc_model.proofs.StepListLemmas.{all_split}
@@ -163,9 +163,6 @@ module _ {V : Type 0} (levels : Levels V) (lawful : IsLawful levels) (unit : ℕ
 
   whole_break : (i : ℕ) → i < length breaks → get_or breaks i 0 % unit ≡ 0
   whole_break i h = whole_at unit breaks i h (breaks_whole unit some n whole starts)
-
-  up_to_end : (i : ℕ) → i < length breaks → get_or breaks i 0 ≤ n
-  up_to_end = at_most_end levels lawful unit 1 n some whole runs track
 
   down_end : rounded_down unit n ≡ n
   down_end = let low = down_below unit some n in let high = at_most_down unit some n n whole (omega arith) in omega arith

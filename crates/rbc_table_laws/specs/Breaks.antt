@@ -2,7 +2,7 @@
 use Rattle.std.specs.Prelude.{◌≡◌, ℕ, suc, ◌+◌, ◌<◌, ◌≤◌, List, Some, length, slice_get, slice_index}
 use Rattle.rbc_model.specs.Levels.{Levels, IsAtMost}
 use Rattle.rbc_model.specs.Profiles.{StepFunction, value_at, starts_of, price_at, sum_below}
-use Rattle.rbc_model.specs.PriceTables.{breaks_of, step_cost}
+use Rattle.rbc_model.specs.PriceTables.{breaks_of}
 
 -- the breaks of a track, at a unit of 1: the starts of its runs, and its end
 abbrev pub breaks_in : {V : Type 0} → StepFunction V → List ℕ
@@ -35,7 +35,3 @@ module _ {V : Type 0} (levels : Levels V) (track : StepFunction V) where
     pub high : place < to
     pub there : value_at track.steps place ≡ Some v
     pub below : IsBelowAll from to v
-
-  -- what one step costs from a break up to another
-  abbrev pub cost_between : ℕ → ℕ → ℕ
-  cost_between i i' = step_cost levels 1 1 track.end track.steps i i'

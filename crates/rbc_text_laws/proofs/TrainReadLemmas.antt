@@ -65,7 +65,7 @@ pieces_are_short zero (leg ∷ legs) =
     record { first = []; later = rest.first ∷ rest.later; is = ap (λ l. [] ∷ l) rest.is; fits = omega arith; short = (rest.fits, rest.short) }
 pieces_are_short (suc room) (leg ∷ legs) = short-in_front room leg (pieces_of room legs) (pieces_are_short room legs)
 
--- what holds of all legs of pieces holds of those of each
+-- what holds of all legs of pieces holds of the legs of each
 pub each_piece : (P : Leg → Type 0) (legs more : Line) → AllByRecursion P (legs ++ more) → AllByRecursion P legs × AllByRecursion P more
 each_piece P [] more all = (tt, all)
 each_piece P (leg ∷ legs) more all = let rest = each_piece P legs more all.1 in ((all.0, rest.0), rest.1)

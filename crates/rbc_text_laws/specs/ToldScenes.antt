@@ -18,7 +18,7 @@ use Rattle.rbc_model.specs.SceneLines.{distance_word, next_line, read_scene_line
 use Rattle.rbc_scene_laws.specs.Good.{IsGoodScene}
 
 -- The version and the scene are read back from their lines, where the track is sound and its names are names, the scene is a good one, its rows are
--- those of routes and its reports are reports.
+-- rows of routes and its reports are reports.
 abbrev pub SceneLinesAreReadBack : Type 0
 SceneLinesAreReadBack = (track : Track) (version : ℕ) (scene : Scene) → IsInForm track → IsSound track → HasNames track → IsGoodScene track scene → IsTellable track scene
     → version < 10 ^ 10 → read_scene_lines track (scene_lines track version scene) ≡ Some (version, scene)

@@ -1,5 +1,5 @@
 -- Names that stand beside entries find the entries.
-use Rattle.std.proofs.Common.{◌≡◌, ℕ, ◌+◌, ◌<◌, ◌≤◌, Bool, true, false, not, ◌||◌, ◌&&◌, ◌==◌, cond, nat_lt, nat_eq, zero, suc, option_and_then, List, [], ◌∷◌, length, map, Option, Some, None, refl, sym, ap, ◌∙◌, arith, position, find, slice_get}
+use Rattle.std.proofs.Common.{◌≡◌, ℕ, ◌+◌, ◌≤◌, Bool, true, false, not, ◌||◌, ◌&&◌, ◌==◌, cond, nat_lt, nat_eq, zero, suc, option_and_then, List, [], ◌∷◌, length, map, Option, Some, None, refl, sym, ap, ◌∙◌, arith, position, find, slice_get}
 use Rattle.std.specs.List.{list_all, list_any, position_or_len}
 use Rattle.std.proofs.Common.{Bor, get_or, is_some, IfSome, option_copied, ltb-false, ltb-true}
 use Rattle.std.proofs.lemmas.Option.{slice_get_read}
@@ -58,8 +58,6 @@ find-passes test good (x ∷ xs) (Some y) all e =
     let both = both_of (good x) (list_all good xs) all in
     found_at good x (find test xs) y (test x) both.0 (λ f. find-passes test good xs (Some y) both.1 f) e
 
--- ---- what is known of a refusal
-
 -- ---- groups, by keys
 
 same_number : (a b : ℕ) → nat_eq a b ≡ (b == a)
@@ -82,7 +80,7 @@ place_key name (key ∷ keys) =
     ap (λ b. cond (not b) (1 + position_or_len (λ k. nat_eq name.country k.0 && nat_eq name.number k.1) keys) 0) (same_key name key)
     ∙ ap (λ n. cond (not (group_name_eq (group_name key) name)) (1 + n) 0) (place_key name keys)
 
--- and at the same place
+-- and at one place
 pub position_key : (name : GroupName) (keys : List (ℕ × ℕ)) → position (λ key. nat_eq name.country key.0 && nat_eq name.number key.1) keys ≡ position (λ other. group_name_eq other name) (map group_name keys)
 position_key name keys =
     ap (λ place. cond (nat_lt place (length keys)) (Some place) None) (place_key name keys)
@@ -95,13 +93,3 @@ got xs i None inside is =
     let outside : length xs ≤ i = ltb-false i (length xs) (sym inside) in
     sym (past_end (λ x. true) xs i outside)
 got xs i (Some x) inside is = sym (slice_get_read xs (length xs) i x.now refl (ltb-true i (length xs) (sym inside)) is)
-
--- what is found stands on the list
-module _ {X : Type 0} (test : X → Bool) (xs : List X) where
-  within_at : (below : Bool) → nat_lt (position_or_len test xs) (length xs) ≡ below → (found : Option ℕ) → found ≡ cond below (Some (position_or_len test xs)) None → IfSome found (λ i. i < length xs)
-  within_at below h None e = tt
-  within_at true h (Some i) e = let same : i ≡ position_or_len test xs = cc in omega (arith, same, ltb-true (position_or_len test xs) (length xs) h)
-  within_at false h (Some i) e = cc
-
-  pub position-within : (found : Option ℕ) → found ≡ position test xs → IfSome found (λ i. i < length xs)
-  position-within found e = within_at (nat_lt (position_or_len test xs) (length xs)) refl found e

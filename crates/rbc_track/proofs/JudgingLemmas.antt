@@ -2,7 +2,7 @@
 use Rattle.std.proofs.Common.{◌≡◌, ℕ, suc, ◌+◌, ◌<◌, Bool, true, false, not, List, [], ◌∷◌, ◌++◌, length, take, drop, map, get_or, Option, Some, None, Result, Ok, Err, refl, sym, ap, ◌∙◌, add-one, append_assoc}
 use Rattle.std.specs.List.{list_any}
 use Rattle.std.proofs.Math.Seq.{drop-cons, take-suc}
-use Rattle.std.proofs.lemmas.List.{append-nil, map-append, length-map}
+use Rattle.std.proofs.lemmas.List.{map-append, length-map}
 use Rattle.rbc_model.specs.Answers.{RefusesOrMemory}
 use Rattle.rbc_model.specs.declared.memory.OrMemory.{OrMemory}
 use Rattle.rbc_model.specs.declared.memory.OrMemory.TheVariants.{Refused, Memory}
@@ -58,10 +58,6 @@ module _ {X : Type 0} (judge : List X → X → Option TrackRefusal) (total : Re
       ∙ ap (λ l. unless (first_refusal judge (done ++ x ∷ []) later) (Ok l)) (append_assoc done (x ∷ []) later)
       ∙ sym (ap (λ o. unless (option_or o (first_refusal judge (done ++ x ∷ []) later)) (Ok (done ++ x ∷ later))) (none (judge done x) here))
       ∙ sym (ap (judged_from judge done) split) ∙ so_far
-
-  -- all are passed
-  pub all_passed : (rest : List X) → rest ≡ [] → judged_from judge done rest ≡ total → total ≡ Ok done
-  all_passed rest empty so_far = sym so_far ∙ ap (judged_from judge done) empty ∙ ap Ok (append-nil done)
 
 -- a test by its answer and by its refusal
 pub by_refusal : (b : Bool) (refusal : TrackRefusal) → demand b refusal ≡ unless (refuse_unless b refusal) (Ok tt)

@@ -5,7 +5,7 @@ use Rattle.rbc_model.specs.declared.limits.TheConstants.{SHORTEST_RUN}
 use Rattle.rbc_model.specs.Profiles.{starts_of}
 use Rattle.rbc_model.specs.SoundTracks.{are_long}
 
--- the same over starts, from the first one on
+-- runs are long enough, by their starts alone, from the first one on
 abbrev pub are_apart : ℕ → ℕ → List ℕ → Bool
 are_apart metres start [] = nat_le (start + SHORTEST_RUN) metres
 are_apart metres start (next ∷ later) = nat_le (start + SHORTEST_RUN) next && are_apart metres next later

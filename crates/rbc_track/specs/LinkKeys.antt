@@ -22,7 +22,7 @@ leg_key leg = record { section = leg.section; rises = is_rising leg.direction }
 abbrev pub link_key : Leg → Leg → LinkKey
 link_key from to = record { from = leg_key from; to = leg_key to }
 
--- the key of the same section run the other way, and of the link that leads back
+-- the key of the leg's section, run the other way, and of the link that leads back
 abbrev pub reverse_key : LegKey → LegKey
 reverse_key leg = record { section = leg.section; rises = not leg.rises }
 

@@ -11,7 +11,7 @@ use Rattle.rbc_model.specs.TrackParts.{LinkPart, RoutePart}
 abbrev pub written_eq : LegName → LegName → Bool
 written_eq a b = bytes_eq a.section b.section && direction_eq a.direction b.direction
 
--- the same section the other way
+-- the leg's section, run the other way
 abbrev pub written_reverse : LegName → LegName
 written_reverse leg = record { section = leg.section; direction = opposite leg.direction }
 

@@ -55,7 +55,7 @@ fn is_good_group(sections: &Sections, group: &BaliseGroup) -> bool
     stands_on(sections.as_slice(), group.section, group.offset)
 }
 
-/// Judges one more group, behind those of these identities, and notes its identity.
+/// Judges one more group, behind the groups of these identities, and notes its identity.
 fn note(
     names: &mut GroupNames,
     sections: &Sections,

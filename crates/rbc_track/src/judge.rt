@@ -1,5 +1,5 @@
 //! Parts judged without memory: each entry is compared with all before it, which is slow. This is done where there is no
-//! memory for the tables, so that parts that make no track are told so all the same.
+//! memory for the tables, so that parts that make no track are told so nevertheless.
 
 ghost use Rattle.std.specs.Prelude.{◌≡◌, ◌+◌, [], map, length, not, position, true, Ok, bytes_eq};
 ghost use Rattle.std.specs.List.{list_any, list_all};

@@ -65,7 +65,7 @@ fn link_key(from: &Leg, to: &Leg) -> LinkKey
     }
 }
 
-/// The key of the same section run the other way.
+/// The key of the leg's section, run the other way.
 fn reverse_key(leg: &LegKey) -> LegKey
     ensures { result ≡ reverse_key leg.now }
 {

@@ -46,7 +46,7 @@ fn is_good(sections: &Sections, links: &Links, route: &Route) -> bool
     is_good_route(links, sections.len(), route.after(), route.legs())
 }
 
-/// Judges one more route, behind those of these names, and notes its name.
+/// Judges one more route, behind the routes of these names, and notes its name.
 fn note(
     names: &mut Names,
     sections: &Sections,

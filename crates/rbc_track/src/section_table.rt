@@ -37,7 +37,7 @@ impl Model for Sections {
     ghost invariant = { λ table. IsSectionTable table.sections.items table.names };
 }
 
-/// Judges one more section, behind those of these names, and notes its name.
+/// Judges one more section, behind the sections of these names, and notes its name.
 fn note(names: &mut Names, section: &Section, number: usize) -> Result<(), OrMemory<TrackRefusal>>
     ensures judged { AnswersOrMemory result (entry_answer
         (not (list_any (λ other. bytes_eq other section.now.name) names.old)) (TwiceNamed SectionTable number)

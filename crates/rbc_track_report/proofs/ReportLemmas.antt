@@ -23,7 +23,7 @@ texts-next {X} text xs index x inside same =
 pub texts-end : {X : Type 0} (text : X → List ℕ) (xs : List X) (index : ℕ) → length xs ≤ index → flat_map text (drop index xs) ≡ []
 texts-end text xs index past = at_drop_all (flat_map text) xs index past
 
--- the same of entries with their numbers
+-- the text of entries with their numbers: the first one's, and the others' behind it
 pub each-next : {X : Type 0} (text : ℕ → X → List ℕ) (xs : List X) (index : ℕ) (x : X) → index < length xs → x ≡ get_or xs index x
     → each_text text index (drop index xs) ≡ text index x ++ each_text text (index + 1) (drop (index + 1) xs)
 each-next {X} text xs index x inside same =

@@ -56,8 +56,3 @@ module _ {A : Type 0} (read : ℕ → Data → Result A FileFault) (total : Resu
   unfolding each_told
   all_read number values i past so_far =
       sym so_far ∙ ap (λ vs. told_before front (each_told read number vs)) (at_drop_all (map view) values i past) ∙ ap Ok (append-nil front)
-
--- none is read yet
-pub none_yet : {A : Type 0} (answer : Result (List A) FileFault) → told_before [] answer ≡ answer
-none_yet (Ok later) = refl
-none_yet (Err fault) = refl

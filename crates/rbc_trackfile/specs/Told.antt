@@ -84,7 +84,7 @@ values_told sort entry key value = do
   demand (list_all (is_of_sort sort) values) (Wrong entry.table entry.number key)
   Ok values
 
--- the same at a key that may be absent
+-- the tables of the list at a key, none where the key is absent
 unfoldable pub tables_told : FileEntry Data → Key → Result (List Data) FileFault
 tables_told entry key = or_absent toml_document (values_told Table entry key) [] (value_told entry key)
 

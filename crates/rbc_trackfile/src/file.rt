@@ -160,7 +160,7 @@ pub fn read_parts(alloc: Global, table: &Table) -> Result<Parts, OrMemory<FileFa
 ///
 /// # Errors
 ///
-/// `Refused` with the file's first fault: `Toml`, then those of `read_parts`, and then `Track` with the refusal of
+/// `Refused` with the file's first fault: `Toml`, then the faults of `read_parts`, and then `Track` with the refusal of
 /// `Track::new`. `Memory` may come in place of a fault, unless the bytes are no UTF-8, or are blank.
 pub fn read(alloc: Global, text: &[u8]) -> Result<Track, OrMemory<FileFault>>
     ensures track { AnswersOrMemory result (track_told text.now) }

@@ -1,8 +1,7 @@
 -- What was given to a writer inside a page stands in it, escaped.
-use Rattle.std.proofs.Common.{◌≡◌, ℕ, List, [], ◌∷◌, ◌++◌, length, take, drop, Option, Some, None, refl, sym, ap, subst, ◌∙◌, append_assoc, append-nil}
+use Rattle.std.proofs.Common.{◌≡◌, ℕ, List, [], ◌∷◌, ◌++◌, length, take, drop, Option, Some, None, refl, sym, ap, subst, ◌∙◌, append-nil}
 use Rattle.std.specs.Io.KnownBytes.{Appends}
 use Rattle.std.proofs.Math.Seq.{drop-append_seam, take-append_seam}
-use Rattle.rbc_viewer.specs.Escapes.{escaped}
 use Rattle.rbc_viewer.specs.Given.{inside}
 
 -- what is known to stand behind what was written was written
@@ -15,11 +14,6 @@ known None old more wrote = absurd wrote
 known (Some all) old more wrote = ap Some wrote
 
 -- ---- what counts as written
-
-pub inside_more : (start : Option (List ℕ)) (given bytes all : List ℕ) → all ≡ given ++ bytes → Appends (inside start given) (inside start all) bytes
-inside_more None given bytes all is = tt
-inside_more (Some before) given bytes all is =
-    ap (λ t. length before ∷ (before ++ t)) is ∙ ap (λ t. length before ∷ t) (sym (append_assoc before given bytes))
 
 abbrev head_of : List ℕ → ℕ
 head_of [] = 0

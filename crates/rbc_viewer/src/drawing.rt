@@ -22,7 +22,7 @@ use std::alloc::Global;
 ///
 /// # Errors
 ///
-/// Those of [`draw`], but for want of memory before anything is read.
+/// The errors of [`draw`], but for want of memory before anything is read.
 fn draw_lines<R: Source, W: Sink>(
     lines: &mut LineReader,
     reader: &mut R,

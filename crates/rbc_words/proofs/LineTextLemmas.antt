@@ -1,7 +1,6 @@
 -- The lines of a reply as the pieces that are printed one behind another.
-use Rattle.std.proofs.Common.{◌≡◌, ℕ, List, [], ◌∷◌, ◌++◌, refl, sym, ap, ◌∙◌, append_assoc, append-nil, arith, ◌==◌, true, take, drop, take-append-drop, get_or, length, ◌<◌, ◌≤◌, ◌+◌, suc, add-one, drop-cons}
+use Rattle.std.proofs.Common.{◌≡◌, ℕ, List, [], ◌∷◌, ◌++◌, refl, sym, ap, ◌∙◌, append_assoc, append-nil, arith, ◌==◌, true, take, drop, take-append-drop, length, ◌+◌}
 use Rattle.std.proofs.lemmas.Bool.{eqb-true}
-use Rattle.std.proofs.lemmas.List.{at_drop_all}
 use Rattle.std.specs.Prelude.{codes, decimal}
 use Rattle.std.specs.List.{flat_map, join_with_byte}
 use Rattle.std.proofs.lemmas.Grind.{flat_map-append}
@@ -63,23 +62,6 @@ pub certificate_lines-is : {V : Type 0} (kind : Kind V) (profile : StepFunction 
     ≡ track_text kind basis.limit basis.track.now ++ (profile_line kind profile.steps loss ++ prices_text basis.prices.now)
 certificate_lines-is kind profile loss basis =
     append_assoc (track_text kind basis.limit basis.track.now) (profile_line kind profile.steps loss) (prices_text basis.prices.now)
-
--- the pieces of a run
-pub run_text-is : {V : Type 0} (kind : Kind V) (start number : ℕ) (value : V) → number ≡ start
-    → 32 ∷ (decimal start ++ 58 ∷ kind.print value) ≡ codes " " ++ (decimal number ++ (codes ":" ++ kind.print value))
-run_text-is kind start number value same = ap (λ n. 32 ∷ (decimal n ++ 58 ∷ kind.print value)) (sym same)
-
--- the first of the runs that are left, and those behind it
-pub runs_text-next : {V : Type 0} (kind : Kind V) (runs : List (ℕ × V)) (index : ℕ) (run : ℕ × V) → index < length runs → run ≡ get_or runs index run
-    → runs_text kind (drop index runs) ≡ (32 ∷ (decimal run.0 ++ 58 ∷ kind.print run.1)) ++ runs_text kind (drop (index + 1) runs)
-runs_text-next {V} kind runs index run inside same =
-    ap (runs_text kind) (drop-cons runs index run inside)
-    ∙ ap (λ (first : ℕ × V). (32 ∷ (decimal first.0 ++ 58 ∷ kind.print first.1)) ++ runs_text kind (drop (suc index) runs)) (sym same)
-    ∙ ap (λ i. (32 ∷ (decimal run.0 ++ 58 ∷ kind.print run.1)) ++ runs_text kind (drop i runs)) (sym (add-one index))
-
--- no run is left
-pub runs_text-end : {V : Type 0} (kind : Kind V) (runs : List (ℕ × V)) (index : ℕ) → length runs ≤ index → runs_text kind (drop index runs) ≡ []
-runs_text-end kind runs index past = at_drop_all (runs_text kind) runs index past
 
 -- runs are the first ones, as they are written, and then the rest
 pub runs_text-split : {V : Type 0} (kind : Kind V) (count : ℕ) (runs front rest : List (ℕ × V)) → front ≡ take count runs → rest ≡ drop count runs

@@ -2,9 +2,8 @@
 use Rattle.std.proofs.Common.{◌≡◌, ℕ, Bool, true, false, List, [], ◌++◌, Option, Result, Ok, Err, sym, subst}
 use Rattle.std.specs.Io.KnownBytes.{Appends}
 use Rattle.std.proofs.KnownBytes.{Appends-nil}
-use Rattle.std.specs.Prelude.{is_err}
 use Rattle.std.specs.Result.{IsErr}
-use Rattle.rbc_model.specs.Sessions.{WritesText, WritesPart, Prints}
+use Rattle.rbc_model.specs.Sessions.{WritesPart, Prints}
 use Rattle.rbc_streams.proofs.WritingLemmas.{writes_then, writes_stopped}
 
 -- nothing is left to print
@@ -25,8 +24,3 @@ module _ {E : Type 0} (a b c : Option (List ℕ)) (failed : Bool) (x y text : Li
   pub prints_then : Appends a b x → text ≡ x ++ y → Prints b c failed y r → Prints a c failed text r
   prints_then first whole second =
       record { text = writes_then a b c x y text r first whole second.text; failed = second.failed }
-
-  -- the same, of a second part that `put` writes
-  pub prints_last : Appends a b x → text ≡ x ++ y → WritesText b c y r → failed ≡ is_err r → Prints a c failed text r
-  prints_last first whole second fails =
-      record { text = writes_then a b c x y text r first whole second; failed = fails }

@@ -11,7 +11,7 @@ report_in-no_last a b c d e f g [] fault none = let same : Words ≡ fault = cc 
 report_in-no_last a b c d e f g (h ∷ []) fault none = absurd cc
 report_in-no_last a b c d e f g (h ∷ i ∷ more) fault none = let same : Words ≡ fault = cc in ap Err same
 
--- the same of metres given back
+-- metres given back, where the last word is missing or is not the last
 pub give_back_in-no_last : (a : List ℕ) (rest : List (List ℕ)) (fault : LineFault) → only_word rest ≡ Err fault → give_back_in (a ∷ rest) ≡ Err fault
 give_back_in-no_last a [] fault none = let same : Words ≡ fault = cc in ap Err same
 give_back_in-no_last a (b ∷ []) fault none = absurd cc

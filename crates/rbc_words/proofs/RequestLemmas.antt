@@ -19,13 +19,6 @@ pub record IsSoFar {V : Type 0} (all left : Result (StepsRequest V) LineFault) (
   pub kept : refused ≡ false → all ≡ with_runs front left
   pub faults : result_err all ≡ result_err left
 
-no_runs : {V : Type 0} (read : Result (StepsRequest V) LineFault) → read ≡ with_runs [] read
-no_runs (Ok request) = refl
-no_runs (Err fault) = refl
-
-pub none_so_far : {V : Type 0} (all : Result (StepsRequest V) LineFault) → IsSoFar all all false []
-none_so_far all = record { kept = λ e. no_runs all; faults = refl }
-
 regroup : {V : Type 0} (front : List (ℕ × V)) (run : ℕ × V) (read : Result (StepsRequest V) LineFault)
     → with_runs front (read >>= λ rest. Ok (record rest { runs = run ∷ rest.runs })) ≡ with_runs (front ++ run ∷ []) read
 regroup front run (Ok request) = ap (λ runs. Ok (record request { runs = runs })) (sym (append_assoc front (run ∷ []) request.runs))

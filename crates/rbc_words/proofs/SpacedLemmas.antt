@@ -19,7 +19,7 @@ join_spaced word (next ∷ words) = ap (λ l. word ++ (32 ∷ l)) (join_spaced n
 pub line_of-spaced : (first : List ℕ) (words : List (List ℕ)) → line_of (first ∷ words) ≡ first ++ (spaced words ++ 10 ∷ [])
 line_of-spaced first words = ap (λ l. l ++ 10 ∷ []) (join_spaced first words) ∙ append_assoc first (spaced words) (10 ∷ [])
 
--- the same where the words come in two parts
+-- a line by its first word and two parts of words behind it
 pub line_of-parts : (first : List ℕ) (words more : List (List ℕ))
     → line_of (first ∷ (words ++ more)) ≡ first ++ (spaced words ++ (spaced more ++ 10 ∷ []))
 line_of-parts first words more =
@@ -35,7 +35,7 @@ spaced-next text words index word inside same =
     ∙ ap (λ w. (32 ∷ text w) ++ spaced (map text (drop (suc index) words))) (sym same)
     ∙ ap (λ i. (32 ∷ text word) ++ spaced (map text (drop i words))) (sym (add-one index))
 
--- the same of numbers, as they are read
+-- the prices that are left: the first one, and the others behind it
 pub prices_left-next : (prices : List ℕ) (index : ℕ) → index < length prices
     → spaced (map decimal (drop index prices)) ≡ (32 ∷ decimal (get_or prices index 0)) ++ spaced (map decimal (drop (index + 1) prices))
 prices_left-next prices index inside =
@@ -68,7 +68,7 @@ line_of-short number row =
     line_of-spaced (codes "prices") (decimal number ∷ map decimal row)
     ∙ ap (λ l. codes "prices " ++ l) (append_assoc (decimal number) (spaced (map decimal row)) (10 ∷ []))
 
--- the same where its head is written first
+-- a row of prices, where its head is written first
 pub line_of-row : (number : ℕ) (row head : List ℕ) → head ≡ codes "prices " ++ decimal number
     → line_of (codes "prices" ∷ decimal number ∷ map decimal row) ≡ head ++ (spaced (map decimal row) ++ 10 ∷ [])
 line_of-row number row head begins =

@@ -35,7 +35,7 @@ pub record IsRequestInRange {V : Type 0} (levels : Levels V) (request : StepsReq
   pub values : IsTrue (list_all (λ run. levels.in_range run.1) request.runs)
   pub expressible : IsTrue (is_expressible Far request.end)
 
--- the same of a line
+-- the request of a line is in range, if it has one
 abbrev pub IsLineInRange : StepsLine → Type 0
 IsLineInRange Blank = Unit {0}
 IsLineInRange (Speed request) = IsRequestInRange speed_levels request

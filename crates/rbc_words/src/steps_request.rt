@@ -119,7 +119,7 @@ fn runs_in<V: Spelled>(
     let mut index = 3;
     while let Some((last, more)) = next_word(rest) {
         let run = run_in_word(index, word)?;
-        // Where memory is refused, a later fault is told all the same.
+        // Where memory is refused, a later fault is told nevertheless.
         refused = refused || runs.push(run).is_err();
         word = next;
         next = last;

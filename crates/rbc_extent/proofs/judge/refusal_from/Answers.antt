@@ -12,7 +12,7 @@ use Rattle.rbc_extent.proofs.CoveringLemmas.{flag-none, flag-some}
 use Rattle.rbc_extent.proofs.JudgeLemmas.{beyond-dropped, dropped-legs, told-dropped, judged-no_rear, judged-front, same_way-on, lt_test, ge_test}
 use Rattle.rbc_extent.proofs.judge.refusal_from.Goals as goal
 
--- the same search, from a walk on the same way
+-- the search for the rear, from a walk on the way
 abbrev back : BaliseGroup → Report → Track → Locks → Line → Option Line
 back group report track locks line = lengthened (length track.sections) (longer_back locks) (has_rear track group report) line
 

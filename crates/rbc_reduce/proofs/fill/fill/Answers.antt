@@ -66,7 +66,7 @@ returns-then-is_low-clause-small g c =
     let cheap = cheap_of_any g (goal.at.returns-then-is_low-clause-small g c).After-min-count in
     both_ok c.fill_in.result c.fill_in.ensures.count c.fill_in.ensures.filled (λ rows count filled. small_in (cost_of_step g.V.Level.levels (unit_of c.args.track.now.end) c.args.track.now) rows.items (length c.args.stretches.now) filled cheap)
 
--- the rows of totals of 64 bits are those of numbers
+-- the rows of totals of 64 bits are the rows of numbers
 as_numbers : (g : Over) (c : After-min-count g) (count : ℕ) (rows : List (Vec ℕ))
     → AreFilled (cost_of_step g.V.Level.levels (unit_of c.args.track.now.end) c.args.track.now) count (row_in (λ n. n) rows) (length c.args.stretches.now) → length rows ≡ count
     → AreFilled (cost_of_step g.V.Level.levels (unit_of c.args.track.now.end) c.args.track.now) (length rows) (row_at rows) (length c.args.stretches.now)

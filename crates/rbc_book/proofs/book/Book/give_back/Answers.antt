@@ -1,4 +1,4 @@
--- The train is found by its number, and the entries after its authority is cut are those of the book with it.
+-- The train is found by its number, and the entries after its authority is cut are the entries of the book with it.
 use Rattle.std.proofs.Common.{◌≡◌, length, subst, Some, nat_eq, ◌∙◌, ap, sym}
 use Rattle.std.specs.Prelude.{is_some}
 use Rattle.std.specs.Map.{lookup}

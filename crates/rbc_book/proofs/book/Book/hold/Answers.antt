@@ -1,4 +1,4 @@
--- The train is found by its number, and the entries after its authority is another are those of the book with it.
+-- The train is found by its number, and the entries after its authority is another are the entries of the book with it.
 use Rattle.std.proofs.Common.{◌≡◌, Option, Some, None, MutBor, nat_eq, refl, ◌∙◌, ap, sym, subst}
 use Rattle.std.specs.Prelude.{is_some}
 use Rattle.std.specs.Map.{lookup}

@@ -1,4 +1,4 @@
--- The entries after the train is taken out are those of the book without it, and so is what is counted.
+-- The entries after the train is taken out are the entries of the book without it, and so is what is counted.
 use Rattle.std.proofs.Common.{◌≡◌, ap, length, sym, ◌∙◌}
 use Rattle.std.specs.Prelude.{is_some}
 use Rattle.std.specs.Arc.{arc_value}

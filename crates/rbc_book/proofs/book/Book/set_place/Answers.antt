@@ -1,4 +1,4 @@
--- The entries after the train is put in are those of the book with it, and so is what is counted.
+-- The entries after the train is put in are the entries of the book with it, and so is what is counted.
 use Rattle.std.proofs.Common.{◌≡◌, ◌≤◌, length, Option, Some, None, Result, Ok, Err, Bor, ◌∙◌, ap, sym, subst, nat_eq}
 use Rattle.std.specs.Prelude.{IfSome, OnErr, option_map}
 use Rattle.std.specs.Option.{option_copied}

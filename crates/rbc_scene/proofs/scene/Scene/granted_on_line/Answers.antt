@@ -18,19 +18,19 @@ returns-clause-on_line c =
     let known = c.in_ok-known.known.now in
     let end : c.origin-2.result + c.metres-2.result ≡ known.train.origin + c.args.distance = (λ j. c.origin-2.ensures.origin j + c.metres-2.ensures j) in
     let within : c.origin-2.result + c.metres-2.result ≤ line_length known.track known.train.line =
-    (let left = c.in_ok-most.ensures in let few = c.if-metres-most.false in let is = metres at in let o = c.origin.ensures.origin in let d = c.metres.ensures in omega arith) in
+    (let left = c.in_ok-farthest.ensures in let few = c.if-metres-farthest.false in let is = metres at in let o = c.origin.ensures.origin in let d = c.metres.ensures in omega arith) in
     on_line_book c.self.inside.locks c.self.inside.book c.args.self.now c.self.view_is c.self.invariant c.args.train c.args.distance known (was at)
     c.requires.accepted c.known.ensures c.start.result (c.origin-2.result + c.metres-2.result) c.start.ensures end within
 
-pub returns-in_err-most-clause-beyond : goal.returns-in_err-most-clause-beyond
-returns-in_err-most-clause-beyond c none =
-    let at = (goal.at.returns-in_err-most-clause-beyond c).After-length in
+pub returns-in_err-farthest-clause-beyond : goal.returns-in_err-farthest-clause-beyond
+returns-in_err-farthest-clause-beyond c none =
+    let at = (goal.at.returns-in_err-farthest-clause-beyond c).After-length in
     let known = c.in_ok-known.known.now in
     let is = metres at in
     let o = c.origin.ensures.origin in
     let beyond : line_length known.track known.train.line < known.train.origin + c.args.distance =
     elim (le_or_lt c.origin.result c.length.result) [
-      | inl within ↦ absurd (c.in_err-most.ensures within)
+      | inl within ↦ absurd (c.in_err-farthest.ensures within)
       | inr past ↦ omega arith
     ] in
     beyond_book c.self.inside.locks c.self.inside.book c.args.self.now c.self.view_is c.args.train c.args.distance known (was at) beyond
@@ -40,12 +40,12 @@ returns-in_err-known-clause-beyond c none =
     beyond_none c.self.inside.locks c.self.inside.book c.args.self.now c.self.view_is c.args.train c.args.distance
     (absent c.self.inside.book c.args.train c.get.result c.get.ensures c.in_err-known.was)
 
-pub returns-then-metres-most-clause-beyond : goal.returns-then-metres-most-clause-beyond
-returns-then-metres-most-clause-beyond c none =
-    let at = (goal.at.returns-then-metres-most-clause-beyond c).After-length in
+pub returns-then-metres-farthest-clause-beyond : goal.returns-then-metres-farthest-clause-beyond
+returns-then-metres-farthest-clause-beyond c none =
+    let at = (goal.at.returns-then-metres-farthest-clause-beyond c).After-length in
     let known = c.in_ok-known.known.now in
-    let left = c.in_ok-most.ensures in
-    let many = c.if-metres-most.true in
+    let left = c.in_ok-farthest.ensures in
+    let many = c.if-metres-farthest.true in
     let beyond : line_length known.track known.train.line < known.train.origin + c.args.distance =
     (let is = metres at in let o = c.origin.ensures.origin in let d = c.metres.ensures in omega arith) in
     beyond_book c.self.inside.locks c.self.inside.book c.args.self.now c.self.view_is c.args.train c.args.distance known (was at) beyond
